@@ -1,0 +1,103 @@
+-- Demand 3: one theorem about any list of compiles, in the terms of the calls with all their checks. Assumes nothing.
+use mathlib.Core.Path.{_≡_, refl, sym, ap, _∙_}
+use mathlib.Core.Option.{Option, none, some}
+use mathlib.Core.List.{List, [], _∷_, map}
+use Prim.Native.Nat.{ℕ, zero, suc, _<_, _≤_}
+use native.Mathlib.Omega.{arith}
+use native.Mathlib.Decide.{decLe}
+use lib.ListN.{length}
+use Rattle.model.specs.Limits.{runBlocks, slotCount, variableCount}
+use Rattle.model.specs.Save.{Save}
+use Rattle.model.specs.Sheet.{Sheet, saveRefusal}
+use Rattle.model.specs.Shop.{Slot}
+use Rattle.model.specs.Script.{Script, blockAt}
+use Rattle.model.specs.Judge.{callRefusal, scriptRefusal}
+use Rattle.model.specs.Compile.{Call, appended, compileRefusal}
+use Rattle.model.specs.Run.{Ran, run, runCall}
+use Rattle.model.specs.Meaning.{Means}
+use Rattle.model.specs.Parse.{parseCall}
+use Rattle.model.specs.Normal.{normalShop}
+use Rattle.model.specs.Lists.{NoneAppended, afterAll, lastAt}
+use Rattle.model.specs.Printer.{slots}
+use Rattle.model.specs.Laws.Calls.{accepted-all, call-passes}
+use Rattle.model.specs.Laws.Checked.{save-fits, save-long, sheet-fits}
+use Rattle.model.specs.Laws.Lists.{kept-blocks, twenty}
+use Rattle.model.specs.Laws.Means.{writes-means}
+use Rattle.model.specs.Laws.ReadsAll.{parses-all}
+use Rattle.model.specs.Laws.RunsAll.{Served, runs-all}
+use Rattle.model.specs.Laws.Writes.{writes}
+
+-- the answers of runs with any budget, each from the save s, at a block where xs was accepted last
+pub record RunsAs (h : Sheet) (s : Save) (xs : List Slot) (answers : ℕ → Ran) : Type 0 where
+  -- with a budget of 82 blocks or more the run is not refused
+  pub not-refused : (budget : ℕ) → runBlocks ≤ budget → answers budget .answer ≡ 0
+  -- a run that is not refused has reached Return after at most 82 blocks
+  pub few : (budget : ℕ) → answers budget .answer ≡ 0 → answers budget .entered ≤ runBlocks
+  -- its variables hold exactly what the shop means under the save, every other variable is as in the save
+  pub means : (budget : ℕ) → answers budget .answer ≡ 0 → Means h s xs (s .variables) (answers budget .variables)
+  -- whatever the budget, a run that is not refused ends the same
+  pub same : (budget : ℕ) → answers budget .answer ≡ 0 → answers budget ≡ answers runBlocks
+
+pub record Demand3 (h : Sheet) (sc : Script) (cs : List Call) : Type 0 where
+  -- the run from any block where a compile was accepted, under any save that fits the sheet
+  pub runs : (b : ℕ) (xs : List Slot) → lastAt h sc cs b ≡ some xs → (s : Save) → saveRefusal h s ≡ 0 → RunsAs h s xs (λ budget. runCall h (afterAll h sc cs) b s budget)
+  -- the parser reads there exactly that shop in normal form
+  pub parses : (b : ℕ) (xs : List Slot) → lastAt h sc cs b ≡ some xs → parseCall h (afterAll h sc cs) b ≡ record { answer = 0; slots = normalShop h xs }
+  -- every block of the start where none was accepted is as it was
+  pub others : (b : ℕ) → b < length (sc .blocks) → lastAt h sc cs b ≡ none → blockAt (afterAll h sc cs .blocks) b ≡ blockAt (sc .blocks) b
+
+module _ (h : Sheet) (s : Save) (xs : List Slot) (answers : ℕ → Ran) (v : Served h s xs (s .variables) answers) (twenty-slots : length xs ≡ slotCount) (long : length (s .variables) ≡ variableCount) where
+  abbrev whole : Ran
+  whole = record { answer = 0; variables = writes h s 0 xs (s .variables); entered = v .blocks }
+
+  ends : (budget : ℕ) → answers budget .answer ≡ 0 → answers budget ≡ whole
+  ends budget a = by (decLe (v .blocks) budget)
+    where
+      by : Dec (v .blocks ≤ budget) → answers budget ≡ whole
+      by (yes q) = v .served budget q
+      by (no q) = let z : answers budget .answer ≡ 15 = v .starved budget (omega arith) in absurd (omega arith)
+
+  runs-as : RunsAs h s xs answers
+  runs-as = record {
+    not-refused = λ budget q. ap (λ r. r .answer) (v .served budget (omega (arith, v .few)));
+    few = λ budget a. rw (ends budget a) (v .few);
+    means = λ budget a. rw (ends budget a) (writes-means h s xs (s .variables) twenty-slots long);
+    same = λ budget a. ends budget a ∙ sym (v .served runBlocks (v .few));
+  }
+
+module _ (kept : (h : Sheet) (sc : Script) (c : Call) → compileRefusal h sc c ≡ 0 → scriptRefusal (appended h sc c) ≡ 0)
+    (h : Sheet) (sc : Script) (cs : List Call) (clean : NoneAppended h (length (sc .blocks)) sc cs) (b : ℕ) (xs : List Slot) (e : lastAt h sc cs b ≡ some xs) where
+  passes : callRefusal h (afterAll h sc cs) b ≡ 0
+  passes = call-passes kept h sc cs clean b xs e
+
+  -- with the checks passed the call is the run
+  run-call : (s : Save) → saveRefusal h s ≡ 0 → (budget : ℕ) → runCall h (afterAll h sc cs) b s budget ≡ run (afterAll h sc cs .blocks) s budget b (s .variables)
+  unfolding runCall
+  run-call s f budget = rw (passes, f)
+
+  run-at : (s : Save) → saveRefusal h s ≡ 0 → RunsAs h s xs (λ budget. runCall h (afterAll h sc cs) b s budget)
+  run-at s f =
+      let long = save-long h s f in
+      let v = runs-all h sc cs clean b xs e s (save-fits h s f) (s .variables) (omega arith) in
+      runs-as h s xs (λ budget. runCall h (afterAll h sc cs) b s budget)
+      (record {
+        blocks = v .blocks;
+        few = v .few;
+        served = λ budget q. run-call s f budget ∙ v .served budget q;
+        starved = λ budget q. ap (λ r. r .answer) (run-call s f budget) ∙ v .starved budget q;
+      })
+      (twenty h sc cs b xs e) long
+
+  parse-at : parseCall h (afterAll h sc cs) b ≡ record { answer = 0; slots = normalShop h xs }
+  unfolding parseCall
+  parse-at =
+      let p = parses-all h (sheet-fits h (accepted-all kept h sc cs b xs e .0)) sc cs clean b xs e in
+      rw (passes, p .answer, p .slots)
+
+module _ (kept : (h : Sheet) (sc : Script) (c : Call) → compileRefusal h sc c ≡ 0 → scriptRefusal (appended h sc c) ≡ 0) where
+  pub demand-3 : (h : Sheet) (sc : Script) (cs : List Call) → NoneAppended h (length (sc .blocks)) sc cs → Demand3 h sc cs
+  demand-3 h sc cs clean = record {
+    runs = λ b xs e s f. run-at kept h sc cs clean b xs e s f;
+    parses = λ b xs e. parse-at kept h sc cs clean b xs e;
+    others = λ b l e. kept-blocks h sc cs b l e;
+  }

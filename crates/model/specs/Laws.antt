@@ -1,0 +1,17 @@
+pub mod Signed
+pub mod Checks
+pub mod Eval
+pub mod Writes
+pub mod SlotRuns
+pub mod Runs
+pub mod Sets
+pub mod Lists
+pub mod Walks
+pub mod SlotReads
+pub mod Reads
+pub mod Normal
+pub mod RunsAll
+pub mod ReadsAll
+pub mod Means
+pub mod Checked
+pub mod Calls

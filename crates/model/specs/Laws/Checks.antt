@@ -1,0 +1,61 @@
+-- Checks that were passed. Assumes nothing.
+use mathlib.Core.Path.{_≡_, refl}
+use mathlib.Core.Bool.{Bool, true, false, _&&_}
+use mathlib.Core.List.{List, [], _∷_}
+use Prim.Native.Nat.{ℕ, zero, suc}
+use native.Mathlib.Omega.{arith}
+use Prim.Native.Nat.{_<_}
+use lib.ListN.{length}
+use lib.Dec.{ltb}
+use borrow.Author.Tests.{ltb-true}
+use Rattle.model.specs.Refusal.{check, firstOf, noRoom, notBlock, notCode}
+use Rattle.model.specs.Sheet.{Sheet, all, sheetRefusal}
+use Rattle.model.specs.Shop.{shopRefusal, slotOk, withSlots}
+use Rattle.model.specs.Script.{Script, blockAt, isCode}
+use Rattle.model.specs.Judge.{callRefusal, scriptRefusal, setupRefusal}
+use Rattle.model.specs.Compile.{Call, compileRefusal, freshBlocks, hasRoom}
+
+-- where a list of checks refuses nothing, its first does not, nor do the others
+pub first-passed : (n : ℕ) (ns : List ℕ) → firstOf (n ∷ ns) ≡ 0 → (n ≡ 0) × (firstOf ns ≡ 0)
+first-passed zero ns e = (refl, e)
+first-passed (suc n) ns e = absurd (omega arith)
+
+pub passed : (b : Bool) (n : ℕ) → check b (suc n) ≡ 0 → b ≡ true
+passed true n e = refl
+passed false n e = absurd (omega arith)
+
+pub and-left : (a b : Bool) → a && b ≡ true → a ≡ true
+and-left true b e = refl
+and-left false b e = e
+
+pub and-right : (a b : Bool) → a && b ≡ true → b ≡ true
+and-right true b e = e
+and-right false b e = cc
+
+first2 : (a b : ℕ) → firstOf (a ∷ b ∷ []) ≡ 0 → (a ≡ 0) × (b ≡ 0)
+first2 a b e =
+    let p = first-passed a (b ∷ []) e in
+    (p .0, first-passed b [] (p .1) .0)
+
+first3 : (a b c : ℕ) → firstOf (a ∷ b ∷ c ∷ []) ≡ 0 → (a ≡ 0) × (b ≡ 0) × (c ≡ 0)
+first3 a b c e =
+    let p = first-passed a (b ∷ c ∷ []) e in
+    let q = first2 b c (p .1) in
+    (p .0, q .0, q .1)
+
+-- a script that passed 6 and 7 has that block
+pub setup-inside : (sc : Script) (b : ℕ) → setupRefusal sc b ≡ 0 → b < length (sc .blocks)
+setup-inside sc b e = ltb-true _ _ (passed _ 5 (first2 (check (ltb b (length (sc .blocks))) notBlock) (check (isCode (blockAt (sc .blocks) b)) notCode) e .0))
+
+-- the checks of a call: 1, 2 to 5, 6 and 7
+pub call-passed : (h : Sheet) (sc : Script) (b : ℕ) → callRefusal h sc b ≡ 0 → (sheetRefusal h ≡ 0) × (scriptRefusal sc ≡ 0) × (setupRefusal sc b ≡ 0)
+unfolding callRefusal
+call-passed h sc b e = first3 (sheetRefusal h) (scriptRefusal sc) (setupRefusal sc b) e
+
+-- of a compile: those, 8 and 9
+pub compile-passed : (h : Sheet) (sc : Script) (c : Call) → compileRefusal h sc c ≡ 0
+    → (callRefusal h sc (c .setup) ≡ 0) × (all (slotOk h) (withSlots (c .shop)) ≡ true) × (hasRoom sc (freshBlocks h sc c) ≡ true)
+unfolding compileRefusal
+compile-passed h sc c e =
+    let p = first3 (callRefusal h sc (c .setup)) (shopRefusal h (c .shop)) (check (hasRoom sc (freshBlocks h sc c)) noRoom) e in
+    (p .0, passed _ 7 (p .1), passed _ 8 (p .2))

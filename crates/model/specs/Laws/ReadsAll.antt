@@ -1,0 +1,98 @@
+-- The parser half of demand 3, over any list of compiles. Assumes nothing.
+use mathlib.Core.Path.{_≡_, refl, sym, ap, _∙_, subst}
+use mathlib.Core.Bool.{Bool, true, false, not, cond, _&&_, _||_}
+use mathlib.Core.Option.{Option, none, some}
+use mathlib.Core.List.{List, [], _∷_, _++_, map}
+use Prim.Native.Nat.{ℕ, zero, suc, _-_, _+_, _*_, _<_, _≤_}
+use native.Mathlib.Omega.{arith}
+use native.Mathlib.Nat.{zero-add}
+use lib.ListN.{getD, set, length, length-set, length-map, replicate, length-replicate, getD-replicate, List·getD-eq-default}
+use lib.Seq.{getD-set-same, getD-set-other, ext-getD}
+use lib.Dec.{T, ltb, leb, eqb}
+use lib.IntN.{ℤ, pos, negsuc}
+use Rattle.model.specs.Limits.{slotCount}
+use Rattle.model.specs.Expr.{ok}
+use Rattle.model.specs.Sheet.{Sheet}
+use Rattle.model.specs.Shop.{Slot, emptySlot}
+use Rattle.model.specs.Script.{Block, Script}
+use Rattle.model.specs.Compile.{Call, redirect, rootOf, slotsBlocks}
+use Rattle.model.specs.Parse.{State, parse, parseBlock, visited}
+use Rattle.model.specs.Normal.{normal}
+use Rattle.model.specs.Lists.{NoneAppended, afterAll, lastAt}
+use Rattle.model.specs.Laws.Lists.{Linked, all-ok, lastOf-is, linked-all, low-all, twenty}
+use Rattle.model.specs.Laws.Normal.{SheetOk, slots-normal, slots-ok}
+use Rattle.model.specs.Laws.Reads.{AllOk, End, Reads, Start, readBack, slots-read}
+use Rattle.model.specs.Laws.Walks.{mk}
+
+pub record ReadNormal (h : Sheet) (xs : List Slot) (r : State) : Type 0 where
+  pub answer : r .answer ≡ 0
+  pub slots : r .slots ≡ map (normal h) xs
+
+record ReadSo (h : Sheet) (xs : List Slot) (r : State) : Type 0 where
+  answer : r .answer ≡ 0
+  slots : r .slots ≡ map (readBack h) xs
+
+module _ (h : Sheet) (n : ℕ) (bs : List Block) (b : ℕ) (xs : List Slot) (b-low : b < n) (link : Linked h n bs b xs) (len : length xs ≡ 20) (good : AllOk h xs) where
+  root : ℕ
+  root = rootOf h (link .home) 0 xs
+
+  empties : List Slot
+  empties = replicate slotCount emptySlot
+
+  fresh-marks : List Bool
+  fresh-marks = replicate (length bs) false
+
+  b-in : b < length bs
+  b-in = omega (arith, link .low, link .inside, lastOf-is (link .home) (slotsBlocks h (link .home) 0 xs))
+
+  unmarked : (j : ℕ) → getD fresh-marks j false ≡ false
+  unfolding fresh-marks
+  unmarked j = falses (length bs) j
+    where
+      falses : (m j : ℕ) → getD (replicate m false) j false ≡ false
+      falses zero j = refl
+      falses (suc m) zero = refl
+      falses (suc m) (suc j) = falses m j
+
+  blanks : (m k : ℕ) → getD (replicate m emptySlot) k emptySlot ≡ emptySlot
+  blanks zero k = refl
+  blanks (suc m) zero = refl
+  blanks (suc m) (suc k) = blanks m k
+
+  begin : Start (link .home) root 0 empties (set fresh-marks b true)
+  unfolding root empties fresh-marks
+  begin = record {
+    count = refl;
+    tiny = refl;
+    fresh = λ j p q. getD-set-other fresh-marks b j true false (omega (arith, link .low)) ∙ unmarked j;
+    room = omega (arith, link .inside, length-set fresh-marks b true, length-replicate (length bs) false);
+    empty = λ k p. blanks slotCount k;
+  }
+
+  ended : End h bs root 0 (map (readBack h) xs) empties (set fresh-marks b true) (pos 0)
+  unfolding root Reads
+  ended = slots-read h bs (link .home) (link .returns) xs 0 (omega arith) good (link .rest) empties (set fresh-marks b true) (pos 0) begin
+
+  first : parse h bs b ≡ parseBlock h bs (length bs) root none (mk empties (set fresh-marks b true) (pos 0))
+  unfolding parse parseBlock visited redirect root empties fresh-marks
+  first = rw (unmarked b, link .link .eq, parseBlock)
+
+  linked-parse : ReadSo h xs (parse h bs b)
+  unfolding root
+  linked-parse =
+      let g = ended in
+      let all-read : parse h bs b ≡ mk (g .S₁) (g .M₁) (g .l₁) = first ∙ g .walks .eq (length bs) (link .inside) in
+      let many : length (map (readBack h) xs) ≡ 20 = length-map xs (readBack h) ∙ len in
+      record {
+        answer = ap (λ r. r .answer) all-read;
+        slots = ap (λ r. r .slots) all-read ∙ ext-getD emptySlot (g .S₁) (map (readBack h) xs) (g .count ∙ sym many)
+            (λ k p. ap (λ j. getD (g .S₁) j emptySlot) (sym (zero-add k)) ∙ g .upper k (omega (arith, many, g .count)));
+      }
+
+module _ (h : Sheet) (sheet-ok : SheetOk h) (sc : Script) (cs : List Call) (clean : NoneAppended h (length (sc .blocks)) sc cs) where
+  -- the parser reads at any block where a compile was accepted the last shop accepted there, in normal form
+  pub parses-all : (b : ℕ) (xs : List Slot) → lastAt h sc cs b ≡ some xs → ReadNormal h xs (parse h (afterAll h sc cs .blocks) b)
+  parses-all b xs e =
+      let ok = all-ok h sc cs b xs e in
+      let r = linked-parse h (length (sc .blocks)) (afterAll h sc cs .blocks) b xs (low-all h (length (sc .blocks)) sc cs b xs clean e) (linked-all h (length (sc .blocks)) sc cs b xs (omega arith) clean e) (twenty h sc cs b xs e) (slots-ok h sheet-ok xs ok) in
+      record { answer = r .answer; slots = r .slots ∙ slots-normal h sheet-ok xs ok }

@@ -1,0 +1,212 @@
+-- A slot by its shape, the list of withSlots, and the run. Assumes nothing.
+use mathlib.Core.Path.{_≡_, refl, sym, ap, _∙_, subst}
+use mathlib.Core.Bool.{Bool, true, false, not, cond, _&&_, _||_}
+use mathlib.Core.Option.{Option, none, some}
+use mathlib.Core.List.{List, [], _∷_, _++_}
+use Prim.Native.Nat.{ℕ, zero, suc, _-_, _+_, _*_, _%_, _<_, _≤_}
+use native.Mathlib.Omega.{arith}
+use native.Mathlib.Nat.{zero-add, suc-add}
+use lib.ListN.{getD, set, length, length-set}
+use lib.Seq.{getD-set-same, getD-set-other, set-set}
+use lib.Dec.{T, ltb, leb, eqb}
+use borrow.Author.Tests.{le-ltb, lt-ltb, ltb-false, eqb-true, ne-eqb}
+use lib.IntN.{ℤ, pos, negsuc, _-ℤ_}
+use lib.Signed.{ltZ, mag}
+use Rattle.model.specs.Signed.{b2z, eqZ, isZero}
+use Rattle.model.specs.Save.{Save}
+use Rattle.model.specs.Expr.{eval, ok, size}
+use Rattle.model.specs.Sheet.{Sheet, atcFor}
+use Rattle.model.specs.Requirement.{Requirement, before, haveAtc, haveFlag, haveItem, insert, kind, missingAtc, missingFlag, missingItem, number, sameReq, sorted}
+use Rattle.model.specs.Shop.{Slot, Timer, atcLimit, between, fifteen, five, limitOf, plain, ten, timerOf}
+use Rattle.model.specs.Script.{Block}
+use Rattle.model.specs.Compile.{blocksFor, filledBlocks, lastOf, limitBlocks, noTimerExpr, slotBlocks, slotsBlocks, uniqueBlocks}
+use Rattle.model.specs.Run.{done, oneMore, run}
+use Rattle.model.specs.Meaning.{Meaning, acquired, allHold, filledMeaning, held, holds, isHeld, limitMeaning, meaningFor, meaningOf, noTimerHeld, uniqueMeaning}
+use Rattle.model.specs.Laws.Checks.{and-left, and-right}
+use Rattle.model.specs.Laws.Eval.{and-true, eval-acquired, eval-missing, eval-missing-and, eval-reqs}
+use Rattle.model.specs.Laws.SlotRuns.{After, Fits, Goes, Reach, Steps, at, does-pair, eval-remaining, go, here, once, stock-bare, stock-hid, unique-bare, unique-hid, weaken}
+use Rattle.model.specs.Laws.Writes.{setTemp, write, writes}
+
+-- ---- sorting changes nothing about what holds
+
+ofKind : ℕ → ℤ → Requirement
+ofKind zero z = haveItem (mag z)
+ofKind (suc zero) z = missingItem (mag z)
+ofKind (suc (suc zero)) z = haveAtc (mag z)
+ofKind (suc (suc (suc zero))) z = missingAtc (mag z)
+ofKind (suc (suc (suc (suc zero)))) z = haveFlag z
+ofKind (suc (suc (suc (suc (suc n))))) z = missingFlag z
+
+ofKind-is : (r : Requirement) → ofKind (kind r) (number r) ≡ r
+unfolding ofKind
+ofKind-is (haveItem n) = refl
+ofKind-is (missingItem n) = refl
+ofKind-is (haveAtc n) = refl
+ofKind-is (missingAtc n) = refl
+ofKind-is (haveFlag z) = refl
+ofKind-is (missingFlag z) = refl
+
+pub eqZ-true : (a b : ℤ) → eqZ a b ≡ true → a ≡ b
+eqZ-true (pos a) (pos b) e = ap pos (eqb-true a b e)
+eqZ-true (pos a) (negsuc b) e = cc
+eqZ-true (negsuc a) (pos b) e = cc
+eqZ-true (negsuc a) (negsuc b) e = ap negsuc (eqb-true a b e)
+
+pub sameReq-true : (a b : Requirement) → sameReq a b ≡ true → a ≡ b
+sameReq-true a b e =
+    let k : kind a ≡ kind b = eqb-true (kind a) (kind b) (and-left _ _ e) in
+    let z : number a ≡ number b = eqZ-true (number a) (number b) (and-right (eqb (kind a) (kind b)) _ e) in
+    sym (ofKind-is a) ∙ rw (k, z) (ofKind-is b)
+
+and-idem : (a b : Bool) → a && b ≡ a && (a && b)
+and-idem true b = refl
+and-idem false b = refl
+
+and-swap : (a b c : Bool) → a && (b && c) ≡ b && (a && c)
+and-swap true true c = refl
+and-swap true false c = refl
+and-swap false true c = refl
+and-swap false false c = refl
+
+module _ (s : Save) where
+  insert-hold : (r : Requirement) (xs : List Requirement) → allHold s (insert r xs) ≡ holds s r && allHold s xs
+  unfolding insert allHold
+  insert-hold r [] = refl
+  insert-hold r (x ∷ xs) = pick (sameReq r x) refl (before r x) (insert-hold r xs)
+    where
+      pick : (b : Bool) → sameReq r x ≡ b → (c : Bool) → allHold s (insert r xs) ≡ holds s r && allHold s xs
+          → allHold s (cond b (x ∷ xs) (cond c (r ∷ x ∷ xs) (x ∷ insert r xs))) ≡ holds s r && (holds s x && allHold s xs)
+      pick true p c ih = rw (sameReq-true r x p) (and-idem (holds s x) (allHold s xs))
+      pick false p true ih = refl
+      pick false p false ih = rw ih (and-swap (holds s x) (holds s r) (allHold s xs))
+
+  pub sorted-hold : (rs : List Requirement) → allHold s (sorted rs) ≡ allHold s rs
+  unfolding sorted allHold
+  sorted-hold [] = refl
+  sorted-hold (r ∷ rs) = insert-hold r (sorted rs) ∙ ap (λ b. holds s r && b) (sorted-hold rs)
+
+-- ---- a limit is at most 10
+
+between-le : (z : ℤ) → between z ≤ 10
+between-le (negsuc n) = omega arith
+between-le (pos n) = pick (ltb n 1) (ltb 10 n) refl
+  where
+    pick : (a b : Bool) → ltb 10 n ≡ b → cond a 1 (cond b 10 n) ≤ 10
+    pick true b e = omega arith
+    pick false true e = omega arith
+    pick false false e = ltb-false 10 n e
+
+pub limit-le : (h : Sheet) (w : ℕ) (z : ℤ) → limitOf h w z ≤ 10
+unfolding limitOf
+limit-le h w z = by (atcFor h w) (timerOf h w)
+  where
+    by : (o : Option ℕ) (t : Timer) → atcLimit o t z ≤ 10
+    by (some a) t = omega arith
+    by none plain = between-le z
+    by none five = omega arith
+    by none ten = omega arith
+    by none fifteen = omega arith
+
+-- ---- one slot
+
+module _ (bs : List Block) (h : Sheet) (s : Save) (fits : Fits s) (i e : ℕ) (v : List ℤ) (some-var : 0 < length v) where
+  not-held : (w : ℕ) → isZero (held s w) ≡ not (isHeld s w)
+  not-held w = let c = fits .counts w in rw (c .is) (by (c .size))
+    where
+      by : (n : ℕ) → eqb n 0 ≡ not (ltb 0 n)
+      by zero = refl
+      by (suc n) = rw (lt-ltb 0 (suc n) (omega arith), ne-eqb (suc n) 0 (λ q. omega arith))
+
+  no-timer : eval s v (noTimerExpr h) ≡ ok (b2z (noTimerHeld h s))
+  unfolding allHold holds
+  no-timer =
+      eval-reqs s v (fits .bits) (missingItem (h .timer10)) (missingItem (h .timer15) ∷ [])
+      ∙ rw (and-true, not-held (h .timer10), not-held (h .timer15))
+
+  unique-runs : (w : ℕ) (qs : List Requirement) → After bs e (uniqueBlocks h i e w qs)
+      → Reach bs s 4 (lastOf e (uniqueBlocks h i e w qs)) v e (write i (uniqueMeaning h s w (acquired h s w) (allHold s qs)) v)
+  unfolding uniqueBlocks allHold
+  unique-runs w [] a = unique-bare bs s h i e w v (timerOf h w) (noTimerHeld h s) no-timer _ (acquired h s w) (eval-missing s v (fits .bits) h w) a
+  unique-runs w (r ∷ rs) a =
+      unique-hid bs s h i e w v (timerOf h w) (noTimerHeld h s) no-timer _ _ (acquired h s w) (allHold s (r ∷ rs)) (eval-acquired s v (fits .bits) h w) (eval-missing-and s v (fits .bits) h w r rs) a
+
+  stock-runs : (w l : ℕ) (qs : List Requirement) → l ≤ 10 → After bs e (limitBlocks i e w l qs)
+      → Reach bs s 4 (lastOf e (limitBlocks i e w l qs)) v e (write i (limitMeaning s w l (allHold s qs)) v)
+  unfolding limitBlocks allHold
+  stock-runs w l [] p a = stock-bare bs s i e w l v some-var (pos l -ℤ held s w) (eval-remaining s v fits l w p) a
+  stock-runs w l (r ∷ rs) p a = stock-hid bs s i e w l v some-var (pos l -ℤ held s w) (eval-remaining s v fits l w p) _ (allHold s (r ∷ rs)) (eval-reqs s v (fits .bits) r rs) a
+
+  ware-runs : (w l : ℕ) (qs : List Requirement) → l ≤ 10 → After bs e (filledBlocks h i e w l qs)
+      → Reach bs s 4 (lastOf e (filledBlocks h i e w l qs)) v e (write i (filledMeaning h s w l (allHold s qs)) v)
+  ware-runs w l qs p = by (leb l 1)
+    where
+      by : (b : Bool) → After bs e (cond b (uniqueBlocks h i e w qs) (limitBlocks i e w l qs))
+          → Reach bs s 4 (lastOf e (cond b (uniqueBlocks h i e w qs) (limitBlocks i e w l qs))) v e
+          (write i (cond b (uniqueMeaning h s w (acquired h s w) (allHold s qs)) (limitMeaning s w l (allHold s qs))) v)
+      by true a = unique-runs w qs a
+      by false a = stock-runs w l qs p a
+
+  opt-runs : (o : Option ℕ) (z : ℤ) (qs : List Requirement) → After bs e (blocksFor h i e o z qs)
+      → Reach bs s 4 (lastOf e (blocksFor h i e o z qs)) v e (write i (meaningFor h s o z (allHold s qs)) v)
+  unfolding write
+  opt-runs none z qs a = once (at (a .0) (does-pair i _ _ refl refl))
+  opt-runs (some w) z qs a = ware-runs w (limitOf h w z) qs (limit-le h w z) a
+
+  pub slot-runs : (x : Slot) → After bs e (slotBlocks h i e x) → Reach bs s 4 (lastOf e (slotBlocks h i e x)) v e (write i (meaningOf h s x) v)
+  unfolding slotBlocks meaningOf
+  slot-runs x a = rw (← sorted-hold s (x .requirements)) (opt-runs (x .item) (x .limit) (sorted (x .requirements)) a)
+
+-- ---- the list of withSlots
+
+pub lastOf-append : (e : ℕ) (xs ys : List Block) → lastOf e (xs ++ ys) ≡ lastOf (lastOf e xs) ys
+lastOf-append e [] ys = refl
+lastOf-append e (x ∷ xs) ys = lastOf-append (suc e) xs ys
+
+pub after-append : (bs : List Block) (e : ℕ) (xs ys : List Block) → After bs e (xs ++ ys) → After bs e xs × After bs (lastOf e xs) ys
+after-append bs e [] ys a = (tt, a)
+after-append bs e (x ∷ xs) ys a = let r = after-append bs (suc e) xs ys (a .1) in ((a .0, r .0), r .1)
+
+module _ {bs : List Block} {s : Save} where
+  goes-append : {n m b b′ b″ : ℕ} {v v′ v″ : List ℤ} → Goes bs s n b v b′ v′ → Goes bs s m b′ v′ b″ v″ → Goes bs s (n + m) b v b″ v″
+  goes-append {m} here q = rw (zero-add m) q
+  goes-append {m} (go {n} p ps) q = rw (suc-add n m) (go p (goes-append ps q))
+
+  pub chain : {k l b b′ b″ : ℕ} {v v′ v″ : List ℤ} → Reach bs s k b v b′ v′ → Reach bs s l b′ v′ b″ v″ → Reach bs s (k + l) b v b″ v″
+  chain p q = record { steps = p .steps + q .steps; few = omega (arith, p .few, q .few); goes = goes-append (p .goes) (q .goes) }
+
+pub length-write : (i : ℕ) (f : Meaning) (v : List ℤ) → length (write i f v) ≡ length v
+unfolding write
+length-write i f v = simp length-set (temp (f .temp))
+  where
+    temp : (o : Option ℤ) → length (setTemp o v) ≡ length v
+    temp none = refl
+    temp (some z) = length-set v 0 z
+
+module _ (bs : List Block) (h : Sheet) (s : Save) (fits : Fits s) (e : ℕ) where
+  pub slots-run : (i : ℕ) (v : List ℤ) (xs : List Slot) → 0 < length v → After bs e (slotsBlocks h e i xs)
+      → Reach bs s (4 * length xs) (lastOf e (slotsBlocks h e i xs)) v e (writes h s i xs v)
+  unfolding slotsBlocks writes
+  slots-run i v [] p a = record { steps = 0; few = omega arith; goes = here }
+  slots-run i v (x ∷ xs) p a =
+      let rest : List Block = slotsBlocks h e (suc i) xs in
+      let halves = after-append bs e rest _ a in
+      let r = slot-runs bs h s fits i (lastOf e rest) v p x (halves .1) in
+      let q : 0 < length (write i (meaningOf h s x) v) = omega (arith, length-write i (meaningOf h s x) v) in
+      let t = slots-run (suc i) (write i (meaningOf h s x) v) xs q (halves .0) in
+      rw (lastOf-append e rest (slotBlocks h i (lastOf e rest) x)) (weaken (omega arith) (chain r t))
+
+-- ---- the run
+
+module _ (bs : List Block) (s : Save) where
+  pub run-ends : {n b e : ℕ} {v v′ : List ℤ} → Goes bs s n b v e v′ → Steps bs s e v′ (done v′) → (k : ℕ) → n < k → run bs s k b v ≡ record { answer = 0; variables = v′; entered = suc n }
+  unfolding run
+  run-ends here d zero l = absurd (omega arith)
+  run-ends here d (suc k) l = rw (d .eq, run)
+  run-ends (go p ps) d zero l = absurd (omega arith)
+  run-ends (go p ps) d (suc k) l = rw (p .eq, run) (ap oneMore (run-ends ps d k (omega arith)))
+
+  pub run-short : {n b e : ℕ} {v v′ : List ℤ} → Goes bs s n b v e v′ → (k : ℕ) → k ≤ n → (run bs s k b v) .answer ≡ 15
+  unfolding run
+  run-short g zero l = refl
+  run-short here (suc k) l = absurd (omega arith)
+  run-short (go p ps) (suc k) l = rw (p .eq, run) (run-short ps k (omega arith))

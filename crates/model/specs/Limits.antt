@@ -1,0 +1,70 @@
+-- Every limit of document 01, each under one name. Assumes nothing: these are definitions.
+use Prim.Native.Nat.{ℕ}
+
+-- Script: blocks, commands, expression nodes, and the depth of an expression, a leaf being 1
+abbrev pub blockLimit : ℕ
+blockLimit = 4096
+
+abbrev pub commandLimit : ℕ
+commandLimit = 16384
+
+abbrev pub nodeLimit : ℕ
+nodeLimit = 32768
+
+abbrev pub depthLimit : ℕ
+depthLimit = 64
+
+-- Slot: the slots of a shop, the entries that may be given per slot and that parsing may leave in one
+abbrev pub slotCount : ℕ
+slotCount = 20
+
+abbrev pub entryLimit : ℕ
+entryLimit = 32
+
+-- Id sheet: items and attachments
+abbrev pub fewestItems : ℕ
+fewestItems = 3
+
+abbrev pub mostItems : ℕ
+mostItems = 512
+
+abbrev pub mostAtcs : ℕ
+mostAtcs = 64
+
+-- Save: flags, times and variables that it has, and the largest count of an item
+abbrev pub flagCount : ℕ
+flagCount = 2048
+
+abbrev pub timeCount : ℕ
+timeCount = 8
+
+abbrev pub variableCount : ℕ
+variableCount = 1024
+
+abbrev pub mostHeld : ℕ
+mostHeld = 32767
+
+-- Compiler: the limit of a slot lies in 1 to this, and the variables from which on a slot's item and count are kept
+abbrev pub mostStock : ℕ
+mostStock = 10
+
+abbrev pub itemFirst : ℕ
+itemFirst = 600
+
+abbrev pub countFirst : ℕ
+countFirst = 620
+
+-- demand 3: the blocks after which the run of a compiled shop has reached Return
+abbrev pub runBlocks : ℕ
+runBlocks = 82
+
+-- Image: the values of a number of 32 bits and of 16 bits
+abbrev pub wide : ℕ
+wide = 4294967296
+
+abbrev pub wide16 : ℕ
+wide16 = 65536
+
+-- Program slots: the bytes of standard input
+abbrev pub inputLimit : ℕ
+inputLimit = 65536

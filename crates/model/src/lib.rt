@@ -1,0 +1,41 @@
+// The kinds of expression that the definitions and the code share.
+
+// Kinds with two operands.
+pub enum Op2 {
+    Equal,
+    NotEqual,
+    Less,
+    LessEqual,
+    Greater,
+    GreaterEqual,
+    Add,
+    Subtract,
+    BitAnd,
+    BitOr,
+}
+
+// Kinds with one operand.
+pub enum Op1 {
+    Not,
+    Flag,
+    Variable,
+    Item,
+    Atc,
+    Time,
+}
+
+// Every kind, as a node of an expression has it.
+pub enum Kind {
+    Two(Op2),
+    One(Op1),
+    Imm16,
+    Imm32,
+    Other,
+}
+
+// Numbers that must not be mixed up: a block number is never taken where an item or atc id is due.
+pub struct BlockNo(pub u16);
+
+pub struct ItemId(pub u16);
+
+pub struct AtcId(pub u16);
