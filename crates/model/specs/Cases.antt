@@ -111,7 +111,7 @@ bytes (n ∷ ns) = pos n ∷ bytes ns
 
 -- names all that the cases compute with
 opened : ℕ
-unfolding sheet slotOf first with saved brief ranAt flat itemNumber readAs parsedAt nextOf oneBlock hidesUnder many emptyShopAt p1 timer5 p5 bytes wrap imm size sheetOk saveOk insert sorted member settled padded limitOf commandNodes commandsNodes blockNodes blockCommands number more groups under word wordTo zig zag image blocksImage blockImage commandsImage commandImage exprImage linkImage code2 code1 kinds kindOf readKind readOperands readExpr readTerm setOf commandOf readCommand readCommands readCode blockOf readBlock readBlocks readBlockNo linkOf readLink ended readWithin readImage countsOk judged callRefusal compiled compileRefusal appended redirect hasRoom shopBlocks slotsBlocks slotBlocks limitBlocks uniqueBlocks acquiredExpr itemTest atcTest flagTest test joinTests run step runCall parseCall parse parseBlock visited parseRequirements gather placeOf slots readSheet readAtcs readTimers digitsTo decimal signedDecimal letter requirementsText itemText slotLine slotLines refusedText readInput parsedText inputText
+unfolding sheet slotOf first with saved brief ranAt flat itemNumber readAs parsedAt nextOf oneBlock hidesUnder many emptyShopAt p1 timer5 p5 bytes wrap imm size sheetOk saveOk insert sorted member settled padded limitOf commandNodes commandsNodes blockNodes blockCommands number more groups under word wordTo zig zag image blocksImage blockImage commandsImage commandImage exprImage linkImage kinds kindOf readKind readOperands readExpr readTerm setOf commandOf readCommand readCommands readCode blockOf readBlock readBlocks readBlockNo linkOf readLink ended readWithin readImage countsOk judged callRefusal compiled compileRefusal appended redirect hasRoom shopBlocks slotsBlocks slotBlocks limitBlocks uniqueBlocks acquiredExpr itemTest atcTest flagTest test joinTests run step runCall parseCall parse parseBlock visited parseRequirements gather placeOf slots readSheet readAtcs readTimers digitsTo decimal signedDecimal letter requirementsText itemText slotLine slotLines refusedText readInput parsedText inputText
 opened = 0
 
 -- ---- P1 to P10

@@ -11,8 +11,8 @@ use Rattle.model.specs.Save.{Save}
 use Rattle.model.specs.Sheet.{Sheet, saveRefusal}
 use Rattle.model.specs.Shop.{Slot}
 use Rattle.model.specs.Script.{Script, blockAt}
-use Rattle.model.specs.Judge.{callRefusal, scriptRefusal}
-use Rattle.model.specs.Compile.{Call, appended, compileRefusal}
+use Rattle.model.specs.Judge.{callRefusal}
+use Rattle.model.specs.Compile.{Call}
 use Rattle.model.specs.Run.{Ran, run, runCall}
 use Rattle.model.specs.Meaning.{Means}
 use Rattle.model.specs.Parse.{parseCall}
@@ -65,10 +65,9 @@ module _ (h : Sheet) (s : Save) (xs : List Slot) (answers : ℕ → Ran) (v : Se
     same = λ budget a. ends budget a ∙ sym (v .served runBlocks (v .few));
   }
 
-module _ (kept : (h : Sheet) (sc : Script) (c : Call) → compileRefusal h sc c ≡ 0 → scriptRefusal (appended h sc c) ≡ 0)
-    (h : Sheet) (sc : Script) (cs : List Call) (clean : NoneAppended h (length (sc .blocks)) sc cs) (b : ℕ) (xs : List Slot) (e : lastAt h sc cs b ≡ some xs) where
+module _ (h : Sheet) (sc : Script) (cs : List Call) (clean : NoneAppended h (length (sc .blocks)) sc cs) (b : ℕ) (xs : List Slot) (e : lastAt h sc cs b ≡ some xs) where
   passes : callRefusal h (afterAll h sc cs) b ≡ 0
-  passes = call-passes kept h sc cs clean b xs e
+  passes = call-passes h sc cs clean b xs e
 
   -- with the checks passed the call is the run
   run-call : (s : Save) → saveRefusal h s ≡ 0 → (budget : ℕ) → runCall h (afterAll h sc cs) b s budget ≡ run (afterAll h sc cs .blocks) s budget b (s .variables)
@@ -91,13 +90,12 @@ module _ (kept : (h : Sheet) (sc : Script) (c : Call) → compileRefusal h sc c 
   parse-at : parseCall h (afterAll h sc cs) b ≡ record { answer = 0; slots = normalShop h xs }
   unfolding parseCall
   parse-at =
-      let p = parses-all h (sheet-fits h (accepted-all kept h sc cs b xs e .0)) sc cs clean b xs e in
+      let p = parses-all h (sheet-fits h (accepted-all h sc cs b xs e .0)) sc cs clean b xs e in
       rw (passes, p .answer, p .slots)
 
-module _ (kept : (h : Sheet) (sc : Script) (c : Call) → compileRefusal h sc c ≡ 0 → scriptRefusal (appended h sc c) ≡ 0) where
-  pub demand-3 : (h : Sheet) (sc : Script) (cs : List Call) → NoneAppended h (length (sc .blocks)) sc cs → Demand3 h sc cs
-  demand-3 h sc cs clean = record {
-    runs = λ b xs e s f. run-at kept h sc cs clean b xs e s f;
-    parses = λ b xs e. parse-at kept h sc cs clean b xs e;
-    others = λ b l e. kept-blocks h sc cs b l e;
-  }
+pub demand-3 : (h : Sheet) (sc : Script) (cs : List Call) → NoneAppended h (length (sc .blocks)) sc cs → Demand3 h sc cs
+demand-3 h sc cs clean = record {
+  runs = λ b xs e s f. run-at h sc cs clean b xs e s f;
+  parses = λ b xs e. parse-at h sc cs clean b xs e;
+  others = λ b l e. kept-blocks h sc cs b l e;
+}

@@ -15,3 +15,12 @@ pub mod ReadsAll
 pub mod Means
 pub mod Checked
 pub mod Calls
+pub mod Reading
+pub mod ImageExpr
+pub mod Image
+pub mod Same
+pub mod Refused
+pub mod Sound
+pub mod FitTests
+pub mod FitBlocks
+pub mod Judged

@@ -34,7 +34,7 @@ pub enum Kind {
 }
 
 // Numbers that must not be mixed up: a block number is never taken where an item or atc id is due.
-pub struct BlockNo(pub u16);
+pub struct BlockNo(pub u32);
 
 pub struct ItemId(pub u16);
 

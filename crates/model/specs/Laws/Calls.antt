@@ -15,16 +15,17 @@ use Rattle.model.specs.Judge.{callRefusal, scriptRefusal, setupRefusal}
 use Rattle.model.specs.Compile.{Call, appended, compileRefusal, compiled, redirect}
 use Rattle.model.specs.Lists.{NoneAppended, acceptedAt, afterAll, lastAt, orEarlier}
 use Rattle.model.specs.Laws.Checks.{and-left, call-passed, compile-passed}
+use Rattle.model.specs.Laws.Judged.{kept-judged}
 use Rattle.model.specs.Laws.Lists.{Linked, grows-all, linked-all, low-all, none≢some}
 
-module _ (kept : (h : Sheet) (sc : Script) (c : Call) → compileRefusal h sc c ≡ 0 → scriptRefusal (appended h sc c) ≡ 0) (h : Sheet) where
+module _ (h : Sheet) where
   -- compiles keep a judged script judged
   judged-once : (sc : Script) (c : Call) → scriptRefusal sc ≡ 0 → scriptRefusal (compiled h sc c) ≡ 0
   unfolding compiled
   judged-once sc c j = by (eqb (compileRefusal h sc c) 0) refl
     where
       by : (b : Bool) → eqb (compileRefusal h sc c) 0 ≡ b → scriptRefusal (cond b (appended h sc c) sc) ≡ 0
-      by true e = kept h sc c (eqb-true _ _ e)
+      by true e = kept-judged h sc c (eqb-true _ _ e)
       by false e = j
 
   pub judged-all : (sc : Script) (cs : List Call) → scriptRefusal sc ≡ 0 → scriptRefusal (afterAll h sc cs) ≡ 0

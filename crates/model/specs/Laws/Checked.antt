@@ -28,7 +28,7 @@ all-at p (x ∷ xs) d e a zero = and-left (p x) _ a
 all-at p (x ∷ xs) d e a (suc n) = all-at p xs d e (and-right (p x) _ a) n
 
 -- the parts of a conjunction of four and of five
-and4 : (a b c d : Bool) → a && b && c && d ≡ true → (a ≡ true) × (b ≡ true) × (c ≡ true) × (d ≡ true)
+pub and4 : (a b c d : Bool) → a && b && c && d ≡ true → (a ≡ true) × (b ≡ true) × (c ≡ true) × (d ≡ true)
 and4 a b c d e =
     let abc = and-left (a && b && c) d e in
     let ab = and-left (a && b) c abc in

@@ -232,7 +232,7 @@ all-insert p r (x ∷ xs) a b = by (sameReq r x) (before r x) (all-insert p r xs
     by false true ih = rw a b
     by false false ih = rw (and-left (p x) _ b) ih
 
-all-sorted : (p : Requirement → Bool) (xs : List Requirement) → all p xs ≡ true → all p (sorted xs) ≡ true
+pub all-sorted : (p : Requirement → Bool) (xs : List Requirement) → all p xs ≡ true → all p (sorted xs) ≡ true
 unfolding sorted
 all-sorted p [] a = refl
 all-sorted p (x ∷ xs) a = all-insert p x (sorted xs) (and-left (p x) _ a) (all-sorted p xs (and-right (p x) _ a))
@@ -247,7 +247,7 @@ insert-length r (x ∷ xs) = by (sameReq r x) (before r x) (insert-length r xs)
     by false true ih = omega arith
     by false false ih = omega arith
 
-sorted-length : (xs : List Requirement) → length (sorted xs) ≤ length xs
+pub sorted-length : (xs : List Requirement) → length (sorted xs) ≤ length xs
 unfolding sorted
 sorted-length [] = omega arith
 sorted-length (x ∷ xs) = omega (arith, insert-length x (sorted xs), sorted-length xs)

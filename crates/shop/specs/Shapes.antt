@@ -1,0 +1,65 @@
+-- What the values of the code stand for: requirement codes, slots, shops and sheets. Assumes nothing: these are definitions.
+use mathlib.Core.Bool.{Bool, true, false, cond}
+use mathlib.Core.Option.{Option, none, some}
+use mathlib.Core.List.{List, [], _∷_, map}
+use Prim.Native.Nat.{ℕ, zero, suc, _+_, _*_, _-_, _/_, _%_}
+use lib.Dec.{ltb}
+use lib.IntN.{ℤ, pos, negsuc}
+use Rattle.model.specs.Limits.{mostItems, wide}
+use Rattle.model.specs.Requirement.{Requirement, haveItem, missingItem, haveAtc, missingAtc, haveFlag, missingFlag, kind, number}
+use Rattle.model.specs.Shop
+use Rattle.model.specs.Sheet
+use Rattle.model.specs.Printer.{atcEntry}
+use Rattle.shop.specs.declared.Sheet.{Sheet}
+use Rattle.shop.specs.declared.SlotItem.{SlotItem}
+use Rattle.shop.specs.declared.SlotItem.the-variants.{Nothing, Of}
+use Rattle.shop.specs.declared.Slot.{Slot}
+use Rattle.shop.specs.declared.Shop.{Shop}
+
+-- a number of 32 bits, moved up by 2 ^ 31
+abbrev pub shift : ℤ → ℕ
+shift (pos n) = n + 2147483648
+shift (negsuc n) = 2147483647 - n
+
+abbrev pub unshift : ℕ → ℤ
+unshift n = cond (ltb n 2147483648) (negsuc (2147483647 - n)) (pos (n - 2147483648))
+
+abbrev pub codeOf : Requirement → ℕ
+codeOf r = kind r * wide + shift (number r)
+
+-- an id below 0 is on no sheet, nor is the number of items that no sheet passes
+abbrev pub idOf : ℤ → ℕ
+idOf (pos n) = n
+idOf (negsuc n) = mostItems
+
+abbrev pub ofKind : ℕ → ℤ → Requirement
+ofKind zero z = haveItem (idOf z)
+ofKind (suc zero) z = missingItem (idOf z)
+ofKind (suc (suc zero)) z = haveAtc (idOf z)
+ofKind (suc (suc (suc zero))) z = missingAtc (idOf z)
+ofKind (suc (suc (suc (suc zero)))) z = haveFlag z
+ofKind (suc (suc (suc (suc (suc zero))))) z = missingFlag z
+ofKind (suc (suc (suc (suc (suc (suc k)))))) z = haveItem mostItems
+
+unfoldable pub requirementOf : ℕ → Requirement
+requirementOf c = ofKind (c / wide) (unshift (c % wide))
+
+-- n entries of an array; past its end each is code 0
+unfoldable pub entries : ℕ → List ℕ → List ℕ
+entries zero cs = []
+entries (suc n) [] = 0 ∷ entries n []
+entries (suc n) (c ∷ cs) = c ∷ entries n cs
+
+abbrev pub itemOf : SlotItem → Option ℕ
+itemOf Nothing = none
+itemOf (Of w) = some (w .0)
+
+unfoldable pub slotOf : Slot → Shop.Slot
+slotOf x = record { item = itemOf (x .item); limit = x .limit; requirements = map requirementOf (entries (x .len) (x .requirements)) }
+
+unfoldable pub slotsOf : Shop → List Shop.Slot
+slotsOf s = map slotOf (s .slots)
+
+-- the lent slice holds atc + 1 or 0 for each item
+unfoldable pub sheetOf : List ℕ → Sheet → Sheet.Sheet
+sheetOf ks h = record { atcOf = map atcEntry ks; atcCount = h .atcs; timer5 = h .timer5 .0; timer10 = h .timer10 .0; timer15 = h .timer15 .0 }
