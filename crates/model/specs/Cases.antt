@@ -25,10 +25,10 @@ use Rattle.model.specs.Parse.{Parsed, parseCall, parse, parseBlock, visi
 use Rattle.model.specs.Printer.{slots, readSheet, readAtcs, readTimers, digitsTo, decimal, signedDecimal, letter, requirementsText, itemText, slotLine, slotLines, refusedText, Input, readInput, parsedText, inputText}
 
 -- sixteen items: 0, 1 and 2 the timers, 3 with atc 0, item 7 plain
-pub sheet : Sheet
+unfoldable pub sheet : Sheet
 sheet = record { atcOf = none ∷ none ∷ none ∷ some 0 ∷ replicate 12 none; atcCount = 1; timer5 = 0; timer10 = 1; timer15 = 2 }
 
-pub slotOf : ℕ → ℤ → List Requirement → Slot
+unfoldable pub slotOf : ℕ → ℤ → List Requirement → Slot
 slotOf w z rs = record { item = some w; limit = z; requirements = rs }
 
 -- a script of one Return block
@@ -110,7 +110,7 @@ bytes [] = []
 bytes (n ∷ ns) = pos n ∷ bytes ns
 
 -- names all that the cases compute with
-opened : ℕ
+unfoldable pub opened : ℕ
 unfolding sheet slotOf first with saved brief ranAt flat itemNumber readAs parsedAt nextOf oneBlock hidesUnder many emptyShopAt p1 timer5 p5 bytes wrap imm size sheetOk saveOk insert sorted member settled padded limitOf commandNodes commandsNodes blockNodes blockCommands number more groups under word wordTo zig zag image blocksImage blockImage commandsImage commandImage exprImage linkImage kinds kindOf readKind readOperands readExpr readTerm setOf commandOf readCommand readCommands readCode blockOf readBlock readBlocks readBlockNo linkOf readLink ended readWithin readImage countsOk judged callRefusal compiled compileRefusal appended redirect hasRoom shopBlocks slotsBlocks slotBlocks limitBlocks uniqueBlocks acquiredExpr itemTest atcTest flagTest test joinTests run step runCall parseCall parse parseBlock visited parseRequirements gather placeOf slots readSheet readAtcs readTimers digitsTo decimal signedDecimal letter requirementsText itemText slotLine slotLines refusedText readInput parsedText inputText
 opened = 0
 

@@ -22,3 +22,4 @@ pub mod Printer
 pub mod Cases
 pub mod Laws
 pub mod Demand
+pub mod BlockCases
