@@ -24,3 +24,4 @@ pub mod Sound
 pub mod FitTests
 pub mod FitBlocks
 pub mod Judged
+pub mod Files

@@ -10,11 +10,13 @@ pub mod Script
 pub mod Reading
 pub mod Image
 pub mod Judge
+pub mod Files
 pub mod Memory
 pub mod Record
 pub mod Compile
 pub mod Run
 pub mod Meaning
+pub mod Preview
 pub mod Parse
 pub mod Normal
 pub mod Lists
