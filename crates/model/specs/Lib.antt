@@ -20,6 +20,7 @@ pub mod Preview
 pub mod Parse
 pub mod Normal
 pub mod Lists
+pub mod RecordCalls
 pub mod Printer
 pub mod Cases
 pub mod Laws
