@@ -1,1 +1,5 @@
 pub mod Shapes
+pub mod Sets
+pub mod Codes
+pub mod Slots
+pub mod SetLaws

@@ -1,20 +1,25 @@
 -- What the values of the code stand for: requirement codes, slots, shops and sheets. Assumes nothing: these are definitions.
-use mathlib.Core.Bool.{Bool, true, false, cond}
+use mathlib.Core.Bool.{Bool, cond, _&&_}
 use mathlib.Core.Option.{Option, none, some}
 use mathlib.Core.List.{List, [], _∷_, map}
 use Prim.Native.Nat.{ℕ, zero, suc, _+_, _*_, _-_, _/_, _%_}
-use lib.Dec.{ltb}
+use lib.Dec.{ltb, leb}
+use lib.ListN.{length, getD, set, replicate}
 use lib.IntN.{ℤ, pos, negsuc}
-use Rattle.model.specs.Limits.{mostItems, wide}
+use Rattle.model.specs.Limits.{mostItems, wide, entryLimit, slotCount}
 use Rattle.model.specs.Requirement.{Requirement, haveItem, missingItem, haveAtc, missingAtc, haveFlag, missingFlag, kind, number}
 use Rattle.model.specs.Shop
+use Rattle.model.specs.Shop.{reqKnown}
 use Rattle.model.specs.Sheet
+use Rattle.model.specs.Sheet.{all}
 use Rattle.model.specs.Printer.{atcEntry}
 use Rattle.shop.specs.declared.Sheet.{Sheet}
 use Rattle.shop.specs.declared.SlotItem.{SlotItem}
 use Rattle.shop.specs.declared.SlotItem.the-variants.{Nothing, Of}
 use Rattle.shop.specs.declared.Slot.{Slot}
 use Rattle.shop.specs.declared.Shop.{Shop}
+use Rattle.shop.specs.declared.Timer.{Timer}
+use Rattle.shop.specs.declared.Timer.the-variants.{Plain, Five, Ten, Fifteen}
 
 -- a number of 32 bits, moved up by 2 ^ 31
 abbrev pub shift : ℤ → ℕ
@@ -57,9 +62,36 @@ itemOf (Of w) = some (w .0)
 unfoldable pub slotOf : Slot → Shop.Slot
 slotOf x = record { item = itemOf (x .item); limit = x .limit; requirements = map requirementOf (entries (x .len) (x .requirements)) }
 
+-- what check 8 asks of the entries
+abbrev pub entriesOk : Sheet.Sheet → Shop.Slot → Bool
+entriesOk h x = leb (length (x .requirements)) entryLimit && all (reqKnown h) (x .requirements)
+
 unfoldable pub slotsOf : Shop → List Shop.Slot
 slotsOf s = map slotOf (s .slots)
 
 -- the lent slice holds atc + 1 or 0 for each item
 unfoldable pub sheetOf : List ℕ → Sheet → Sheet.Sheet
 sheetOf ks h = record { atcOf = map atcEntry ks; atcCount = h .atcs; timer5 = h .timer5 .0; timer10 = h .timer10 .0; timer15 = h .timer15 .0 }
+
+-- the entry of an item in that slice; an item past its end has none
+abbrev pub atcAt : List ℕ → ℕ → ℕ
+atcAt ks i = getD ks i 0
+
+abbrev pub timerIs : Timer → Shop.Timer
+timerIs Plain = Shop.plain
+timerIs Five = Shop.five
+timerIs Ten = Shop.ten
+timerIs Fifteen = Shop.fifteen
+
+-- ---- values
+
+-- the empty slot: no item, limit 0, no requirements
+abbrev pub noSlot : Slot
+noSlot = record { item = Nothing; limit = pos 0; requirements = replicate entryLimit 0; len = 0 }
+
+abbrev pub noShop : Shop
+noShop = record { slots = replicate slotCount noSlot }
+
+-- slot i is x; a slot past the last is dropped
+abbrev pub placed : Shop → ℕ → Slot → Shop
+placed s i x = record { slots = set (s .slots) i x }

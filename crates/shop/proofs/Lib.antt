@@ -1,0 +1,6 @@
+pub mod All
+pub mod Limits
+pub mod Sheets
+pub mod Known
+pub mod Places
+pub mod Sorts
