@@ -1,0 +1,34 @@
+-- What a node below b is worth, by the kind that was found there. Assumes nothing.
+use mathlib.Core.Path.{_≡_, sym, ap, _∙_}
+use mathlib.Core.List.{List}
+use Prim.Native.Nat.{ℕ, _≤_, _<_}
+use lib.IntN.{ℤ}
+use Rattle.model.specs.Save.{Save}
+use Rattle.model.specs.Image.{kindOf}
+use Rattle.model.specs.Expr.{Value, ok, stop, eval}
+use Rattle.model.specs.Memory.{Nodes, codeAt, leftAt, rightAt, valueAt}
+use Rattle.model.specs.declared.Op2.{Op2}
+use Rattle.model.specs.declared.Op1.{Op1}
+use Rattle.model.specs.declared.Kind.{Kind}
+use Rattle.model.specs.declared.Kind.the-variants.{Two, One, Imm16, Imm32, Other}
+use Rattle.expr.specs.Tree.{treeBelow, below-out, below-two, below-one, below-imm16, below-imm32, below-other}
+use Rattle.expr.specs.Value.{join2, join1}
+
+pub out-done : (s : Save) (v : List ℤ) (ns : Nodes) (b i : ℕ) → b ≤ i → stop 13 ≡ eval s v (treeBelow ns b i)
+out-done s v ns b i h = sym (ap (eval s v) (below-out ns b i h))
+
+module _ (s : Save) (v : List ℤ) (ns : Nodes) (b i : ℕ) (lt : i < b) (k : Kind) (found : k ≡ kindOf (codeAt ns i)) where
+  pub two-done : (o : Op2) (r x y : Value) → k ≡ Two o → r ≡ join2 o x y → x ≡ eval s v (treeBelow ns i (leftAt ns i)) → y ≡ eval s v (treeBelow ns i (rightAt ns i)) → r ≡ eval s v (treeBelow ns b i)
+  two-done o r x y e er ex ey = er ∙ rw (ex, ey) (sym (ap (eval s v) (below-two ns b i lt k found o e)))
+
+  pub one-done : (o : Op1) (r x : Value) → k ≡ One o → r ≡ join1 s v o x → x ≡ eval s v (treeBelow ns i (leftAt ns i)) → r ≡ eval s v (treeBelow ns b i)
+  one-done o r x e er ex = er ∙ rw ex (sym (ap (eval s v) (below-one ns b i lt k found o e)))
+
+  pub imm16-done : (z : ℤ) → k ≡ Imm16 → z ≡ valueAt ns i → ok z ≡ eval s v (treeBelow ns b i)
+  imm16-done z e ez = ap ok ez ∙ sym (ap (eval s v) (below-imm16 ns b i lt k found e))
+
+  pub imm32-done : (z : ℤ) → k ≡ Imm32 → z ≡ valueAt ns i → ok z ≡ eval s v (treeBelow ns b i)
+  imm32-done z e ez = ap ok ez ∙ sym (ap (eval s v) (below-imm32 ns b i lt k found e))
+
+  pub other-done : k ≡ Other → stop 13 ≡ eval s v (treeBelow ns b i)
+  other-done e = sym (ap (eval s v) (below-other ns b i lt k found e))

@@ -1,0 +1,4 @@
+mod Signed
+mod Eval
+mod Put
+mod Parse

@@ -1,0 +1,141 @@
+-- `expr::apply_two` meets its contract: each arm is its operator. Assumes nothing.
+use mathlib.Core.Path.{_≡_, sym, ap, _∙_}
+use lib.IntN.{ℤ, pos}
+use mir.Syntax.{w32}
+use mir.Val.{SFits, toZ, ofZ}
+use mir.Facts.{toZ-ofZ, sfits-lit}
+use Rattle.model.specs.Expr.{apply2}
+use Rattle.model.specs.declared.Op2.{Op2}
+use Rattle.expr.proofs.Signed.{eq-bits}
+use borrow.Author.Needs.{needs}
+use Rattle.expr.proofs.apply_two.Statement.{statement}
+use Rattle.expr.proofs.apply_two.Tie as tie
+
+-- what an arm computed is what the operator says
+arm : (x y r : ℤ) (o p : Op2) → SFits w32 r → o ≡ p → r ≡ apply2 p x y → toZ w32 (ofZ w32 r) ≡ apply2 o x y
+arm x y r o p f e q = toZ-ofZ f ∙ q ∙ ap (λ (k : Op2). apply2 k x y) (sym e)
+
+enum-told : tie.Need-enum-told
+enum-told c = search needs
+
+bit-requires : tie.Need-bit-requires
+bit-requires c κs = search needs
+
+enum-told-2 : tie.Need-enum-told-2
+enum-told-2 c = search needs
+
+bit-requires-2 : tie.Need-bit-requires-2
+bit-requires-2 c κs = search needs
+
+enum-told-3 : tie.Need-enum-told-3
+enum-told-3 c = search needs
+
+bit-requires-3 : tie.Need-bit-requires-3
+bit-requires-3 c κs = search needs
+
+enum-told-4 : tie.Need-enum-told-4
+enum-told-4 c = search needs
+
+bit-requires-4 : tie.Need-bit-requires-4
+bit-requires-4 c κs = search needs
+
+enum-told-5 : tie.Need-enum-told-5
+enum-told-5 c = search needs
+
+bit-requires-5 : tie.Need-bit-requires-5
+bit-requires-5 c κs = search needs
+
+enum-told-6 : tie.Need-enum-told-6
+enum-told-6 c = search needs
+
+bit-requires-6 : tie.Need-bit-requires-6
+bit-requires-6 c κs = search needs
+
+enum-told-7 : tie.Need-enum-told-7
+enum-told-7 c = search needs
+
+wrapping-add-i32-requires : tie.Need-wrapping-add-i32-requires
+wrapping-add-i32-requires c κs = search needs
+
+enum-told-8 : tie.Need-enum-told-8
+enum-told-8 c = search needs
+
+wrapping-sub-i32-requires : tie.Need-wrapping-sub-i32-requires
+wrapping-sub-i32-requires c κs = search needs
+
+enum-told-9 : tie.Need-enum-told-9
+enum-told-9 c = search needs
+
+bit-requires-7 : tie.Need-bit-requires-7
+bit-requires-7 c κs = search needs
+
+enum-told-10 : tie.Need-enum-told-10
+enum-told-10 c = search needs
+
+bit-requires-8 : tie.Need-bit-requires-8
+bit-requires-8 c κs = search needs
+
+returns : tie.Need-returns
+returns c = arm (c .before .before .before .args .x) (c .before .before .before .args .y) _ _ _ (record { sfits = c .bit .ok }) (c .before .enum-told .given .1) (rw (eq-bits _ _ (c .before .before .before .fits .x) (c .before .before .before .fits .y)) at (c .bit .ensures))
+
+returns-2 : tie.Need-returns-2
+returns-2 c = arm (c .before .before .before .args .x) (c .before .before .before .args .y) _ _ _ (record { sfits = c .bit2 .ok }) (c .before .enum-told2 .given .1) (rw (eq-bits _ _ (c .before .before .before .fits .x) (c .before .before .before .fits .y)) at (c .bit2 .ensures))
+
+returns-3 : tie.Need-returns-3
+returns-3 c = arm (c .before .before .before .args .x) (c .before .before .before .args .y) _ _ _ (record { sfits = c .bit3 .ok }) (c .before .enum-told3 .given .1) (rw (toZ-ofZ (c .before .before .before .fits .x), toZ-ofZ (c .before .before .before .fits .y)) at (c .bit3 .ensures))
+
+returns-4 : tie.Need-returns-4
+returns-4 c = arm (c .before .before .before .args .x) (c .before .before .before .args .y) _ _ _ (record { sfits = c .bit4 .ok }) (c .before .enum-told4 .given .1) (rw (toZ-ofZ (c .before .before .before .fits .x), toZ-ofZ (c .before .before .before .fits .y)) at (c .bit4 .ensures))
+
+returns-5 : tie.Need-returns-5
+returns-5 c = arm (c .before .before .before .args .x) (c .before .before .before .args .y) _ _ _ (record { sfits = c .bit5 .ok }) (c .before .enum-told5 .given .1) (rw (toZ-ofZ (c .before .before .before .fits .x), toZ-ofZ (c .before .before .before .fits .y)) at (c .bit5 .ensures))
+
+returns-6 : tie.Need-returns-6
+returns-6 c = arm (c .before .before .before .args .x) (c .before .before .before .args .y) _ _ _ (record { sfits = c .bit6 .ok }) (c .before .enum-told6 .given .1) (rw (toZ-ofZ (c .before .before .before .fits .x), toZ-ofZ (c .before .before .before .fits .y)) at (c .bit6 .ensures))
+
+returns-7 : tie.Need-returns-7
+returns-7 c = arm (c .before .before .before .args .x) (c .before .before .before .args .y) _ _ _ (record { sfits = c .wrapping-add-i32 .ok }) (c .before .enum-told7 .given .1) (rw (toZ-ofZ (c .before .before .before .fits .x), toZ-ofZ (c .before .before .before .fits .y)) at (c .wrapping-add-i32 .ensures))
+
+returns-8 : tie.Need-returns-8
+returns-8 c = arm (c .before .before .before .args .x) (c .before .before .before .args .y) _ _ _ (record { sfits = c .wrapping-sub-i32 .ok }) (c .before .enum-told8 .given .1) (rw (toZ-ofZ (c .before .before .before .fits .x), toZ-ofZ (c .before .before .before .fits .y)) at (c .wrapping-sub-i32 .ensures))
+
+returns-9 : tie.Need-returns-9
+returns-9 c = arm (c .before .before .before .args .x) (c .before .before .before .args .y) _ _ _ (record { sfits = c .bit7 .ok }) (c .before .enum-told9 .given .1) (rw (eq-bits _ (pos 0) (c .before .before .before .fits .x) (sfits-lit tt), eq-bits _ (pos 0) (c .before .before .before .fits .y) (sfits-lit tt)) at (c .bit7 .ensures))
+
+returns-10 : tie.Need-returns-10
+returns-10 c = arm (c .before .before .before .args .x) (c .before .before .before .args .y) _ _ _ (record { sfits = c .bit8 .ok }) (c .before .enum-told10 .given .1) (rw (eq-bits _ (pos 0) (c .before .before .before .fits .x) (sfits-lit tt), eq-bits _ (pos 0) (c .before .before .before .fits .y) (sfits-lit tt)) at (c .bit8 .ensures))
+
+pub apply-two-spec : {M : Type 1} → statement M
+apply-two-spec =
+    tie.close
+    (tie.spec
+    enum-told
+    bit-requires
+    enum-told-2
+    bit-requires-2
+    enum-told-3
+    bit-requires-3
+    enum-told-4
+    bit-requires-4
+    enum-told-5
+    bit-requires-5
+    enum-told-6
+    bit-requires-6
+    enum-told-7
+    wrapping-add-i32-requires
+    enum-told-8
+    wrapping-sub-i32-requires
+    enum-told-9
+    bit-requires-7
+    enum-told-10
+    bit-requires-8
+    returns
+    returns-2
+    returns-3
+    returns-4
+    returns-5
+    returns-6
+    returns-7
+    returns-8
+    returns-9
+    returns-10)

@@ -1,0 +1,4 @@
+pub mod Tree
+pub mod Value
+pub mod Negate
+pub mod Requirement

@@ -1,0 +1,31 @@
+-- `expr_cases::push_numbers` meets its contract: the invariant bounds the count. Assumes nothing.
+use Prim.Native.Nat.{_≤_, _-_}
+use native.Mathlib.Omega.{arith}
+use borrow.Author.Needs.{needs}
+use Rattle.expr_cases.proofs.push_numbers.Statement.{statement}
+use Rattle.expr_cases.proofs.push_numbers.Tie as tie
+
+abbrev Inv-loop : tie.InvT-loop
+Inv-loop ws₀ val₀ n₀ ws val n = n ≤ 16384
+
+abbrev μ-loop : tie.MeasureT-loop
+μ-loop ws₀ val₀ n₀ ws val n = 16384 - n
+
+loop-holds : tie.Need-loop-holds Inv-loop μ-loop
+loop-holds c = omega arith
+
+push-node-requires : tie.Need-push-node-requires Inv-loop μ-loop
+push-node-requires c κs = search needs
+
+loop-less : tie.Need-loop-less Inv-loop μ-loop
+loop-less c = omega arith
+
+loop-again : tie.Need-loop-again Inv-loop μ-loop
+loop-again c = omega arith
+
+returns : tie.Need-returns Inv-loop μ-loop
+returns c = search needs
+
+pub push-numbers-spec : {M : Type 1} → statement M
+push-numbers-spec =
+    tie.close (tie.spec Inv-loop μ-loop loop-holds push-node-requires loop-less loop-again returns)

@@ -1,0 +1,115 @@
+// Builds the largest shapes of expressions, evaluates and negates them, and writes for each its last node and what that is worth.
+ghost use mathlib.Core.Path.{_≡_};
+ghost use Prim.Native.Nat.{ℕ, _+_, _*_, _≤_, _<_};
+ghost use Rattle.model.specs.Memory.{nodesIn};
+ghost use Rattle.memory.specs.Pushed.{PutExpr};
+ghost use Rattle.expr.specs.Tree.{Long};
+ghost use Rattle.expr_cases.specs.Chain.{chain};
+use expr::Value;
+use expr::evaluate;
+use expr::negate;
+use memory::push_node;
+
+fn main() {
+    let mut ws = [0u16; 98304];
+    let mut val = [0i32; 32768];
+    deepest(&mut ws, &mut val);
+    shared(&mut ws, &mut val);
+    largest(&mut ws, &mut val);
+}
+
+// ---- depth 64
+
+fn push_chain(ws: &mut [u16; 98304], val: &mut [i32; 32768], n: u16, d: u16) -> u16
+    requires { ⌜ n + (2 * d + 1) ≤ 32768 ⌝ }
+    ensures { λ m. ⌜ PutExpr (nodesIn (now (ws .entry)) (now (val .entry)) n) (chain d) (nodesIn (now (ws .exit)) (now (val .exit)) m) ⌝ }
+{
+    if d == 0 {
+        return push_node(ws, val, n, 11, 0, 0, 1);
+    }
+    let l = push_chain(ws, val, n, d - 1);
+    let r = push_node(ws, val, l, 11, 0, 0, 1);
+    push_node(ws, val, r, 9, l - 1, r - 1, 0)
+}
+
+// The arrays' lengths, which a reference to an array has in its type.
+fn long(ws: &[u16; 98304], val: &[i32; 32768]) -> usize
+    ensures { λ _. ⌜ ((n : ℕ) → Long 32768 (nodesIn (now (ws .entry)) (now (val .entry)) n)) ⌝ }
+{
+    let words: &[u16] = ws;
+    let values: &[i32] = val;
+    words.len() - values.len()
+}
+
+fn deepest(ws: &mut [u16; 98304], val: &mut [i32; 32768]) {
+    let _length = long(ws, val);
+    let m = push_chain(ws, val, 0, 63);
+    show(ws, val, m - 1);
+    let k = negate(ws, val, m, m - 1);
+    show(ws, val, k - 1);
+}
+
+// ---- 33 nodes, each the sum of the one before with itself
+
+fn shared(ws: &mut [u16; 98304], val: &mut [i32; 32768]) {
+    let mut n = push_node(ws, val, 0, 12, 0, 0, 1);
+    while n < 33 {
+        n = push_node(ws, val, n, 7, n - 1, n - 1, 0);
+    }
+    // as a tree, the last node has 2^33 - 1 nodes: what is half as deep is evaluated
+    show(ws, val, 20);
+}
+
+// ---- 32,768 nodes: 16,384 numbers, their sums in pairs, and a Not on top
+
+fn push_numbers(ws: &mut [u16; 98304], val: &mut [i32; 32768]) {
+    let mut n = 0;
+    while n < 16384 {
+        n = push_node(ws, val, n, 11, 0, 0, 2);
+    }
+}
+
+fn push_sums(ws: &mut [u16; 98304], val: &mut [i32; 32768]) {
+    let mut n: u16 = 16384;
+    while n < 32767 {
+        let left = 2 * (n - 16384);
+        n = push_node(ws, val, n, 7, left, left + 1, 0);
+    }
+}
+
+fn largest(ws: &mut [u16; 98304], val: &mut [i32; 32768]) {
+    push_numbers(ws, val);
+    push_sums(ws, val);
+    show(ws, val, 32766);
+    push_node(ws, val, 32767, 6, 32766, 0, 0);
+    show(ws, val, 32767);
+}
+
+// ---- a line for each
+
+fn show(ws: &[u16; 98304], val: &[i32; 32768], i: u16)
+    requires { ⌜ i < 32768 ⌝ }
+{
+    let items = [0i16; 1];
+    let atcs = [0u8; 1];
+    let flags = [0u8; 1];
+    let times = [0i16; 1];
+    let vars = [0i32; 1];
+    let v = evaluate(ws, val, i, &items, &atcs, &flags, &times, &vars);
+    io::print_decimal(libc::STDOUT_FILENO, wide(i));
+    io::write_all(libc::STDOUT_FILENO, b" ");
+    match v {
+        Value::Is(z) => print(ints::to_bits(z)),
+        Value::Refused(_) => print(4294967295),
+    }
+}
+
+// The bits of a value; the shapes here are worth no negative number.
+fn print(bits: u32) {
+    io::print_decimal(libc::STDOUT_FILENO, bits as u64);
+    io::write_all(libc::STDOUT_FILENO, b"\n");
+}
+
+fn wide(x: u16) -> u64 {
+    x as u64
+}

@@ -1,0 +1,45 @@
+-- read_imm keeps its promise; the steps are laws of specs/NumberLaws.antt.
+use mir.Facts.{toZ-ofZ}
+use mir.Syntax.{w32}
+use mathlib.Core.Path.{_∙_}
+use native.Mathlib.Omega.{arith}
+use Rattle.image_read.specs.NumberLaws.{imm-low, imm-told, imm-bad}
+use borrow.Author.Needs.{needs}
+use Rattle.image_read.proofs.read_imm.Statement.{statement}
+use Rattle.image_read.proofs.read_imm.Tie as tie
+
+read-number-requires : tie.Need-read-number-requires
+read-number-requires c κs = search needs
+
+enum-known-v : tie.Need-enum-known-v
+enum-known-v c = search needs
+
+signed-requires : tie.Need-signed-requires
+signed-requires c κs = omega (arith, imm-low _ _ _ _ (c .before .before .before .before .before .read-number .ensures) _ _ (c .before .before .before .v .given .1), c .before .before .before .before .before .before .before .pre)
+
+push-node-requires : tie.Need-push-node-requires
+push-node-requires c κs = search needs
+
+enum-told : tie.Need-enum-told
+enum-told c = search needs
+
+returns : tie.Need-returns
+returns c =
+    let c5 = c .before .before .before .before .before in
+    let c7 = c5 .before .before in
+    imm-told _ _ _ _ (c7 .read-number .ensures) _ _ _ _ _ _ _ (c5 .v .given .1) (toZ-ofZ {w = w32} {z = c .before .signed .result} (record { sfits = c .before .signed .ok }) ∙ c .before .signed .ensures) (c .push-node .ensures)
+
+returns-2 : tie.Need-returns-2
+returns-2 c = imm-bad _ _ _ _ (c .before .before .read-number .ensures) _ _ _ _ (c .enum-told .given .1)
+
+pub read-imm-spec : {M : Type 1} → statement M
+read-imm-spec =
+    tie.close
+    (tie.spec
+    read-number-requires
+    enum-known-v
+    signed-requires
+    push-node-requires
+    enum-told
+    returns
+    returns-2)

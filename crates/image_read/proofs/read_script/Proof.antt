@@ -1,0 +1,24 @@
+-- read_script keeps its promise; the steps are laws of specs/Whole.antt.
+use Rattle.image_read.specs.Whole.{outcome-read, outcome-no}
+use borrow.Author.Needs.{needs}
+use Rattle.image_read.proofs.read_script.Statement.{statement}
+use Rattle.image_read.proofs.read_script.Tie as tie
+
+read-all-requires : tie.Need-read-all-requires
+read-all-requires c κs = search needs
+
+enum-known-r : tie.Need-enum-known-r
+enum-known-r c = search needs
+
+enum-known-r-2 : tie.Need-enum-known-r-2
+enum-known-r-2 c = search needs
+
+returns : tie.Need-returns
+returns c = outcome-read _ _ _ _ _ _ _ (c .before .before .before .read-all .ensures) _ (c .before .r .given .1)
+
+returns-2 : tie.Need-returns-2
+returns-2 c = outcome-no _ _ _ _ _ _ _ (c .before .before .before .before .before .before .before .read-all .ensures) _ (c .before .before .before .before .before .r2 .given .1)
+
+pub read-script-spec : {M : Type 1} → statement M
+read-script-spec =
+    tie.close (tie.spec read-all-requires enum-known-r enum-known-r-2 returns returns-2)

@@ -1,0 +1,20 @@
+-- signed keeps its promise; the steps are laws of specs/NumberLaws.antt.
+use Rattle.image_read.specs.NumberLaws.{signed-even, signed-fits, signed-odd}
+use borrow.Author.Needs.{needs}
+use Rattle.image_read.proofs.signed.Statement.{statement}
+use Rattle.image_read.proofs.signed.Tie as tie
+
+cast-h : tie.Need-cast-h
+cast-h c = search needs
+
+returns : tie.Need-returns
+returns c = signed-even _ (c .before .pre) (c .if1 .taken)
+
+sub-result : tie.Need-sub-result
+sub-result c = signed-fits _ (c .before .pre)
+
+returns-2 : tie.Need-returns-2
+returns-2 c = signed-odd _ (c .before .pre) (c .if1 .left)
+
+pub signed-spec : {M : Type 1} → statement M
+signed-spec = tie.close (tie.spec cast-h returns sub-result returns-2)

@@ -1,0 +1,12 @@
+pub mod Told
+pub mod Outcome
+pub mod Answers
+pub mod Counts
+pub mod NumberLaws
+pub mod ExprLaws
+pub mod CommandLaws
+pub mod CommandLoop
+pub mod BlockLaws
+pub mod BlockLoop
+pub mod Whole
+pub mod Caller

@@ -1,0 +1,146 @@
+-- The whole record is judged as its image would be read. Assumes nothing.
+use mathlib.Core.Path.{_≡_, refl, ap, sym, _∙_}
+use mathlib.Core.Bool.{Bool, true, false, cond, _&&_}
+use mathlib.Core.List.{List, [], _∷_, _++_, append-assoc, append-nil}
+use Prim.Native.Nat.{ℕ, zero, suc, _+_, _-_, _*_, _≤_, _<_}
+use native.Mathlib.Omega.{arith}
+use lib.Dec.{leb}
+use borrow.Author.Tests.{le-leb, lt-leb}
+use lib.ListN.{length, length-append}
+use Rattle.model.specs.Limits.{wide, blockLimit, commandLimit, nodeLimit}
+use Rattle.model.specs.Reading.{Answer, got, refused, onward, word}
+use Rattle.model.specs.Script.{Block, blockNodes, blockCommands}
+use Rattle.model.specs.Image.{Limits, limits, readBlock, readBlocks, ended, readWithin, image}
+use Rattle.model.specs.Memory.{Memory, blockWord}
+use Rattle.model.specs.Record.{blockTail, blocksImageIn, recordImage, keptOk, judgedRecord}
+use Rattle.model.specs.Laws.Reading.{read-word}
+use Rattle.model.specs.Laws.Image.{write-image}
+use Rattle.judge.specs.Told.{Kept, ShortWord}
+use Rattle.judge.specs.Loop.{Part, Next, part-start, part-next, part-no, part-done, part-bytes}
+use Rattle.judge.specs.Stages.{GoodBlock, Staged, Accepted, JudgedAs}
+use Rattle.judge.specs.Blocks.{block-of, stop-of}
+use Rattle.judge.specs.declared.Stage.{Stage}
+use Rattle.judge.specs.declared.Stage.the-variants.{Fine as Passed, No as Stopped}
+use Rattle.judge.specs.declared.Judged.{Judged}
+use Rattle.judge.specs.declared.Judged.the-variants.{Fine, No}
+
+-- the kept counts are the limits
+abbrev pub limitsOf : Memory → Limits
+limitsOf me = limits (me .count) (me .coded .count) (me .coded .nodes .count)
+
+-- c blocks, where commands and nodes were counted before
+abbrev pub manyBlocks : Limits → ℕ → ℕ × ℕ → List ℕ → Answer (List Block)
+manyBlocks l c s t = readBlocks l c (s .0) (s .1) t
+
+abbrev pub counted : ℕ → ℕ → ℕ × ℕ
+counted m n = (m, n)
+
+-- i blocks were judged: ten bytes each besides those of their commands and nodes, and three for the count of blocks
+pub record Passing (me : Memory) (i m n p : ℕ) : Type 0 where
+  pub part : Part (manyBlocks (limitsOf me)) (blocksImageIn me) (me .count) 0 (counted 0 0) (length (word (me .count))) i (counted m n) p
+  pub low : n ≤ me .coded .nodes .count
+  pub room : m ≤ me .coded .count
+  pub short : p ≤ 6 * n + 4 * m + 10 * i + 3
+
+-- one block, before c more
+module _ (l : Limits) (me : Memory) (c b n m p : ℕ) where
+  block-next : {n′ m′ q : ℕ} (A : GoodBlock (readBlock l m n) (word (blockWord me b 0) ++ blockTail me b (blockWord me b 0)) (l .nodes) (l .commands) 10 n m p n′ m′ q)
+      → Next (manyBlocks l) (blocksImageIn me) c b (A .value) (counted m n) p (counted m′ n′) q
+  unfolding readBlocks blocksImageIn
+  block-next A = record {
+    reads = λ t. rw (append-assoc (word (blockWord me b 0) ++ blockTail me b (blockWord me b 0)) (blocksImageIn me c (suc b)) t, A .reads (blocksImageIn me c (suc b) ++ t), A .counted, A .held);
+    bytes = omega (arith, length-append (word (blockWord me b 0) ++ blockTail me b (blockWord me b 0)) (blocksImageIn me c (suc b)), A .bytes);
+  }
+
+  block-no : {e : ℕ} → ((t : List ℕ) → readBlock l m n ((word (blockWord me b 0) ++ blockTail me b (blockWord me b 0)) ++ t) ≡ refused e) → (t : List ℕ) → manyBlocks l (suc c) (counted m n) (blocksImageIn me (suc c) b ++ t) ≡ refused e
+  unfolding readBlocks blocksImageIn
+  block-no q t = rw (append-assoc (word (blockWord me b 0) ++ blockTail me b (blockWord me b 0)) (blocksImageIn me c (suc b)) t, q (blocksImageIn me c (suc b) ++ t))
+
+-- ---- kept counts
+
+module _ (me : Memory) where
+  pub kept-blocks : blockLimit < me .count → JudgedAs me (No 3)
+  unfolding JudgedAs judgedRecord keptOk
+  kept-blocks h = rw (lt-leb (me .count) blockLimit h)
+
+  pub kept-commands : me .count ≤ blockLimit → commandLimit < me .coded .count → JudgedAs me (No 3)
+  unfolding JudgedAs judgedRecord keptOk
+  kept-commands b h = rw (le-leb (me .count) blockLimit b, lt-leb (me .coded .count) commandLimit h)
+
+  pub kept-nodes : me .count ≤ blockLimit → me .coded .count ≤ commandLimit → nodeLimit < me .coded .nodes .count → JudgedAs me (No 3)
+  unfolding JudgedAs judgedRecord keptOk
+  kept-nodes b c h = rw (le-leb (me .count) blockLimit b, le-leb (me .coded .count) commandLimit c, lt-leb (me .coded .nodes .count) nodeLimit h)
+
+  module _ (K : Kept (me .coded .nodes .count) (me .coded .count) (me .count)) where
+    -- what is left is reading the blocks
+    judged-read : judgedRecord me ≡ onward (readBlocks (limitsOf me) (me .count) 0 0 (blocksImageIn me (me .count) 0 ++ [])) ended
+    unfolding judgedRecord keptOk readWithin recordImage
+    judged-read =
+        let kb = K .blocks in
+        rw (
+          le-leb (me .count) blockLimit kb,
+          le-leb (me .coded .count) commandLimit (K .commands),
+          le-leb (me .coded .nodes .count) nodeLimit (K .nodes),
+          read-word wide (me .count) (blocksImageIn me (me .count) 0) (omega arith) (omega arith),
+          le-leb (me .count) blockLimit kb,
+          append-nil,
+        )
+
+    within : judgedRecord me ≡ readWithin (me .coded .count) (me .coded .nodes .count) (recordImage me)
+    unfolding judgedRecord keptOk
+    within = rw (le-leb (me .count) blockLimit (K .blocks), le-leb (me .coded .count) commandLimit (K .commands), le-leb (me .coded .nodes .count) nodeLimit (K .nodes))
+
+    pub pass-start : (p : ℕ) → ShortWord (me .count) p → Passing me 0 0 0 p
+    pass-start p s =
+        let y = s .short in
+        let i = s .is in
+        rw i (record { part = part-start (manyBlocks (limitsOf me)) (blocksImageIn me) (me .count) 0 (counted 0 0) (length (word (me .count))); low = omega arith; room = omega arith; short = omega arith })
+
+    module _ {i m n p : ℕ} (P : Passing me i m n p) where
+      module _ (lt : i < me .count) {r : Stage}
+          (t : Staged (readBlock (limitsOf me) m n) (word (blockWord me i 0) ++ blockTail me i (blockWord me i 0)) (me .coded .nodes .count) (me .coded .count) 10 n m p r) where
+        pub pass-next : {n′ m′ q : ℕ} → r ≡ Passed n′ m′ q → Passing me (i + 1) m′ n′ q
+        pass-next {n′} {m′} {q} e =
+            let A = block-of t e in
+            let s = P .short in
+            let z : 0 + i ≡ i = omega arith in
+            let N : Next (manyBlocks (limitsOf me)) (blocksImageIn me) (me .count - (i + 1)) (0 + i) (A .value) (counted m n) p (counted m′ n′) q = rw z (block-next (limitsOf me) me (me .count - (i + 1)) i n m p A) in
+            record {
+              part = part-next (manyBlocks (limitsOf me)) (blocksImageIn me) (me .count) 0 (counted 0 0) (length (word (me .count))) (P .part) lt (A .value) N;
+              low = A .low;
+              room = A .room;
+              short = omega (arith, A .short);
+            }
+
+        pub pass-no : {e : ℕ} → r ≡ Stopped e → JudgedAs me (No e)
+        unfolding JudgedAs
+        pass-no {e = k} e =
+            let z : 0 + i ≡ i = omega arith in
+            judged-read ∙ rw (part-no (manyBlocks (limitsOf me)) (blocksImageIn me) (me .count) 0 (counted 0 0) (length (word (me .count))) (P .part) lt {e = k}
+            (λ u. rw z (block-no (limitsOf me) me (me .count - (i + 1)) i n m p (stop-of t e) u)) [])
+
+      pass-bytes : me .count ≤ i → p ≡ length (recordImage me)
+      unfolding recordImage blocksImageIn readBlocks
+      pass-bytes ge =
+          part-bytes (manyBlocks (limitsOf me)) (blocksImageIn me) (me .count) 0 (counted 0 0) (length (word (me .count))) (P .part) ge (λ t. refl) refl
+          ∙ sym (length-append (word (me .count)) (blocksImageIn me (me .count) 0))
+
+      pub pass-done : me .count ≤ i → JudgedAs me (Fine p)
+      unfolding JudgedAs readBlocks blocksImageIn ended
+      pass-done ge =
+          let bs = P .part .seen in
+          let all : judgedRecord me ≡ got bs []
+          = judged-read ∙ rw (part-done (manyBlocks (limitsOf me)) (blocksImageIn me) (me .count) 0 (counted 0 0) (length (word (me .count))) (P .part) ge (λ t. refl) []) in
+          let same : recordImage me ≡ image bs = write-image (me .coded .count) (me .coded .nodes .count) (recordImage me) bs [] (sym within ∙ all) .bytes in
+          record { blocks = bs; judged = all; same = same; bytes = pass-bytes ge ∙ ap length same }
+
+-- ---- the statement determines the answer
+
+abbrev pub judgement : Answer (List Block) → Judged
+judgement (got bs r) = Fine (length (image bs))
+judgement (refused k) = No k
+
+pub judged-is : (me : Memory) (r : Judged) → JudgedAs me r → r ≡ judgement (judgedRecord me)
+unfolding JudgedAs
+judged-is me (Fine len) a = rw (a .judged) (ap Fine (a .bytes))
+judged-is me (No k) e = rw e
