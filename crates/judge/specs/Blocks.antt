@@ -1,10 +1,9 @@
 -- A block is judged as its image would be read. Assumes nothing.
-use mathlib.Core.Path.{_≡_, refl, ap, sym, _∙_}
+use mathlib.Core.Path.{_≡_, refl, _∙_}
 use mathlib.Core.Option.{Option}
-use mathlib.Core.List.{List, [], _∷_, _++_, append-assoc, append-nil}
-use Prim.Native.Nat.{ℕ, zero, suc, _+_, _-_, _*_, _≤_, _<_}
+use mathlib.Core.List.{List, [], _++_, append-assoc}
+use Prim.Native.Nat.{ℕ, _+_, _-_, _*_, _≤_, _<_}
 use native.Mathlib.Omega.{arith}
-use lib.Dec.{leb}
 use borrow.Author.Tests.{le-leb, lt-leb}
 use lib.ListN.{getD, length, length-append}
 use Rattle.model.specs.Limits.{wide}
@@ -19,7 +18,7 @@ use Rattle.judge.specs.Told.{ShortWord, Good, Told, uncounted}
 use Rattle.judge.specs.Numbers.{read-over, word-1}
 use Rattle.judge.specs.Pieces.{none, good-of, no-of, looser, first-no, paired}
 use Rattle.judge.specs.Commands.{code-word}
-use Rattle.judge.specs.Stages.{Links, both, readLinks, GoodBlock, Shows, Staged}
+use Rattle.judge.specs.Stages.{both, readLinks, GoodBlock, Shows, Staged}
 use Rattle.judge.specs.declared.Step.{Step}
 use Rattle.judge.specs.declared.Step.the-variants.{Fine, No}
 use Rattle.judge.specs.declared.Stage.{Stage}

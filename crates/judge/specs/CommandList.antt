@@ -1,10 +1,10 @@
 -- Commands that stand one after the other are judged as their images would be read. Assumes nothing.
-use mathlib.Core.Path.{_≡_, refl, ap, sym, _∙_}
+use mathlib.Core.Path.{_≡_, refl}
 use mathlib.Core.List.{List, [], _∷_, _++_, append-assoc}
-use Prim.Native.Nat.{ℕ, zero, suc, _+_, _-_, _*_, _≤_, _<_}
+use Prim.Native.Nat.{ℕ, suc, _+_, _-_, _*_, _≤_, _<_}
 use native.Mathlib.Omega.{arith}
-use lib.ListN.{length, length-append}
-use Rattle.model.specs.Reading.{got, refused, onward}
+use lib.ListN.{length-append}
+use Rattle.model.specs.Reading.{refused}
 use Rattle.model.specs.Script.{Command, commandNodes, commandsNodes}
 use Rattle.model.specs.Image.{Limits, readCommand, readCommands}
 use Rattle.model.specs.Memory.{Coded}

@@ -1,20 +1,19 @@
 -- A command is judged as its image would be read. Assumes nothing.
-use mathlib.Core.Path.{_≡_, refl, ap, sym, _∙_}
-use mathlib.Core.List.{List, [], _∷_, _++_, append-assoc}
+use mathlib.Core.Path.{_≡_, refl, ap}
+use mathlib.Core.List.{List, [], _++_, append-assoc}
 use Prim.Native.Nat.{ℕ, zero, suc, _+_, _*_, _≤_, _<_}
 use native.Mathlib.Omega.{arith}
 use borrow.Author.Tests.{lt-ltb, le-ltb}
 use lib.ListN.{getD}
-use Rattle.model.specs.Limits.{wide}
-use Rattle.model.specs.Reading.{Answer, got, refused, onward, number, word}
-use Rattle.model.specs.Expr.{Expr, size}
+use Rattle.model.specs.Reading.{got, word}
+use Rattle.model.specs.Expr.{size}
 use Rattle.model.specs.Script.{Command, return, goto, setVariable, setOther, ifElse, endIf, otherCommand, commandNodes}
 use Rattle.model.specs.Image.{Limits, readTerm, readExpr, readBlockNo, setOf, commandOf, readCommand}
 use Rattle.model.specs.Memory.{Nodes, Coded, commandWord}
 use Rattle.model.specs.Record.{nodeImage, rootImage, targetImage, commandTail, commandImageIn}
-use Rattle.judge.specs.Told.{Good, Told, uncounted}
+use Rattle.judge.specs.Told.{Told, uncounted}
 use Rattle.judge.specs.Numbers.{read-over, word-1}
-use Rattle.judge.specs.Pieces.{fine, none, good-of, no-of, moved, looser, headed, wrapped, first-no, paired}
+use Rattle.judge.specs.Pieces.{fine, none, good-of, no-of, looser, headed, wrapped, first-no, paired}
 use Rattle.judge.specs.declared.Step.{Step}
 use Rattle.judge.specs.declared.Step.the-variants.{Fine, No}
 

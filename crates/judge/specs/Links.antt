@@ -1,7 +1,6 @@
 -- A block that is named is judged as its number would be read. Assumes nothing.
 use mathlib.Core.Path.{_≡_, refl}
-use mathlib.Core.Option.{Option, none as nowhere, some}
-use mathlib.Core.List.{List, _++_}
+use mathlib.Core.List.{List}
 use Prim.Native.Nat.{ℕ, zero, suc, _+_, _≤_, _<_}
 use native.Mathlib.Omega.{arith}
 use borrow.Author.Tests.{lt-ltb, le-ltb}

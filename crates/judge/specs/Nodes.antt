@@ -1,15 +1,15 @@
 -- A node is judged as its image would be read. Assumes nothing.
-use mathlib.Core.Path.{_≡_, refl, ap, ap₂, sym, _∙_}
+use mathlib.Core.Path.{_≡_, refl, ap, ap₂, sym}
 use mathlib.Core.Bool.{Bool, true, false, cond}
-use mathlib.Core.List.{List, [], _∷_, _++_, append-assoc, append-nil}
-use Prim.Native.Nat.{ℕ, zero, suc, _+_, _-_, _*_, _≤_, _<_}
+use mathlib.Core.List.{List, _++_, append-assoc}
+use Prim.Native.Nat.{ℕ, zero, suc, _+_, _-_, _≤_, _<_}
 use native.Mathlib.Omega.{arith}
 use lib.Dec.{ltb}
 use borrow.Author.Tests.{ltb-true, ltb-false, lt-ltb, le-ltb}
 use lib.ListN.{length, length-append}
-use Rattle.model.specs.Limits.{wide, wide16, depthLimit}
+use Rattle.model.specs.Limits.{wide}
 use Rattle.model.specs.Refusal.{badImage, overLimit, tooDeep}
-use Rattle.model.specs.Reading.{Answer, got, refused, onward, number, word, zig, zag}
+use Rattle.model.specs.Reading.{got, refused, onward, number, word, zig, zag}
 use Rattle.model.specs.Expr.{Expr, two, one, imm16, imm32, other, size}
 use Rattle.model.specs.Image.{kindOf, readKind, readOperands, readExpr}
 use Rattle.model.specs.Memory.{Nodes, codeAt, leftAt, rightAt, valueAt}
@@ -19,7 +19,7 @@ use Rattle.model.specs.declared.Op2.{Op2}
 use Rattle.model.specs.declared.Op1.{Op1}
 use Rattle.model.specs.declared.Kind.{Kind}
 use Rattle.model.specs.declared.Kind.the-variants.{Two, One, Imm16, Imm32, Other}
-use Rattle.judge.specs.Told.{Good, Says, Told, immJudged}
+use Rattle.judge.specs.Told.{Told, immJudged}
 use Rattle.judge.specs.Numbers.{read-over, word-1, word-short}
 use Rattle.judge.specs.Pieces.{fine, none, good-of, no-of, moved, looser, wrapped, first-no, paired}
 use Rattle.judge.specs.declared.Step.{Step}

@@ -16,7 +16,6 @@ use Rattle.model.specs.Refusal.{badImage}
 use Rattle.model.specs.Reading.{Answer, got, refused, groups, under, number, wordTo, word, zig}
 use Rattle.model.specs.Laws.Reading.{same-groups}
 use Rattle.judge.specs.Told.{ShortWord, immJudged}
-use Rattle.judge.specs.declared.Step.{Step}
 use Rattle.judge.specs.declared.Step.the-variants.{Fine, No}
 
 -- a number that is not below the limit is refused, however large

@@ -1,15 +1,13 @@
 -- The whole record is judged as its image would be read. Assumes nothing.
 use mathlib.Core.Path.{_≡_, refl, ap, sym, _∙_}
-use mathlib.Core.Bool.{Bool, true, false, cond, _&&_}
-use mathlib.Core.List.{List, [], _∷_, _++_, append-assoc, append-nil}
-use Prim.Native.Nat.{ℕ, zero, suc, _+_, _-_, _*_, _≤_, _<_}
+use mathlib.Core.List.{List, [], _++_, append-assoc, append-nil}
+use Prim.Native.Nat.{ℕ, suc, _+_, _-_, _*_, _≤_, _<_}
 use native.Mathlib.Omega.{arith}
-use lib.Dec.{leb}
 use borrow.Author.Tests.{le-leb, lt-leb}
 use lib.ListN.{length, length-append}
 use Rattle.model.specs.Limits.{wide, blockLimit, commandLimit, nodeLimit}
 use Rattle.model.specs.Reading.{Answer, got, refused, onward, word}
-use Rattle.model.specs.Script.{Block, blockNodes, blockCommands}
+use Rattle.model.specs.Script.{Block}
 use Rattle.model.specs.Image.{Limits, limits, readBlock, readBlocks, ended, readWithin, image}
 use Rattle.model.specs.Memory.{Memory, blockWord}
 use Rattle.model.specs.Record.{blockTail, blocksImageIn, recordImage, keptOk, judgedRecord}
@@ -17,7 +15,7 @@ use Rattle.model.specs.Laws.Reading.{read-word}
 use Rattle.model.specs.Laws.Image.{write-image}
 use Rattle.judge.specs.Told.{Kept, ShortWord}
 use Rattle.judge.specs.Loop.{Part, Next, part-start, part-next, part-no, part-done, part-bytes}
-use Rattle.judge.specs.Stages.{GoodBlock, Staged, Accepted, JudgedAs}
+use Rattle.judge.specs.Stages.{GoodBlock, Staged, JudgedAs}
 use Rattle.judge.specs.Blocks.{block-of, stop-of}
 use Rattle.judge.specs.declared.Stage.{Stage}
 use Rattle.judge.specs.declared.Stage.the-variants.{Fine as Passed, No as Stopped}

@@ -7,7 +7,7 @@ use lib.Dec.{T}
 use mir.Facts.{toZ-ofZ}
 use mir.Val.{Fits, SFits}
 use mir.Syntax.{w32, w64}
-use mathlib.Core.Path.{_≡_, refl, ap, _∙_, subst, sym}
+use mathlib.Core.Path.{_≡_, ap, subst, sym}
 use Rattle.judge.proofs.folded.Statement.{statement}
 use Rattle.judge.proofs.folded.Tie as tie
 

@@ -1,5 +1,4 @@
 -- `judge::judge_record` meets its contract: the kept counts first, then the blocks. Assumes nothing.
-use native.Mathlib.Omega.{arith}
 use Rattle.model.specs.Memory.{memoryIn}
 use Rattle.judge.specs.Whole.{kept-blocks, kept-commands, kept-nodes}
 use borrow.Author.Needs.{needs}
