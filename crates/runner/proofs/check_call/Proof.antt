@@ -1,0 +1,61 @@
+-- `check_call` meets its contract: the checks answer in their order. Assumes nothing.
+use Rattle.runner.proofs.Checks.{ready, fine-got, no-got, call-sheet, call-setup, call-refused}
+use Rattle.model.specs.Memory.{codedIn, memoryIn}
+use borrow.Author.Tests.{not-true, not-false}
+use mathlib.Core.Path.{sym, _∙_}
+use borrow.Author.Needs.{needs}
+use Rattle.runner.proofs.check_call.Statement.{statement}
+use Rattle.runner.proofs.check_call.Tie as tie
+
+check-sheet-requires : tie.Need-check-sheet-requires
+check-sheet-requires c κs = search needs
+
+returns : tie.Need-returns
+returns c = call-sheet _ _ _ (sym (c .before .check-sheet .ensures) ∙ not-true _ (c .if1 .taken))
+
+judge-record-requires : tie.Need-judge-record-requires
+judge-record-requires c κs = search needs
+
+enum-told : tie.Need-enum-told
+enum-told c = search needs
+
+check-setup-requires : tie.Need-check-setup-requires
+check-setup-requires c κs =
+    let a = c .before .before in
+    let s = a .before .before .before .before in
+    let m = memoryIn (s .args .ws .now) (s .args .val .now) (s .args .cw .now) (s .args .bw .now) (s .args .counts .nodes) (s .args .counts .commands) (s .args .counts .blocks) in
+    ready m _ _ (fine-got m (a .judge-record .ensures) (c .enum-told .given .1) .judged) .few
+
+enum-known-j : tie.Need-enum-known-j
+enum-known-j c = search needs
+
+returns-2 : tie.Need-returns-2
+returns-2 c =
+    let a = c .before .before .before in
+    let b = a .before in
+    let d = b .before in
+    let s = d .before .before in
+    let m = memoryIn (s .args .ws .now) (s .args .val .now) (s .args .cw .now) (s .args .bw .now) (s .args .counts .nodes) (s .args .counts .commands) (s .args .counts .blocks) in
+    call-setup _ m _ _ _ _ (sym (d .check-sheet .ensures) ∙ not-false _ (b .if1 .left)) (fine-got m (a .judge-record .ensures) (c .before .enum-told .given .1) .judged) (c .check-setup .ensures (codedIn (s .args .ws .now) (s .args .val .now) (s .args .cw .now) (s .args .counts .nodes) (s .args .counts .commands)))
+
+returns-3 : tie.Need-returns-3
+returns-3 c =
+    let a = c .before .before .before in
+    let b = a .before in
+    let d = b .before in
+    let s = d .before .before in
+    let m = memoryIn (s .args .ws .now) (s .args .val .now) (s .args .cw .now) (s .args .bw .now) (s .args .counts .nodes) (s .args .counts .commands) (s .args .counts .blocks) in
+    call-refused _ m _ _ (sym (d .check-sheet .ensures) ∙ not-false _ (b .if1 .left)) (no-got m (a .judge-record .ensures) (c .before .j .given .1))
+
+pub check-call-spec : {M : Type 1} → statement M
+check-call-spec =
+    tie.close
+    (tie.spec
+    check-sheet-requires
+    returns
+    judge-record-requires
+    enum-told
+    check-setup-requires
+    enum-known-j
+    returns-2
+    returns-3)

@@ -1,0 +1,129 @@
+-- `command` meets its contract: by the code of the command. Assumes nothing.
+use Rattle.runner.proofs.Laws.{is-return, is-goto, is-set, is-set-other, is-if, is-end, is-other, flows-as, flows-out}
+use Rattle.model.specs.Memory.{codedIn, linkIn}
+use native.Mathlib.Omega.{arith}
+use mathlib.Core.Path.{refl}
+use borrow.Author.Needs.{needs}
+use Rattle.runner.proofs.command.Statement.{statement}
+use Rattle.runner.proofs.command.Tie as tie
+
+mul-kind : tie.Need-mul-kind
+mul-kind c = search needs
+
+mul-kind-2 : tie.Need-mul-kind-2
+mul-kind-2 c = search needs
+
+element-copy-out-kind : tie.Need-element-copy-out-kind
+element-copy-out-kind c = search needs
+
+mul-first : tie.Need-mul-first
+mul-first c = search needs
+
+add-first : tie.Need-add-first
+add-first c = search needs
+
+mul-first-2 : tie.Need-mul-first-2
+mul-first-2 c = search needs
+
+element-copy-out-first : tie.Need-element-copy-out-first
+element-copy-out-first c = search needs
+
+mul-second : tie.Need-mul-second
+mul-second c = search needs
+
+add-second : tie.Need-add-second
+add-second c = search needs
+
+mul-second-2 : tie.Need-mul-second-2
+mul-second-2 c = search needs
+
+element-copy-out-second : tie.Need-element-copy-out-second
+element-copy-out-second c = search needs
+
+mul-block : tie.Need-mul-block
+mul-block c = search needs
+
+add-block : tie.Need-add-block
+add-block c = search needs
+
+mul-block-2 : tie.Need-mul-block-2
+mul-block-2 c = search needs
+
+element-copy-out-block : tie.Need-element-copy-out-block
+element-copy-out-block c = search needs
+
+returns : tie.Need-returns
+returns c =
+    let s = c .before .before .before .before .before .before .before .before in
+    λ n m. flows-as _ _ (is-set-other (codedIn (s .args .ws .now) (s .args .val .now) (s .args .cw .now) n m) (s .args .c) (c .before .match .keys3) (c .if1 .taken)) (flows-out (λ cs. refl))
+
+set-variable-requires : tie.Need-set-variable-requires
+set-variable-requires c κs =
+    let a = c .before .before in
+    let b = a .before .before .before .before .before .before .before in
+    (b .pre .target (a .match .keys3) (c .before .if1 .left), b .pre .value (a .match .keys3))
+
+if-else-requires : tie.Need-if-else-requires
+if-else-requires c κs = c .before .before .before .before .before .before .before .before .pre .condition (c .before .match .keys4)
+
+returns-2 : tie.Need-returns-2
+returns-2 c = let s = c .before .before .before .before .before .before .before in λ n m. flows-as _ _ (is-return (codedIn (s .args .ws .now) (s .args .val .now) (s .args .cw .now) n m) (s .args .c) (c .match .keys1)) (flows-out (λ cs. refl))
+
+returns-3 : tie.Need-returns-3
+returns-3 c = let s = c .before .before .before .before .before .before .before in λ n m. flows-as _ _ (is-goto (codedIn (s .args .ws .now) (s .args .val .now) (s .args .cw .now) n m) (s .args .c) (c .match .keys2)) (flows-out (λ cs. refl))
+
+same-length : tie.Need-same-length
+same-length c = search needs
+
+returns-4 : tie.Need-returns-4
+returns-4 c =
+    let a = c .before .before .before in
+    let b = a .before in
+    let s = b .before .before .before .before .before .before .before in
+    λ n m. flows-as _ _ (is-set (codedIn (s .args .ws .now) (s .args .val .now) (s .args .cw .now) n m) (s .args .c) (b .match .keys3) (a .if1 .left)) (c .before .set-variable .ensures n (linkIn (s .args .link)))
+
+same-length-2 : tie.Need-same-length-2
+same-length-2 c = search needs
+
+returns-5 : tie.Need-returns-5
+returns-5 c =
+    let a = c .before .before in
+    let s = a .before .before .before .before .before .before .before in
+    λ n m. flows-as _ _ (is-if (codedIn (s .args .ws .now) (s .args .val .now) (s .args .cw .now) n m) (s .args .c) (a .match .keys4)) (c .if-else .ensures n)
+
+returns-6 : tie.Need-returns-6
+returns-6 c = let s = c .before .before .before .before .before .before .before in λ n m. flows-as _ _ (is-end (codedIn (s .args .ws .now) (s .args .val .now) (s .args .cw .now) n m) (s .args .c) (c .match .keys5)) (flows-out (λ cs. refl))
+
+returns-7 : tie.Need-returns-7
+returns-7 c = let s = c .before .before .before .before .before .before .before in λ n m. flows-as _ _ (is-other (codedIn (s .args .ws .now) (s .args .val .now) (s .args .cw .now) n m) (s .args .c) (omega (arith, c .match .rest))) (flows-out (λ cs. refl))
+
+pub command-spec : {M : Type 1} → statement M
+command-spec =
+    tie.close
+    (tie.spec
+    mul-kind
+    mul-kind-2
+    element-copy-out-kind
+    mul-first
+    add-first
+    mul-first-2
+    element-copy-out-first
+    mul-second
+    add-second
+    mul-second-2
+    element-copy-out-second
+    mul-block
+    add-block
+    mul-block-2
+    element-copy-out-block
+    returns
+    set-variable-requires
+    if-else-requires
+    returns-2
+    returns-3
+    same-length
+    returns-4
+    same-length-2
+    returns-5
+    returns-6
+    returns-7)

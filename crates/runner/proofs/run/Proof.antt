@@ -1,0 +1,55 @@
+-- `run` meets its contract: where no check refuses, the record's arrays are ready and the blocks are run. Assumes nothing.
+use Rattle.runner.proofs.Checks.{call-ready, run-refused, run-bad-save, run-checked}
+use Rattle.shop.specs.Shapes.{sheetOf}
+use Rattle.model.specs.Memory.{memoryIn}
+use borrow.Author.Tests.{not-true, not-false}
+use mathlib.Core.Path.{sym, _∙_}
+use borrow.Author.Needs.{needs}
+use Rattle.runner.proofs.run.Statement.{statement}
+use Rattle.runner.proofs.run.Tie as tie
+
+check-call-requires : tie.Need-check-call-requires
+check-call-requires c κs = search needs
+
+returns : tie.Need-returns
+returns c = run-refused _ _ _ _ _ _ (c .before .check-call .ensures) (c .if1 .taken)
+
+check-save-requires : tie.Need-check-save-requires
+check-save-requires c κs = search needs
+
+same-length : tie.Need-same-length
+same-length c = search needs
+
+returns-2 : tie.Need-returns-2
+returns-2 c = run-bad-save _ _ _ _ _ _ (c .before .before .before .before .check-call .ensures) (c .before .before .before .if1 .left) (sym (c .before .check-save .ensures) ∙ not-true _ (c .if2 .taken))
+
+run-blocks-requires : tie.Need-run-blocks-requires
+run-blocks-requires c κs =
+    let a = c .before .before .before .before in
+    let b = a .before in
+    let s = b .before .before .before .before in
+    call-ready (memoryIn (s .args .ws .now) (s .args .val .now) (s .args .cw .now) (s .args .bw .now) (s .args .counts .nodes) (s .args .counts .commands) (s .args .counts .blocks)) (sheetOf (s .args .atc-of .now) (s .args .sheet)) (s .args .start .0) (sym (b .check-call .ensures) ∙ a .if1 .left)
+
+same-length-2 : tie.Need-same-length-2
+same-length-2 c = search needs
+
+returns-3 : tie.Need-returns-3
+returns-3 c =
+    let a = c .before .before .before in
+    let b = a .before in
+    let d = b .before .before in
+    let e = d .before in
+    run-checked _ _ _ _ _ _ (e .check-call .ensures) (d .if1 .left) _ (sym (b .check-save .ensures) ∙ not-false _ (a .if2 .left)) (c .before .run-blocks .ensures)
+
+pub run-spec : {M : Type 1} → statement M
+run-spec =
+    tie.close
+    (tie.spec
+    check-call-requires
+    returns
+    check-save-requires
+    same-length
+    returns-2
+    run-blocks-requires
+    same-length-2
+    returns-3)

@@ -1,0 +1,486 @@
+// The runner: commands, blocks and a budget, over a script in lent arrays and a save in lent slices.
+ghost use mathlib.Core.Path.{_≡_};
+ghost use mathlib.Core.Bool.{true};
+ghost use mathlib.Core.Option.{Option};
+ghost use mathlib.Core.List.{List};
+ghost use Prim.Native.Nat.{ℕ, _≤_, _<_};
+ghost use lib.IntN.{ℤ};
+ghost use mir.Syntax.{w16, w32};
+ghost use Rattle.model.specs.Limits.{nodeLimit, blockLimit};
+ghost use Rattle.model.specs.Signed.{inRange};
+ghost use Rattle.model.specs.Script.{setVariable, ifElse};
+ghost use Rattle.model.specs.Sheet.{all, isCount, isBit, saveOk};
+ghost use Rattle.model.specs.Judge.{setupRefusal};
+ghost use Rattle.model.specs.Run.{execute, follow, step, store, run};
+ghost use Rattle.model.specs.Memory.{Coded, nodesIn, codedIn, memoryIn, tree, commandIn, commandsIn, linkIn, scriptOf};
+ghost use Rattle.expr.specs.Value.{reads};
+ghost use Rattle.shop.specs.Shapes.{sheetOf};
+ghost use Rattle.runner.specs.Steps.{outcomeOf, Flows, Readable, Readables, Ready};
+ghost use Rattle.model.specs.RecordCalls.{runIn};
+ghost use Rattle.runner.specs.RunIn.{ranOf, saveOf, blocksOver, callIn};
+use expr::Value;
+use expr::evaluate;
+use judge::Judged;
+use judge::judge_record;
+use memory::Counts;
+use model::BlockNo;
+use shop::Sheet;
+use shop::check_sheet;
+
+// Where a block leads: to a block, to Return, to a refusal.
+enum Step {
+    Next(u16),
+    Done,
+    Halt(u8),
+}
+
+// Where a command leads: to the command after it, or out of the block.
+enum Flow {
+    On,
+    Out(Step),
+}
+
+// The refusal or 0, and the count of blocks entered.
+pub struct Ran {
+    pub refusal: u8,
+    pub entered: u32,
+}
+
+// ---- commands
+
+// A write outside the save does nothing.
+fn store_at(vars: &mut [i32], k: i32, x: i32)
+    ensures { λ _. ⌜ now (vars .exit) ≡ store (now (vars .entry)) k x ⌝ }
+{
+    if k < 0 {
+        return;
+    }
+    let i = k as usize;
+    if i < vars.len() {
+        vars[i] = x;
+    }
+}
+
+// A link is 0 for none, k + 1 for block k.
+fn follow_link(link: u16) -> Step
+    ensures { λ r. ⌜ ((v : List ℤ) → follow (linkIn link) v ≡ outcomeOf r v) ⌝ }
+{
+    if link == 0 {
+        return Step::Halt(14);
+    }
+    Step::Next(link - 1)
+}
+
+// Set evaluates target, then value, then writes.
+fn set_variable(
+    ws: &[u16; 98304],
+    val: &[i32; 32768],
+    target: u16,
+    value: u16,
+    items: &[i16],
+    atcs: &[u8],
+    flags: &[u8],
+    times: &[i16],
+    vars: &mut [i32],
+) -> Flow
+    requires { ⌜ target < nodeLimit ⌝ }
+    requires { ⌜ value < nodeLimit ⌝ }
+    ensures { λ r. ⌜ ((n : ℕ) (nx : Option ℕ) → Flows (reads (now (items .entry)) (now (atcs .entry)) (now (flags .entry)) (now (times .entry))) nx (setVariable (tree (nodesIn (now (ws .entry)) (now (val .entry)) n) target) (tree (nodesIn (now (ws .entry)) (now (val .entry)) n) value)) (now (vars .entry)) r (now (vars .exit))) ⌝ }
+{
+    let t = evaluate(ws, val, target, items, atcs, flags, times, vars);
+    match t {
+        Value::Is(k) => {
+            let e = evaluate(ws, val, value, items, atcs, flags, times, vars);
+            match e {
+                Value::Is(x) => {
+                    store_at(vars, k, x);
+                    return Flow::On;
+                }
+                Value::Refused(n) => {
+                    return Flow::Out(Step::Halt(n));
+                }
+            }
+        }
+        Value::Refused(n) => {
+            return Flow::Out(Step::Halt(n));
+        }
+    }
+}
+
+// If nonzero takes next, else its else target.
+fn if_else(
+    ws: &[u16; 98304],
+    val: &[i32; 32768],
+    condition: u16,
+    other: u16,
+    link: u16,
+    items: &[i16],
+    atcs: &[u8],
+    flags: &[u8],
+    times: &[i16],
+    vars: &[i32],
+) -> Step
+    requires { ⌜ condition < nodeLimit ⌝ }
+    ensures { λ r. ⌜ ((n : ℕ) → Flows (reads (now (items .entry)) (now (atcs .entry)) (now (flags .entry)) (now (times .entry))) (linkIn link) (ifElse (tree (nodesIn (now (ws .entry)) (now (val .entry)) n) condition) other) (now (vars .entry)) (Flow.Out r) (now (vars .entry))) ⌝ }
+{
+    let t = evaluate(ws, val, condition, items, atcs, flags, times, vars);
+    match t {
+        Value::Is(x) => {
+            if x == 0 {
+                return Step::Next(other);
+            }
+            follow_link(link)
+        }
+        Value::Refused(n) => Step::Halt(n),
+    }
+}
+
+// One command of a block whose next is link.
+fn command(
+    ws: &[u16; 98304],
+    val: &[i32; 32768],
+    cw: &[u16; 65536],
+    c: u16,
+    link: u16,
+    items: &[i16],
+    atcs: &[u8],
+    flags: &[u8],
+    times: &[i16],
+    vars: &mut [i32],
+) -> Flow
+    requires { ⌜ Readable (now cw) c ⌝ }
+    ensures { λ r. ⌜ ((n m : ℕ) → Flows (reads (now (items .entry)) (now (atcs .entry)) (now (flags .entry)) (now (times .entry))) (linkIn link) (commandIn (codedIn (now (ws .entry)) (now (val .entry)) (now (cw .entry)) n m) c) (now (vars .entry)) r (now (vars .exit))) ⌝ }
+{
+    let at = c as usize;
+    let kind = cw[4 * at];
+    let first = cw[4 * at + 1];
+    let second = cw[4 * at + 2];
+    let block = cw[4 * at + 3];
+    match kind {
+        0 => Flow::Out(Step::Done),
+        1 => Flow::Out(Step::Next(block)),
+        2 => {
+            if block != 0 {
+                return Flow::Out(Step::Halt(13));
+            }
+            set_variable(ws, val, first, second, items, atcs, flags, times, vars)
+        }
+        3 => Flow::Out(if_else(ws, val, first, block, link, items, atcs, flags, times, vars)),
+        4 => Flow::Out(Step::Next(block)),
+        _ => Flow::Out(Step::Halt(13)),
+    }
+}
+
+// ---- blocks
+
+// The commands of one block, many of them from command first on.
+fn execute_block(
+    ws: &[u16; 98304],
+    val: &[i32; 32768],
+    cw: &[u16; 65536],
+    first: u16,
+    many: u16,
+    link: u16,
+    items: &[i16],
+    atcs: &[u8],
+    flags: &[u8],
+    times: &[i16],
+    vars: &mut [i32],
+) -> Step
+    requires { ⌜ Readables (now cw) first many ⌝ }
+    ensures { λ r. ⌜ ((n m : ℕ) → outcomeOf r (now (vars .exit)) ≡ execute (reads (now (items .entry)) (now (atcs .entry)) (now (flags .entry)) (now (times .entry))) (linkIn link) (commandsIn (codedIn (now (ws .entry)) (now (val .entry)) (now (cw .entry)) n m) many first) (now (vars .entry))) ⌝ }
+{
+    let mut i = 0;
+    while i < many {
+        let f = command(
+            ws,
+            val,
+            cw,
+            first + i,
+            link,
+            items,
+            atcs,
+            flags,
+            times,
+            vars,
+        );
+        match f {
+            Flow::On => {
+                i += 1;
+            }
+            Flow::Out(s) => {
+                return s;
+            }
+        }
+    }
+    follow_link(link)
+}
+
+// Where block b leads. A block that is not code is 13, and so is one that is not there.
+fn step_block(
+    ws: &[u16; 98304],
+    val: &[i32; 32768],
+    cw: &[u16; 65536],
+    bw: &[u16; 20480],
+    counts: Counts,
+    b: u32,
+    items: &[i16],
+    atcs: &[u8],
+    flags: &[u8],
+    times: &[i16],
+    vars: &mut [i32],
+) -> Step
+    requires { ⌜ Ready (now cw) (now bw) (counts .blocks) ⌝ }
+    ensures { λ r. ⌜ outcomeOf r (now (vars .exit)) ≡ step (scriptOf (memoryIn (now (ws .entry)) (now (val .entry)) (now (cw .entry)) (now (bw .entry)) (counts .nodes) (counts .commands) (counts .blocks)) .blocks) (reads (now (items .entry)) (now (atcs .entry)) (now (flags .entry)) (now (times .entry))) b (now (vars .entry)) ⌝ }
+{
+    if b >= counts.blocks as u32 {
+        return Step::Halt(13);
+    }
+    let at = b as usize;
+    let kind = bw[5 * at];
+    if kind != 1 {
+        return Step::Halt(13);
+    }
+    let first = bw[5 * at + 1];
+    let many = bw[5 * at + 2];
+    let link = bw[5 * at + 3];
+    execute_block(
+        ws,
+        val,
+        cw,
+        first,
+        many,
+        link,
+        items,
+        atcs,
+        flags,
+        times,
+        vars,
+    )
+}
+
+// Block after block. Entering one of any kind costs 1, counts 1 and needs budget left.
+fn run_blocks(
+    ws: &[u16; 98304],
+    val: &[i32; 32768],
+    cw: &[u16; 65536],
+    bw: &[u16; 20480],
+    counts: Counts,
+    start: BlockNo,
+    items: &[i16],
+    atcs: &[u8],
+    flags: &[u8],
+    times: &[i16],
+    vars: &mut [i32],
+    budget: u32,
+) -> Ran
+    requires { ⌜ Ready (now cw) (now bw) (counts .blocks) ⌝ }
+    ensures { λ r. ⌜ ranOf r (now (vars .exit)) ≡ run (scriptOf (memoryIn (now (ws .entry)) (now (val .entry)) (now (cw .entry)) (now (bw .entry)) (counts .nodes) (counts .commands) (counts .blocks)) .blocks) (reads (now (items .entry)) (now (atcs .entry)) (now (flags .entry)) (now (times .entry))) budget (start .0) (now (vars .entry)) ⌝ }
+{
+    let mut b = start.0;
+    let mut entered = 0;
+    while entered < budget {
+        let s = step_block(ws, val, cw, bw, counts, b, items, atcs, flags, times, vars);
+        entered += 1;
+        match s {
+            Step::Next(k) => {
+                b = k as u32;
+            }
+            Step::Done => {
+                return Ran {
+                    refusal: 0,
+                    entered: entered,
+                };
+            }
+            Step::Halt(r) => {
+                return Ran {
+                    refusal: r,
+                    entered: entered,
+                };
+            }
+        }
+    }
+    Ran {
+        refusal: 15,
+        entered: entered,
+    }
+}
+
+// ---- the checks
+
+// Each item's count is 0 to 32,767; no number of 16 bits is above that.
+fn counts_ok(items: &[i16]) -> bool
+    ensures { λ r. ⌜ r ≡ all isCount (now (items .entry)) ⌝ }
+{
+    let mut i = 0;
+    while i < items.len() {
+        let x = items[i];
+        if x < 0 {
+            return false;
+        }
+        i += 1;
+    }
+    true
+}
+
+// Each is 0 or 1.
+fn bits_ok(bits: &[u8]) -> bool
+    ensures { λ r. ⌜ r ≡ all isBit (now (bits .entry)) ⌝ }
+{
+    let mut i = 0;
+    while i < bits.len() {
+        let x = bits[i];
+        if 1 < x {
+            return false;
+        }
+        i += 1;
+    }
+    true
+}
+
+// Reading a number tells that it is one of 16 bits, and so of all of them. Nothing is computed: the compiled loop is empty.
+fn shorts_known(list: &[i16])
+    ensures { λ _. ⌜ all (inRange w16) (now (list .entry)) ≡ true ⌝ }
+{
+    let mut i = 0;
+    while i < list.len() {
+        let x = list[i];
+        i += 1;
+    }
+}
+
+// The same of 32 bits.
+fn numbers_known(list: &[i32])
+    ensures { λ _. ⌜ all (inRange w32) (now (list .entry)) ≡ true ⌝ }
+{
+    let mut i = 0;
+    while i < list.len() {
+        let x = list[i];
+        i += 1;
+    }
+}
+
+// Check 12: lengths and values. Times and variables are numbers of 16 and 32 bits by their types.
+pub fn check_save(
+    atc_of: &[u8],
+    sheet: Sheet,
+    items: &[i16],
+    atcs: &[u8],
+    flags: &[u8],
+    times: &[i16],
+    vars: &[i32],
+) -> bool
+    ensures { λ r. ⌜ r ≡ saveOk (sheetOf (now («atc_of» .entry)) sheet) (saveOf (now (items .entry)) (now (atcs .entry)) (now (flags .entry)) (now (times .entry)) (now (vars .entry))) ⌝ }
+{
+    if items.len() != atc_of.len() {
+        return false;
+    }
+    if !counts_ok(items) {
+        return false;
+    }
+    if atcs.len() != sheet.atcs as usize {
+        return false;
+    }
+    if !bits_ok(atcs) {
+        return false;
+    }
+    if flags.len() != 2048 {
+        return false;
+    }
+    if !bits_ok(flags) {
+        return false;
+    }
+    shorts_known(times);
+    numbers_known(vars);
+    times.len() == 8 && vars.len() == 1024
+}
+
+// Checks 6 and 7.
+fn check_setup(bw: &[u16; 20480], blocks: u16, start: BlockNo) -> u8
+    requires { ⌜ blocks ≤ blockLimit ⌝ }
+    ensures { λ r. ⌜ ((co : Coded) → r ≡ setupRefusal (scriptOf (blocksOver co (now (bw .entry)) blocks)) (start .0)) ⌝ }
+{
+    let b = start.0;
+    if b >= blocks as u32 {
+        return 6;
+    }
+    let at = b as usize;
+    let kind = bw[5 * at];
+    if kind != 1 {
+        return 7;
+    }
+    0
+}
+
+// ---- the call
+
+// Checks 1, 2 to 5, 6 and 7, in this order: the number of the first that refuses, or 0.
+fn check_call(
+    atc_of: &[u8],
+    sheet: Sheet,
+    ws: &[u16; 98304],
+    val: &[i32; 32768],
+    cw: &[u16; 65536],
+    bw: &[u16; 20480],
+    counts: Counts,
+    start: BlockNo,
+) -> u8
+    ensures { λ r. ⌜ r ≡ callIn (sheetOf (now («atc_of» .entry)) sheet) (memoryIn (now (ws .entry)) (now (val .entry)) (now (cw .entry)) (now (bw .entry)) (counts .nodes) (counts .commands) (counts .blocks)) (start .0) ⌝ }
+{
+    if !check_sheet(atc_of, sheet) {
+        return 1;
+    }
+    let j = judge_record(ws, val, cw, bw, counts);
+    match j {
+        Judged::Fine(_) => check_setup(bw, counts.blocks, start),
+        Judged::No(k) => k,
+    }
+}
+
+// Runs the blocks from start on, with the variables in vars. Refused by 1 to 12 it enters no block and writes nothing.
+pub fn run(
+    atc_of: &[u8],
+    sheet: Sheet,
+    ws: &[u16; 98304],
+    val: &[i32; 32768],
+    cw: &[u16; 65536],
+    bw: &[u16; 20480],
+    counts: Counts,
+    start: BlockNo,
+    items: &[i16],
+    atcs: &[u8],
+    flags: &[u8],
+    times: &[i16],
+    vars: &mut [i32],
+    budget: u32,
+) -> Ran
+    ensures { λ r. ⌜ ranOf r (now (vars .exit)) ≡ runIn (sheetOf (now («atc_of» .entry)) sheet) (memoryIn (now (ws .entry)) (now (val .entry)) (now (cw .entry)) (now (bw .entry)) (counts .nodes) (counts .commands) (counts .blocks)) (start .0) (saveOf (now (items .entry)) (now (atcs .entry)) (now (flags .entry)) (now (times .entry)) (now (vars .entry))) budget ⌝ }
+{
+    let refused = check_call(atc_of, sheet, ws, val, cw, bw, counts, start);
+    if refused != 0 {
+        return Ran {
+            refusal: refused,
+            entered: 0,
+        };
+    }
+    if !check_save(atc_of, sheet, items, atcs, flags, times, vars) {
+        return Ran {
+            refusal: 12,
+            entered: 0,
+        };
+    }
+    run_blocks(
+        ws,
+        val,
+        cw,
+        bw,
+        counts,
+        start,
+        items,
+        atcs,
+        flags,
+        times,
+        vars,
+        budget,
+    )
+}
