@@ -1,0 +1,150 @@
+-- A slot's context from what the shop's functions give: how its item counts as acquired, and its sorted requirements. Assumes nothing.
+use mathlib.Core.Path.{_≡_, refl, ap, sym, _∙_}
+use mathlib.Core.Bool.{Bool}
+use mathlib.Core.Option.{Option, none, some}
+use mathlib.Core.List.{List, [], _∷_, _++_, map}
+use Prim.Native.Nat.{ℕ, zero, suc, _+_, _-_, _≤_, _<_}
+use native.Mathlib.Omega.{arith}
+use lib.IntN.{ℤ}
+use lib.ListN.{length, take, getD, replicate, length-append, length-replicate, length-map}
+use Rattle.model.specs.Limits.{entryLimit}
+use Rattle.model.specs.declared.Op1.the-variants.{Item, Atc}
+use Rattle.model.specs.Requirement.{Requirement, sorted}
+use Rattle.model.specs.Shop.{Timer, plain, five, ten, fifteen, timerOf, limitOf}
+use Rattle.model.specs.Printer.{atcEntry}
+use Rattle.model.specs.Compile.{test, itemTest, atcTest, acquiredReq, rateOf, orRate, acquiredExpr}
+use Rattle.shop.specs.declared.Sheet.{Sheet}
+use Rattle.shop.specs.declared.Slot.{Slot}
+use Rattle.shop.specs.declared.Shop.{Shop}
+use Rattle.shop.specs.declared.Reqs.{Reqs}
+use Rattle.shop.specs.declared.Timer as Kinds
+use Rattle.shop.specs.Shapes.{sheetOf, atcAt, timerIs, codeOf, requirementOf, entries, slotOf}
+use Rattle.shop.specs.Sets.{held, reqsOf, sortedReqs, sortedCodes, Exact}
+use Rattle.shop.specs.Codes.{AllNarrow, sorted-narrow, codes-narrow, sorted-code, code-stands}
+use Rattle.shop.specs.SetLaws.{held-set, sorted-few}
+use Rattle.shop.specs.Slots.{atc-for, entries-length}
+use Rattle.emit.specs.declared.Acquired.{Acquired}
+use Rattle.emit.specs.Tests.{acquiredOf}
+use Rattle.model.specs.Sheet as Model
+use Rattle.model.specs.declared.BlockNo.{BlockNo}
+use Rattle.model.specs.declared.ItemId.{ItemId}
+use Rattle.shop.specs.declared.SlotItem.the-variants.{Nothing, Of}
+use Rattle.model.specs.Compile.{slotBlocks, hideBlock}
+use Rattle.compiler.specs.declared.ItemContext.{ItemContext}
+use Rattle.compiler.specs.Parts.{rateWord, isFive, filledOf, Stands, Fitting}
+use Rattle.compiler.specs.Same.{filled-same}
+
+-- the item's atc plus 1, or 0; the item; the rate
+abbrev pub acquiredBy : ℕ → ℕ → ℕ → Acquired
+acquiredBy zero w r = record { of = Item; id = w; rate = r }
+acquiredBy (suc a) w r = record { of = Atc; id = a; rate = r }
+
+acquired-word : (t : Timer) (a w : ℕ) → acquiredOf (acquiredBy a w (rateWord t)) ≡ orRate (rateOf t) (test (acquiredReq (atcEntry a) w))
+unfolding test itemTest atcTest
+acquired-word plain zero w = refl
+acquired-word plain (suc a) w = refl
+acquired-word five zero w = refl
+acquired-word five (suc a) w = refl
+acquired-word ten zero w = refl
+acquired-word ten (suc a) w = refl
+acquired-word fifteen zero w = refl
+acquired-word fifteen (suc a) w = refl
+
+pub acquired-same : (ks : List ℕ) (h : Sheet) (w : ℕ) → acquiredOf (acquiredBy (atcAt ks w) w (rateWord (timerOf (sheetOf ks h) w))) ≡ acquiredExpr (sheetOf ks h) w
+unfolding acquiredExpr
+acquired-same ks h w =
+    acquired-word (timerOf (sheetOf ks h) w) (atcAt ks w) w
+    ∙ ap (λ (a : Option ℕ). orRate (rateOf (timerOf (sheetOf ks h) w)) (test (acquiredReq a w))) (sym (atc-for ks h w))
+
+pub rate-low : (a w : ℕ) (t : Timer) → acquiredBy a w (rateWord t) .rate < 32768
+rate-low zero w plain = omega arith
+rate-low zero w five = omega arith
+rate-low zero w ten = omega arith
+rate-low zero w fifteen = omega arith
+rate-low (suc a) w plain = omega arith
+rate-low (suc a) w five = omega arith
+rate-low (suc a) w ten = omega arith
+rate-low (suc a) w fifteen = omega arith
+
+-- ---- the sorted requirements
+
+codes-stand : (rs : List Requirement) → AllNarrow rs → map requirementOf (map codeOf rs) ≡ rs
+codes-stand [] p = refl
+codes-stand (r ∷ rs) p = rw (code-stands r (p .0), codes-stand rs (p .1))
+
+pub record Standing (x : Slot) (s : Reqs) : Type 0 where
+  pub few : s .len ≤ entryLimit
+  pub long : length (s .codes) ≡ entryLimit
+  pub is : map requirementOf (take (s .len) (s .codes)) ≡ sorted (slotOf x .requirements)
+
+-- what the set of a slot stands for
+pub sorted-stands : (x : Slot) → Exact x → Standing x (sortedReqs x)
+unfolding slotOf reqsOf
+sorted-stands x e =
+    let rs : List Requirement = sorted (map requirementOf (entries (x .len) (x .requirements))) in
+    let n = codes-narrow (entries (x .len) (x .requirements)) in
+    let few : length (map codeOf rs) ≤ entryLimit
+    = omega (arith, ap length (sorted-code (map requirementOf (entries (x .len) (x .requirements))) n), sorted-few (map codeOf (map requirementOf (entries (x .len) (x .requirements)))), ap length (e .same), entries-length (x .len) (x .requirements), e .few) in
+    record {
+      few = few;
+      long = simp (length-append, length-replicate) (omega arith);
+      is = ap (map requirementOf) (held-set (map codeOf rs)) ∙ codes-stand rs (sorted-narrow (map requirementOf (entries (x .len) (x .requirements))) n);
+    }
+
+pub acquired-atc : (a w r : ℕ) → (a ≡ 0 → ⊥) → record { of = Atc; id = a - 1; rate = r } ≡ acquiredBy a w r
+acquired-atc zero w r h = absurd (h refl)
+acquired-atc (suc a) w r h = let e : suc a - 1 ≡ a = omega arith in rw e
+
+-- ---- the context of a slot on a sheet
+
+pub record Context (x : ItemContext) (h : Model.Sheet) (y : Slot) (i : ℕ) (e : BlockNo) (w : ItemId) : Type 0 where
+  pub stands : Stands x h (y .limit) (sorted (slotOf y .requirements))
+  pub index : x .index ≡ i
+  pub end : x .end ≡ e
+  pub item : x .item ≡ w
+
+-- its blocks are the slot's
+pub context-blocks : (x : ItemContext) (h : Model.Sheet) (y : Slot) (i : ℕ) (e : BlockNo) (w : ItemId) → Context x h y i e w
+    → y .item ≡ Of w → filledOf x ≡ slotBlocks h i (e .0) (slotOf y)
+unfolding slotBlocks slotOf
+context-blocks x h y i e w c o =
+    filled-same x h (y .limit) (sorted (slotOf y .requirements)) (c .stands)
+    ∙ rw (c .index, c .end, c .item, o)
+
+pub context-fits : (x : ItemContext) (h : Model.Sheet) (y : Slot) (i : ℕ) (e : BlockNo) (w : ItemId) → Context x h y i e w → i < 20 → Fitting x
+context-fits x h y i e w c l = record { index = omega (arith, c .index); few = c .stands .few; rate = c .stands .rate }
+
+-- from the answers of the functions that make it
+pub context-made : (ks : List ℕ) (h : Sheet) (y : Slot) (i : ℕ) (e : BlockNo) (w : ItemId) (t : Kinds.Timer) (r l : ℕ) (a : Acquired) (f : Bool) (s : Reqs)
+    → timerIs t ≡ timerOf (sheetOf ks h) (w .0) → r ≡ rateWord (timerIs t) → a ≡ acquiredBy (atcAt ks (w .0)) (w .0) r
+    → l ≡ limitOf (sheetOf ks h) (w .0) (y .limit) → f ≡ isFive (timerIs t) → Exact y → s ≡ sortedReqs y
+    → Context (record { index = i; item = w; limit = l; end = e; acquired = a; five = f; ten = h .timer10; fifteen = h .timer15; codes = s .codes; len = s .len }) (sheetOf ks h) y i e w
+unfolding sheetOf
+context-made ks h y i e w t r l a f s et er ea el ef ex es =
+    let q : a ≡ acquiredBy (atcAt ks (w .0)) (w .0) (rateWord (timerOf (sheetOf ks h) (w .0))) = ea ∙ ap (λ (n : ℕ). acquiredBy (atcAt ks (w .0)) (w .0) n) (er ∙ ap rateWord et) in
+    let d : Standing y s = rw es (sorted-stands y ex) in
+    record {
+      stands = record {
+        limit = el;
+        acquired = ap acquiredOf q ∙ acquired-same ks h (w .0);
+        rate = rw q (rate-low (atcAt ks (w .0)) (w .0) (timerOf (sheetOf ks h) (w .0)));
+        five = ef ∙ ap isFive et;
+        ten = refl;
+        fifteen = refl;
+        few = d .few;
+        long = d .long;
+        requirements = d .is;
+      };
+      index = refl;
+      end = refl;
+      item = refl;
+    }
+
+-- no item: H alone, whatever the requirements are
+pub none-blocks : (h : Model.Sheet) (y : Slot) (i e : ℕ) → y .item ≡ Nothing → slotBlocks h i e (slotOf y) ≡ hideBlock e i ∷ []
+unfolding slotBlocks slotOf
+none-blocks h y i e o = rw o
+
+-- check 8 leaves no slot that is not exact
+pub record AllExact (s : Shop) : Type 0 where
+  pub slot : (i : ℕ) (d : Slot) → i < length (s .slots) → Exact (getD (s .slots) i d)

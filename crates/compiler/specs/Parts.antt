@@ -1,0 +1,101 @@
+-- The blocks of a slot from its context, in the order in which the code pushes them. Assumes nothing: these are definitions.
+-- Block numbers are counted from End, as the code counts them; Same.antt holds them against the definition.
+use mathlib.Core.Path.{_≡_}
+use mathlib.Core.Bool.{Bool, true, false, cond}
+use mathlib.Core.List.{List, [], _∷_, map}
+use Prim.Native.Nat.{ℕ, zero, suc, _+_, _≤_, _<_}
+use lib.Dec.{leb}
+use lib.IntN.{ℤ, pos}
+use lib.ListN.{length, take}
+use Rattle.model.specs.Limits.{slotCount, entryLimit}
+use Rattle.model.specs.Expr.{Expr, imm16}
+use Rattle.model.specs.Script.{Block}
+use Rattle.model.specs.Requirement.{Requirement}
+use Rattle.model.specs.Sheet as Model
+use Rattle.model.specs.Shop.{Timer, plain, five, ten, fifteen, timerOf, limitOf}
+use Rattle.model.specs.Compile.{acquiredExpr, itemExpr, hideBlock, ifBlock, tempVar, resetBlock, remainingBlock}
+use Rattle.shop.specs.Shapes.{requirementOf}
+use Rattle.emit.specs.Tests.{acquiredOf, missingAnd, bothMissing, joinCodes}
+use Rattle.emit.specs.Values.{slotBlock}
+use Rattle.compiler.specs.declared.ItemContext.{ItemContext}
+
+-- D, N, D2 and S: item and count v, by EndIf or not
+abbrev pub itemBlock : ItemContext → Bool → Expr → Block
+itemBlock x b v = slotBlock b (x .end .0) (x .index) (itemExpr (x .item .0)) v
+
+-- above N, which is block n: for Timer5 D2 and T, then V, whose else is k
+abbrev pub enableBy : Bool → ItemContext → ℕ → ℕ → List Block
+enableBy false x k n = ifBlock n (missingAnd (x .acquired) (x .codes) (x .len)) k ∷ []
+enableBy true x k n =
+    itemBlock x true (imm16 (pos 0))
+    ∷ ifBlock (n + 1) (bothMissing (x .ten .0) (x .fifteen .0)) n
+    ∷ ifBlock (n + 2) (missingAnd (x .acquired) (x .codes) (x .len)) k
+    ∷ []
+
+abbrev pub enableOf : ItemContext → ℕ → ℕ → List Block
+enableOf x k n = enableBy (x .five) x k n
+
+-- what follows H, by the number of requirements
+abbrev pub uniqueBy : ℕ → ItemContext → List Block
+uniqueBy zero x = itemBlock x false (imm16 (pos 0)) ∷ itemBlock x true (imm16 (pos 1)) ∷ enableOf x (x .end .0 + 1) (x .end .0 + 2)
+uniqueBy (suc n) x =
+    itemBlock x true (imm16 (pos 0))
+    ∷ ifBlock (x .end .0 + 2) (acquiredOf (x .acquired)) (x .end .0 + 1)
+    ∷ itemBlock x true (imm16 (pos 1))
+    ∷ enableOf x (x .end .0 + 3) (x .end .0 + 4)
+
+abbrev pub uniqueOf : ItemContext → List Block
+uniqueOf x = uniqueBy (x .len) x
+
+abbrev pub limitBy : ℕ → ItemContext → List Block
+limitBy zero x = itemBlock x false tempVar ∷ resetBlock (x .end .0 + 1) ∷ remainingBlock (x .limit) (x .item .0) (x .end .0 + 1) ∷ []
+limitBy (suc n) x =
+    itemBlock x true tempVar
+    ∷ resetBlock (x .end .0 + 2)
+    ∷ remainingBlock (x .limit) (x .item .0) (x .end .0 + 2)
+    ∷ ifBlock (x .end .0 + 4) (joinCodes (x .codes) (x .len)) (x .end .0 + 1)
+    ∷ []
+
+abbrev pub limitIn : ItemContext → List Block
+limitIn x = limitBy (x .len) x
+
+abbrev pub soldOf : ItemContext → List Block
+soldOf x = cond (leb (x .limit) 1) (uniqueOf x) (limitIn x)
+
+abbrev pub filledBy : ℕ → ItemContext → List Block
+filledBy zero x = soldOf x
+filledBy (suc n) x = hideBlock (x .end .0) (x .index) ∷ soldOf x
+
+abbrev pub filledOf : ItemContext → List Block
+filledOf x = filledBy (x .len) x
+
+-- what the functions want of a context
+pub record Fitting (x : ItemContext) : Type 0 where
+  pub index : x .index < slotCount
+  pub few : x .len ≤ entryLimit
+  pub rate : x .acquired .rate < 32768
+
+-- a rate, 0 where there is none
+abbrev pub rateWord : Timer → ℕ
+rateWord plain = 0
+rateWord five = 200
+rateWord ten = 100
+rateWord fifteen = 67
+
+abbrev pub isFive : Timer → Bool
+isFive plain = false
+isFive five = true
+isFive ten = false
+isFive fifteen = false
+
+-- a context on sheet h: limit z as given, requirements rs as sorted
+pub record Stands (x : ItemContext) (h : Model.Sheet) (z : ℤ) (rs : List Requirement) : Type 0 where
+  pub limit : x .limit ≡ limitOf h (x .item .0) z
+  pub acquired : acquiredOf (x .acquired) ≡ acquiredExpr h (x .item .0)
+  pub rate : x .acquired .rate < 32768
+  pub five : x .five ≡ isFive (timerOf h (x .item .0))
+  pub ten : x .ten .0 ≡ h .timer10
+  pub fifteen : x .fifteen .0 ≡ h .timer15
+  pub few : x .len ≤ entryLimit
+  pub long : length (x .codes) ≡ entryLimit
+  pub requirements : map requirementOf (take (x .len) (x .codes)) ≡ rs

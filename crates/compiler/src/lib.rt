@@ -1,0 +1,396 @@
+// The compiler: a shop's slots as blocks appended to a script, the exact count for 9, and the call with its checks.
+ghost use mathlib.Core.Path.{_≡_};
+ghost use mathlib.Core.List.{[], _∷_};
+ghost use Prim.Native.Nat.{_+_, _-_, _≤_, _<_};
+ghost use Rattle.model.specs.Compile.{hideBlock, slotBlocks, slotsBlocks, shopBlocks};
+ghost use Rattle.memory.specs.Sound.{Room};
+ghost use Rattle.emit.specs.Put.{PutBlocks, memoryOf};
+ghost use Rattle.emit.specs.Values.{valueExpr};
+ghost use Rattle.compiler.specs.Parts.{itemBlock, enableOf, uniqueOf, limitIn, soldOf, filledOf, Fitting, rateWord, isFive};
+ghost use Rattle.compiler.specs.Context.{acquiredBy, Context, AllExact};
+ghost use Rattle.shop.specs.Shapes.{atcAt, timerIs, sheetOf, slotOf, slotsOf};
+ghost use Rattle.shop.specs.Sets.{Exact};
+use emit::Acquired;
+use emit::Value;
+use emit::push_if_acquired;
+use emit::push_if_missing;
+use emit::push_if_no_timer;
+use emit::push_if_visible;
+use emit::push_remaining;
+use emit::push_reset;
+use emit::push_return;
+use emit::push_slot;
+use memory::Counts;
+use model::BlockNo;
+use model::ItemId;
+use model::Op1;
+use shop::Sheet;
+use shop::Shop;
+use shop::Slot;
+use shop::SlotItem;
+use shop::Timer;
+use shop::atc_for;
+use shop::limit_of;
+use shop::sorted;
+use shop::timer_of;
+
+const TIMER_5_RATE: u16 = 200;
+
+const TIMER_10_RATE: u16 = 100;
+
+const TIMER_15_RATE: u16 = 67;
+
+// What a slot with an item is compiled from: its number, the item, the coerced limit, the block to go to after the slot,
+// how the item counts as acquired, the other timers, the sorted requirements.
+struct ItemContext {
+    index: u16,
+    item: ItemId,
+    limit: u8,
+    end: BlockNo,
+    acquired: Acquired,
+    five: bool,
+    ten: ItemId,
+    fifteen: ItemId,
+    codes: [u64; 32],
+    len: u8,
+}
+
+// H: a slot which is hidden.
+fn compile_slot_hidden(
+    ws: &mut [u16; 98304],
+    val: &mut [i32; 32768],
+    cw: &mut [u16; 65536],
+    bw: &mut [u16; 20480],
+    k: Counts,
+    index: u16,
+    end: BlockNo,
+) -> Counts
+    requires { ⌜ Room (memoryOf (now ws) (now val) (now cw) (now bw) k) (hideBlock (end .0) index ∷ []) ⌝ }
+    requires { ⌜ (index < 20) × (end .0 < 4096) ⌝ }
+    ensures { λ m. ⌜ PutBlocks (memoryOf (now (ws .entry)) (now (val .entry)) (now (cw .entry)) (now (bw .entry)) k) (hideBlock (end .0) index ∷ []) (memoryOf (now (ws .exit)) (now (val .exit)) (now (cw .exit)) (now (bw .exit)) m) ⌝ }
+{
+    push_slot(
+        ws,
+        val,
+        cw,
+        bw,
+        k,
+        index,
+        Value::Hidden,
+        Value::Zero,
+        end,
+        false,
+    )
+}
+
+// D, N, D2 and S: the item with a count, then on to End; by EndIf where a block stands in between.
+fn compile_item(
+    ws: &mut [u16; 98304],
+    val: &mut [i32; 32768],
+    cw: &mut [u16; 65536],
+    bw: &mut [u16; 20480],
+    k: Counts,
+    x: ItemContext,
+    count: Value,
+    endif: bool,
+) -> Counts
+    requires { ⌜ Room (memoryOf (now ws) (now val) (now cw) (now bw) k) (itemBlock x endif (valueExpr count) ∷ []) ⌝ }
+    requires { ⌜ Fitting x × (x .end .0 < 4096) ⌝ }
+    ensures { λ m. ⌜ PutBlocks (memoryOf (now (ws .entry)) (now (val .entry)) (now (cw .entry)) (now (bw .entry)) k) (itemBlock x endif (valueExpr count) ∷ []) (memoryOf (now (ws .exit)) (now (val .exit)) (now (cw .exit)) (now (bw .exit)) m) ⌝ }
+{
+    let index = x.index;
+    let item = x.item;
+    let end = x.end;
+    push_slot(
+        ws,
+        val,
+        cw,
+        bw,
+        k,
+        index,
+        Value::Id(item),
+        count,
+        end,
+        endif,
+    )
+}
+
+// Above N: Timer5 is sold out where neither other timer is held (D2, T), then V.
+fn compile_enable(
+    ws: &mut [u16; 98304],
+    val: &mut [i32; 32768],
+    cw: &mut [u16; 65536],
+    bw: &mut [u16; 20480],
+    k: Counts,
+    x: ItemContext,
+    other: BlockNo,
+    enable: BlockNo,
+) -> Counts
+    requires { ⌜ Room (memoryOf (now ws) (now val) (now cw) (now bw) k) (enableOf x (other .0) (enable .0)) ⌝ }
+    requires { ⌜ Fitting x × (x .end .0 < 4096) × (other .0 < 4096) × (enable .0 ≤ k .blocks) ⌝ }
+    ensures { λ m. ⌜ PutBlocks (memoryOf (now (ws .entry)) (now (val .entry)) (now (cw .entry)) (now (bw .entry)) k) (enableOf x (other .0) (enable .0)) (memoryOf (now (ws .exit)) (now (val .exit)) (now (cw .exit)) (now (bw .exit)) m) ⌝ }
+{
+    let a = x.acquired;
+    let ten = x.ten;
+    let fifteen = x.fifteen;
+    let codes = x.codes;
+    let len = x.len;
+    if x.five {
+        let disable = BlockNo(enable.0 + 1);
+        let no_timer = BlockNo(enable.0 + 2);
+        let k1 = compile_item(ws, val, cw, bw, k, x, Value::Zero, true);
+        let k2 = push_if_no_timer(ws, val, cw, bw, k1, ten, fifteen, disable, enable);
+        return push_if_missing(ws, val, cw, bw, k2, a, codes, len, no_timer, other);
+    }
+    push_if_missing(ws, val, cw, bw, k, a, codes, len, enable, other)
+}
+
+// A slot which holds a "unique" item that can only be in the inventory once: D, [E], N and what is above.
+// Blocks are counted from End: D is the first, or H is and D the second.
+fn compile_slot_unique(
+    ws: &mut [u16; 98304],
+    val: &mut [i32; 32768],
+    cw: &mut [u16; 65536],
+    bw: &mut [u16; 20480],
+    k: Counts,
+    x: ItemContext,
+) -> Counts
+    requires { ⌜ Room (memoryOf (now ws) (now val) (now cw) (now bw) k) (uniqueOf x) ⌝ }
+    requires { ⌜ Fitting x × (x .end .0 + 1 ≤ k .blocks) ⌝ }
+    ensures { λ m. ⌜ PutBlocks (memoryOf (now (ws .entry)) (now (val .entry)) (now (cw .entry)) (now (bw .entry)) k) (uniqueOf x) (memoryOf (now (ws .exit)) (now (val .exit)) (now (cw .exit)) (now (bw .exit)) m) ⌝ }
+{
+    let a = x.acquired;
+    let end = x.end;
+    let first = BlockNo(end.0 + 1);
+    let second = BlockNo(end.0 + 2);
+    if x.len == 0 {
+        let k1 = compile_item(ws, val, cw, bw, k, x, Value::Zero, false);
+        let k2 = compile_item(ws, val, cw, bw, k1, x, Value::One, true);
+        return compile_enable(ws, val, cw, bw, k2, x, first, second);
+    }
+    let third = BlockNo(end.0 + 3);
+    let fourth = BlockNo(end.0 + 4);
+    let k3 = compile_item(ws, val, cw, bw, k, x, Value::Zero, true);
+    let k4 = push_if_acquired(ws, val, cw, bw, k3, a, second, first);
+    let k5 = compile_item(ws, val, cw, bw, k4, x, Value::One, true);
+    compile_enable(ws, val, cw, bw, k5, x, third, fourth)
+}
+
+// A slot which may hold more than one item: S, Z, M, [If R].
+fn compile_slot_limit(
+    ws: &mut [u16; 98304],
+    val: &mut [i32; 32768],
+    cw: &mut [u16; 65536],
+    bw: &mut [u16; 20480],
+    k: Counts,
+    x: ItemContext,
+) -> Counts
+    requires { ⌜ Room (memoryOf (now ws) (now val) (now cw) (now bw) k) (limitIn x) ⌝ }
+    requires { ⌜ Fitting x × (x .end .0 + 1 ≤ k .blocks) ⌝ }
+    ensures { λ m. ⌜ PutBlocks (memoryOf (now (ws .entry)) (now (val .entry)) (now (cw .entry)) (now (bw .entry)) k) (limitIn x) (memoryOf (now (ws .exit)) (now (val .exit)) (now (cw .exit)) (now (bw .exit)) m) ⌝ }
+{
+    let item = x.item;
+    let limit = x.limit;
+    let end = x.end;
+    let codes = x.codes;
+    let len = x.len;
+    let first = BlockNo(end.0 + 1);
+    if len == 0 {
+        let k1 = compile_item(ws, val, cw, bw, k, x, Value::TempVar, false);
+        let k2 = push_reset(ws, val, cw, bw, k1, first);
+        return push_remaining(ws, val, cw, bw, k2, limit, item, first);
+    }
+    let second = BlockNo(end.0 + 2);
+    let fourth = BlockNo(end.0 + 4);
+    let k3 = compile_item(ws, val, cw, bw, k, x, Value::TempVar, true);
+    let k4 = push_reset(ws, val, cw, bw, k3, second);
+    let k5 = push_remaining(ws, val, cw, bw, k4, limit, item, second);
+    push_if_visible(ws, val, cw, bw, k5, codes, len, fourth, first)
+}
+
+// After H, if there is one: a limit of 1 needs only 1 or 0 as the count, a higher one what is left of it.
+fn compile_slot_item(
+    ws: &mut [u16; 98304],
+    val: &mut [i32; 32768],
+    cw: &mut [u16; 65536],
+    bw: &mut [u16; 20480],
+    k: Counts,
+    x: ItemContext,
+) -> Counts
+    requires { ⌜ Room (memoryOf (now ws) (now val) (now cw) (now bw) k) (soldOf x) ⌝ }
+    requires { ⌜ Fitting x × (x .end .0 + 1 ≤ k .blocks) ⌝ }
+    ensures { λ m. ⌜ PutBlocks (memoryOf (now (ws .entry)) (now (val .entry)) (now (cw .entry)) (now (bw .entry)) k) (soldOf x) (memoryOf (now (ws .exit)) (now (val .exit)) (now (cw .exit)) (now (bw .exit)) m) ⌝ }
+{
+    if x.limit <= 1 {
+        return compile_slot_unique(ws, val, cw, bw, k, x);
+    }
+    compile_slot_limit(ws, val, cw, bw, k, x)
+}
+
+// A slot with an item: requirements need a block that hides it.
+fn compile_slot_filled(
+    ws: &mut [u16; 98304],
+    val: &mut [i32; 32768],
+    cw: &mut [u16; 65536],
+    bw: &mut [u16; 20480],
+    k: Counts,
+    x: ItemContext,
+) -> Counts
+    requires { ⌜ Room (memoryOf (now ws) (now val) (now cw) (now bw) k) (filledOf x) ⌝ }
+    requires { ⌜ Fitting x × (x .end .0 + 1 ≤ k .blocks) ⌝ }
+    ensures { λ m. ⌜ PutBlocks (memoryOf (now (ws .entry)) (now (val .entry)) (now (cw .entry)) (now (bw .entry)) k) (filledOf x) (memoryOf (now (ws .exit)) (now (val .exit)) (now (cw .exit)) (now (bw .exit)) m) ⌝ }
+{
+    let index = x.index;
+    let end = x.end;
+    if x.len == 0 {
+        return compile_slot_item(ws, val, cw, bw, k, x);
+    }
+    let k1 = compile_slot_hidden(ws, val, cw, bw, k, index, end);
+    compile_slot_item(ws, val, cw, bw, k1, x)
+}
+
+// The rate of a timer that counts as having it; 0 for any other item.
+fn rate_of(timer: Timer) -> u16
+    ensures { λ r. ⌜ r ≡ rateWord (timerIs timer) ⌝ }
+{
+    match timer {
+        Timer::Plain => 0,
+        Timer::Five => TIMER_5_RATE,
+        Timer::Ten => TIMER_10_RATE,
+        Timer::Fifteen => TIMER_15_RATE,
+    }
+}
+
+fn is_five(timer: Timer) -> bool
+    ensures { λ r. ⌜ r ≡ isFive (timerIs timer) ⌝ }
+{
+    match timer {
+        Timer::Plain => false,
+        Timer::Five => true,
+        Timer::Ten => false,
+        Timer::Fifteen => false,
+    }
+}
+
+// If the item has a corresponding atc, that is the source of truth.
+fn acquired_of(attached: &[u8], item: ItemId, rate: u16) -> Acquired
+    ensures { λ r. ⌜ r ≡ acquiredBy (atcAt (now (attached .entry)) (item .0)) (item .0) rate ⌝ }
+{
+    let atc = atc_for(attached, item);
+    if atc == 0 {
+        return Acquired {
+            of: Op1::Item,
+            id: item.0,
+            rate: rate,
+        };
+    }
+    Acquired {
+        of: Op1::Atc,
+        id: (atc - 1) as u16,
+        rate: rate,
+    }
+}
+
+// ItemContext::new
+fn item_context(
+    attached: &[u8],
+    sheet: Sheet,
+    slot: Slot,
+    item: ItemId,
+    index: u16,
+    end: BlockNo,
+) -> ItemContext
+    requires { ⌜ Exact slot ⌝ }
+    ensures { λ r. ⌜ Context r (sheetOf (now (attached .entry)) sheet) slot index end item ⌝ }
+{
+    let timer = timer_of(sheet, item);
+    let a = acquired_of(attached, item, rate_of(timer));
+    let limit = limit_of(attached, sheet, item, slot.limit);
+    let reqs = sorted(slot);
+    let codes = reqs.codes;
+    let ten = sheet.timer10;
+    let fifteen = sheet.timer15;
+    ItemContext {
+        index: index,
+        item: item,
+        limit: limit,
+        end: end,
+        acquired: a,
+        five: is_five(timer),
+        ten: ten,
+        fifteen: fifteen,
+        codes: codes,
+        len: reqs.len,
+    }
+}
+
+// Compiles code for filling in slot at index. It ends at the block last pushed before it.
+fn compile_slot(
+    attached: &[u8],
+    sheet: Sheet,
+    ws: &mut [u16; 98304],
+    val: &mut [i32; 32768],
+    cw: &mut [u16; 65536],
+    bw: &mut [u16; 20480],
+    k: Counts,
+    slot: Slot,
+    index: u16,
+) -> Counts
+    requires { ⌜ Room (memoryOf (now ws) (now val) (now cw) (now bw) k) (slotBlocks (sheetOf (now attached) sheet) index (k .blocks - 1) (slotOf slot)) ⌝ }
+    requires { ⌜ Exact slot × (index < 20) × (0 < k .blocks) ⌝ }
+    ensures { λ m. ⌜ PutBlocks (memoryOf (now (ws .entry)) (now (val .entry)) (now (cw .entry)) (now (bw .entry)) k) (slotBlocks (sheetOf (now (attached .entry)) sheet) index (k .blocks - 1) (slotOf slot)) (memoryOf (now (ws .exit)) (now (val .exit)) (now (cw .exit)) (now (bw .exit)) m) ⌝ }
+{
+    let end = BlockNo((k.blocks - 1) as u32);
+    let item = slot.item;
+    match item {
+        SlotItem::Nothing => compile_slot_hidden(ws, val, cw, bw, k, index, end),
+        SlotItem::Of(w) => {
+            let x = item_context(attached, sheet, slot, w, index, end);
+            compile_slot_filled(ws, val, cw, bw, k, x)
+        }
+    }
+}
+
+// All slots in reverse, so that each ends at the one above it.
+fn compile_slots(
+    attached: &[u8],
+    sheet: Sheet,
+    ws: &mut [u16; 98304],
+    val: &mut [i32; 32768],
+    cw: &mut [u16; 65536],
+    bw: &mut [u16; 20480],
+    k: Counts,
+    shop: Shop,
+) -> Counts
+    requires { ⌜ Room (memoryOf (now ws) (now val) (now cw) (now bw) k) (slotsBlocks (sheetOf (now attached) sheet) (k .blocks - 1) 0 (slotsOf shop)) ⌝ }
+    requires { ⌜ AllExact shop × (0 < k .blocks) ⌝ }
+    ensures { λ m. ⌜ PutBlocks (memoryOf (now (ws .entry)) (now (val .entry)) (now (cw .entry)) (now (bw .entry)) k) (slotsBlocks (sheetOf (now (attached .entry)) sheet) (k .blocks - 1) 0 (slotsOf shop)) (memoryOf (now (ws .exit)) (now (val .exit)) (now (cw .exit)) (now (bw .exit)) m) ⌝ }
+{
+    let mut at = k;
+    let mut i = 20;
+    while 0 < i {
+        i -= 1;
+        let slot = shop.slots[i];
+        at = compile_slot(attached, sheet, ws, val, cw, bw, at, slot, i as u16);
+    }
+    at
+}
+
+// ShopCompiler::compile: the Return block, then the slots; the root is the block last pushed.
+pub fn compile_shop(
+    attached: &[u8],
+    sheet: Sheet,
+    ws: &mut [u16; 98304],
+    val: &mut [i32; 32768],
+    cw: &mut [u16; 65536],
+    bw: &mut [u16; 20480],
+    k: Counts,
+    shop: Shop,
+) -> Counts
+    requires { ⌜ Room (memoryOf (now ws) (now val) (now cw) (now bw) k) (shopBlocks (sheetOf (now attached) sheet) (k .blocks) (slotsOf shop)) ⌝ }
+    requires { ⌜ AllExact shop ⌝ }
+    ensures { λ m. ⌜ PutBlocks (memoryOf (now (ws .entry)) (now (val .entry)) (now (cw .entry)) (now (bw .entry)) k) (shopBlocks (sheetOf (now (attached .entry)) sheet) (k .blocks) (slotsOf shop)) (memoryOf (now (ws .exit)) (now (val .exit)) (now (cw .exit)) (now (bw .exit)) m) ⌝ }
+{
+    let k1 = push_return(ws, val, cw, bw, k);
+    compile_slots(attached, sheet, ws, val, cw, bw, k1, shop)
+}

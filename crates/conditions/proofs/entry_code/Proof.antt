@@ -1,0 +1,33 @@
+use mathlib.Core.Path.{_≡_, refl, sym, ap, _∙_}
+use mathlib.Core.Logic.{⊎-elim}
+use Prim.Native.Nat.{ℕ, _+_, _*_, _-_, _<_, _≤_}
+use denote.Ref.{now}
+use native.Mathlib.Omega.{arith}
+use borrow.Author.Tests.{not-true, not-false}
+use Rattle.conditions.proofs.Sweeps.{refused-set, stays-not, stays, key-small, entry-have, entry-missing, Sweeping, sweeping-start, sweeping-end, sweeping-pass, sweeping-on, sweeping-many, entry-at}
+use borrow.Author.Needs.{needs}
+use Rattle.conditions.proofs.entry_code.Statement.{statement}
+use Rattle.conditions.proofs.entry_code.Tie as tie
+
+index-of-requires : tie.Need-index-of-requires
+index-of-requires c κs = search needs
+
+mul-key : tie.Need-mul-key
+mul-key c = search needs
+
+element-copy-out-key : tie.Need-element-copy-out-key
+element-copy-out-key c = search needs
+
+returns : tie.Need-returns
+returns c = entry-have (now (c .before .before .before .args .keys)) (c .before .before .before .args .m) (c .before .before .before .args .k) _ (c .before .before .before .pre .0) (c .before .before .before .pre .1) (c .before .before .index-of .ensures) (c .if1 .taken)
+
+add-result : tie.Need-add-result
+add-result c = omega (arith, key-small (now (c .before .before .before .args .keys)) (c .before .before .before .args .m) (c .before .before .before .args .k) (c .before .before .index-of .result) (c .before .before .before .pre .0) (c .before .before .before .pre .1) (c .before .before .index-of .ensures))
+
+returns-2 : tie.Need-returns-2
+returns-2 c = entry-missing (now (c .before .before .before .args .keys)) (c .before .before .before .args .m) (c .before .before .before .args .k) _ (c .before .before .before .pre .0) (c .before .before .before .pre .1) (c .before .before .index-of .ensures) (c .if1 .left)
+
+pub entry-code-spec : {M : Type 1} → statement M
+entry-code-spec =
+    tie.close
+    (tie.spec index-of-requires mul-key element-copy-out-key returns add-result returns-2)

@@ -1,0 +1,19 @@
+use mathlib.Core.Path.{_≡_, refl, sym, ap, _∙_}
+use Prim.Native.Nat.{ℕ, _+_, _*_, _-_, _<_, _≤_, _%_}
+use native.Mathlib.Omega.{arith}
+use borrow.Author.Tests.{lt-ltb, le-ltb, eq-eqb, ne-eqb, not-true, not-false}
+use borrow.Author.Needs.{needs}
+use Rattle.conditions.proofs.flag_code.Statement.{statement}
+use Rattle.conditions.proofs.flag_code.Tie as tie
+
+add-result : tie.Need-add-result
+add-result c = search needs
+
+returns : tie.Need-returns
+returns c = sym (rw (lt-ltb (c .before .args .s) 4294967296 (c .if1 .taken)))
+
+returns-2 : tie.Need-returns-2
+returns-2 c = sym (rw (le-ltb (c .before .args .s) 4294967296 (c .if1 .left)))
+
+pub flag-code-spec : {M : Type 1} → statement M
+flag-code-spec = tie.close (tie.spec add-result returns returns-2)

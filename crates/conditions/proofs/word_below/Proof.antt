@@ -1,0 +1,27 @@
+use mathlib.Core.Path.{_≡_, refl, sym, ap, _∙_}
+use mathlib.Core.List.{List}
+use Prim.Native.Nat.{ℕ, _+_, _*_, _-_, _<_, _≤_, _%_}
+use native.Mathlib.Omega.{arith}
+use borrow.Author.Tests.{lt-ltb, le-ltb, eq-eqb, ne-eqb, not-true, not-false}
+use denote.Ref.{now}
+use Rattle.model.specs.Memory.{nodesIn}
+use Rattle.conditions.specs.Reads.{sheetBy}
+use Rattle.conditions.proofs.Words.{read-law, compare-law, read-subject, room, worded-compared, worded-read}
+use borrow.Author.Needs.{needs}
+use Rattle.conditions.proofs.word_below.Statement.{statement}
+use Rattle.conditions.proofs.word_below.Tie as tie
+
+mul-result : tie.Need-mul-result
+mul-result c = search needs
+
+element-copy-out-result : tie.Need-element-copy-out-result
+element-copy-out-result c = search needs
+
+returns : tie.Need-returns
+returns c = sym (rw (lt-ltb (c .before .before .args .i) (c .before .before .args .b) (c .before .if1 .taken)))
+
+returns-2 : tie.Need-returns-2
+returns-2 c = sym (rw (le-ltb (c .before .args .i) (c .before .args .b) (c .if1 .left)))
+
+pub word-below-spec : {M : Type 1} → statement M
+word-below-spec = tie.close (tie.spec mul-result element-copy-out-result returns returns-2)

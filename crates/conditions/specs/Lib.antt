@@ -1,0 +1,10 @@
+pub mod Entries
+pub mod Turns
+pub mod Search
+pub mod Reads
+pub mod Marks
+pub mod MarkLaws
+pub mod Chains
+pub mod Sweep
+pub mod Filter
+pub mod Cells

@@ -1,0 +1,33 @@
+-- What the functions that append commands and blocks promise. The counts follow from the rest. Assumes nothing: these are definitions.
+use mathlib.Core.Path.{_≡_}
+use mathlib.Core.List.{List}
+use Prim.Native.Nat.{ℕ, _+_}
+use lib.IntN.{ℤ}
+use lib.ListN.{length}
+use Rattle.model.specs.Expr.{imm}
+use Rattle.model.specs.Script.{Command, Block, commandsNodes, blockCommands, blockNodes, sumOf}
+use Rattle.model.specs.Memory.{Nodes, Coded, Memory, codedIn, memoryIn, putExpr, putCommands, putBlocks}
+use Rattle.memory.specs.declared.Counts.{Counts}
+
+-- the record behind the lent arrays, with its kept counts
+abbrev pub codedOf : List ℕ → List ℤ → List ℕ → Counts → Coded
+codedOf ws vs cw k = codedIn ws vs cw (k .nodes) (k .commands)
+
+abbrev pub memoryOf : List ℕ → List ℤ → List ℕ → List ℕ → Counts → Memory
+memoryOf ws vs cw bw k = memoryIn ws vs cw bw (k .nodes) (k .commands) (k .blocks)
+
+-- Imm16 or Imm32, as the number wants
+pub record PutImm (s : Nodes) (z : ℤ) (t : Nodes) : Type 0 where
+  pub is : t ≡ putExpr s (imm z)
+  pub counted : t .count ≡ s .count + 1
+
+pub record PutCommands (s : Coded) (cs : List Command) (t : Coded) : Type 0 where
+  pub is : t ≡ putCommands s cs
+  pub counted : t .count ≡ s .count + length cs
+  pub nodes-counted : t .nodes .count ≡ s .nodes .count + commandsNodes cs
+
+pub record PutBlocks (s : Memory) (xs : List Block) (t : Memory) : Type 0 where
+  pub is : t ≡ putBlocks s xs
+  pub counted : t .count ≡ s .count + length xs
+  pub commands-counted : t .coded .count ≡ s .coded .count + sumOf blockCommands xs
+  pub nodes-counted : t .coded .nodes .count ≡ s .coded .nodes .count + sumOf blockNodes xs

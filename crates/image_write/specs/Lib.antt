@@ -1,0 +1,8 @@
+-- The writer's promises and the laws that carry them. Assumes nothing.
+pub mod Stored
+pub mod Words
+pub mod Nodes
+pub mod Commands
+pub mod Blocks
+pub mod Loop
+pub mod Call

@@ -1,0 +1,346 @@
+// Writing a script record as its image: judged first, then measured against the slice, then written piece by piece.
+ghost use mathlib.Core.Path.{_≡_};
+ghost use Prim.Native.Nat.{_+_, _≤_, _<_};
+ghost use Rattle.model.specs.Reading.{wordTo, word, zig};
+ghost use Rattle.model.specs.Laws.Reading.{room};
+ghost use Rattle.model.specs.Memory.{nodesIn, memoryIn};
+ghost use Rattle.model.specs.Record.{nodeImage, rootImage, commandTail, commandImageIn, commandsImageIn, blockTail, blocksImageIn, recordImage};
+ghost use Rattle.model.specs.RecordCalls.{writeIn};
+ghost use Rattle.judge.specs.Told.{nodesBy, codedBy, memoryBy, KeptBy};
+ghost use Rattle.judge.specs.Stages.{blockImageIn};
+ghost use Rattle.image_write.specs.Stored.{Stored, Room};
+ghost use Rattle.image_write.specs.Call.{wrote, lengthIn};
+use judge::Judged;
+use judge::folded;
+use judge::judge_record;
+use memory::Counts;
+use memory::index_of;
+use memory::kind_of;
+use model::Kind;
+
+// The refusal's number, or 0 and the length of the image in bytes.
+pub struct Written {
+    pub refusal: u8,
+    pub len: usize,
+}
+
+// ---- numbers
+
+fn low_byte(x: u64) -> u8
+    requires { ⌜ x < 256 ⌝ }
+    ensures { λ r. ⌜ r ≡ x ⌝ }
+{
+    x as u8
+}
+
+// The groups of v, low one first, of which there are at most f.
+fn write_groups(out: &mut [u8], at: usize, v: u64, f: u8) -> usize
+    requires { ⌜ (v < room f) × (0 < f) × Room (now out) at (wordTo f v) ⌝ }
+    ensures { λ r. ⌜ Stored (now (out .entry)) at (wordTo f v) (now (out .exit)) r ⌝ }
+{
+    if v < 128 {
+        out[at] = low_byte(v);
+        return at + 1;
+    }
+    out[at] = low_byte(v % 128 + 128);
+    write_groups(out, at + 1, v / 128, f - 1)
+}
+
+fn write_word(out: &mut [u8], at: usize, v: u64) -> usize
+    requires { ⌜ (v < 34359738368) × Room (now out) at (word v) ⌝ }
+    ensures { λ r. ⌜ Stored (now (out .entry)) at (word v) (now (out .exit)) r ⌝ }
+{
+    write_groups(out, at, v, 5)
+}
+
+// An element of an array: whoever writes it owes no proof that it is short enough.
+fn write_short(out: &mut [u8], at: usize, x: u16) -> usize
+    requires { ⌜ Room (now out) at (word x) ⌝ }
+    ensures { λ r. ⌜ Stored (now (out .entry)) at (word x) (now (out .exit)) r ⌝ }
+{
+    write_word(out, at, x as u64)
+}
+
+// A signed number, folded.
+fn write_value(out: &mut [u8], at: usize, z: i32) -> usize
+    requires { ⌜ Room (now out) at (word (zig z)) ⌝ }
+    ensures { λ r. ⌜ Stored (now (out .entry)) at (word (zig z)) (now (out .exit)) r ⌝ }
+{
+    write_word(out, at, folded(z))
+}
+
+// ---- expressions
+
+// Node i, which has to be below b: what is not is written as 19, which no image may have.
+// Calls go as deep as the expression, which the judgement keeps to 64 levels.
+fn write_expr(
+    ws: &[u16; 98304],
+    val: &[i32; 32768],
+    b: u16,
+    i: u16,
+    out: &mut [u8],
+    at: usize,
+) -> usize
+    requires { ⌜ (b ≤ 32768) × Room (now out) at (nodeImage (nodesIn (now ws) (now val) 0) b i) ⌝ }
+    ensures { λ r. ⌜ Stored (now (out .entry)) at (nodeImage (nodesIn (now (ws .entry)) (now (val .entry)) 0) b i) (now (out .exit)) r ⌝ }
+{
+    if i >= b {
+        return write_short(out, at, 19);
+    }
+    let j = i as usize;
+    let c = ws[3 * j];
+    let p = write_short(out, at, c);
+    let k = kind_of(c);
+    match k {
+        Kind::Two(_) => {
+            let q = write_expr(ws, val, i, ws[3 * j + 1], out, p);
+            write_expr(ws, val, i, ws[3 * j + 2], out, q)
+        }
+        Kind::One(_) => write_expr(ws, val, i, ws[3 * j + 1], out, p),
+        Kind::Imm16 => write_value(out, p, val[j]),
+        Kind::Imm32 => write_value(out, p, val[j]),
+        Kind::Other => p,
+    }
+}
+
+// An expression of a command: its root has to be below the kept count of nodes.
+fn write_term(
+    ws: &[u16; 98304],
+    val: &[i32; 32768],
+    counts: Counts,
+    i: u16,
+    out: &mut [u8],
+    at: usize,
+) -> usize
+    requires { ⌜ KeptBy counts × Room (now out) at (rootImage (nodesBy (now ws) (now val) counts) i) ⌝ }
+    ensures { λ r. ⌜ Stored (now (out .entry)) at (rootImage (nodesBy (now (ws .entry)) (now (val .entry)) counts) i) (now (out .exit)) r ⌝ }
+{
+    write_expr(ws, val, counts.nodes, i, out, at)
+}
+
+// ---- commands
+
+// What follows the code of a Set: the target's code, the target where it is a Variable, the value.
+fn write_set(
+    ws: &[u16; 98304],
+    val: &[i32; 32768],
+    cw: &[u16; 65536],
+    counts: Counts,
+    i: usize,
+    out: &mut [u8],
+    at: usize,
+) -> usize
+    requires { ⌜ (i < counts .commands) × KeptBy counts × Room (now out) at (commandTail (codedBy (now ws) (now val) (now cw) counts) i 2) ⌝ }
+    ensures { λ r. ⌜ Stored (now (out .entry)) at (commandTail (codedBy (now (ws .entry)) (now (val .entry)) (now (cw .entry)) counts) i 2) (now (out .exit)) r ⌝ }
+{
+    let target = cw[4 * i + 3];
+    let p = write_short(out, at, target);
+    if target == 0 {
+        let q = write_term(ws, val, counts, cw[4 * i + 1], out, p);
+        return write_term(ws, val, counts, cw[4 * i + 2], out, q);
+    }
+    write_term(ws, val, counts, cw[4 * i + 2], out, p)
+}
+
+// What follows the code of an If: condition and else block.
+fn write_if(
+    ws: &[u16; 98304],
+    val: &[i32; 32768],
+    cw: &[u16; 65536],
+    counts: Counts,
+    i: usize,
+    out: &mut [u8],
+    at: usize,
+) -> usize
+    requires { ⌜ (i < counts .commands) × KeptBy counts × Room (now out) at (commandTail (codedBy (now ws) (now val) (now cw) counts) i 3) ⌝ }
+    ensures { λ r. ⌜ Stored (now (out .entry)) at (commandTail (codedBy (now (ws .entry)) (now (val .entry)) (now (cw .entry)) counts) i 3) (now (out .exit)) r ⌝ }
+{
+    let p = write_term(ws, val, counts, cw[4 * i + 1], out, at);
+    write_short(out, p, cw[4 * i + 3])
+}
+
+// What follows the code k of a command.
+fn write_tail(
+    ws: &[u16; 98304],
+    val: &[i32; 32768],
+    cw: &[u16; 65536],
+    counts: Counts,
+    i: usize,
+    k: u16,
+    out: &mut [u8],
+    at: usize,
+) -> usize
+    requires { ⌜ (i < counts .commands) × KeptBy counts × Room (now out) at (commandTail (codedBy (now ws) (now val) (now cw) counts) i k) ⌝ }
+    ensures { λ r. ⌜ Stored (now (out .entry)) at (commandTail (codedBy (now (ws .entry)) (now (val .entry)) (now (cw .entry)) counts) i k) (now (out .exit)) r ⌝ }
+{
+    match k {
+        1 => write_short(out, at, cw[4 * i + 3]),
+        2 => write_set(ws, val, cw, counts, i, out, at),
+        3 => write_if(ws, val, cw, counts, i, out, at),
+        4 => write_short(out, at, cw[4 * i + 3]),
+        _ => at,
+    }
+}
+
+// Command i: one that is not there is written as 6, which no image may have.
+fn write_command(
+    ws: &[u16; 98304],
+    val: &[i32; 32768],
+    cw: &[u16; 65536],
+    counts: Counts,
+    i: usize,
+    out: &mut [u8],
+    at: usize,
+) -> usize
+    requires { ⌜ KeptBy counts × Room (now out) at (commandImageIn (codedBy (now ws) (now val) (now cw) counts) i) ⌝ }
+    ensures { λ r. ⌜ Stored (now (out .entry)) at (commandImageIn (codedBy (now (ws .entry)) (now (val .entry)) (now (cw .entry)) counts) i) (now (out .exit)) r ⌝ }
+{
+    let there = index_of(counts.commands);
+    if i >= there {
+        return write_short(out, at, 6);
+    }
+    let k = cw[4 * i];
+    let p = write_short(out, at, k);
+    write_tail(ws, val, cw, counts, i, k, out, p)
+}
+
+// So many commands, from the first on.
+fn write_commands(
+    ws: &[u16; 98304],
+    val: &[i32; 32768],
+    cw: &[u16; 65536],
+    counts: Counts,
+    first: u16,
+    held: u16,
+    out: &mut [u8],
+    at: usize,
+) -> usize
+    requires { ⌜ KeptBy counts × Room (now out) at (commandsImageIn (codedBy (now ws) (now val) (now cw) counts) held first) ⌝ }
+    ensures { λ r. ⌜ Stored (now (out .entry)) at (commandsImageIn (codedBy (now (ws .entry)) (now (val .entry)) (now (cw .entry)) counts) held first) (now (out .exit)) r ⌝ }
+{
+    let f = index_of(first);
+    let count = index_of(held);
+    let mut p = at;
+    let mut i: usize = 0;
+    while i < count {
+        p = write_command(ws, val, cw, counts, f + i, out, p);
+        i += 1;
+    }
+    p
+}
+
+// ---- blocks
+
+// What follows the kind of a code block: how many commands, the commands, next, else.
+fn write_code(
+    ws: &[u16; 98304],
+    val: &[i32; 32768],
+    cw: &[u16; 65536],
+    bw: &[u16; 20480],
+    counts: Counts,
+    i: usize,
+    out: &mut [u8],
+    at: usize,
+) -> usize
+    requires { ⌜ (i < counts .blocks) × KeptBy counts × Room (now out) at (blockTail (memoryBy (now ws) (now val) (now cw) (now bw) counts) i 1) ⌝ }
+    ensures { λ r. ⌜ Stored (now (out .entry)) at (blockTail (memoryBy (now (ws .entry)) (now (val .entry)) (now (cw .entry)) (now (bw .entry)) counts) i 1) (now (out .exit)) r ⌝ }
+{
+    let held = bw[5 * i + 2];
+    let p = write_short(out, at, held);
+    let q = write_commands(ws, val, cw, counts, bw[5 * i + 1], held, out, p);
+    let s = write_short(out, q, bw[5 * i + 3]);
+    write_short(out, s, bw[5 * i + 4])
+}
+
+// Block i: its kind, and what follows it.
+fn write_block(
+    ws: &[u16; 98304],
+    val: &[i32; 32768],
+    cw: &[u16; 65536],
+    bw: &[u16; 20480],
+    counts: Counts,
+    i: usize,
+    out: &mut [u8],
+    at: usize,
+) -> usize
+    requires { ⌜ (i < counts .blocks) × KeptBy counts × Room (now out) at (blockImageIn (memoryBy (now ws) (now val) (now cw) (now bw) counts) i) ⌝ }
+    ensures { λ r. ⌜ Stored (now (out .entry)) at (blockImageIn (memoryBy (now (ws .entry)) (now (val .entry)) (now (cw .entry)) (now (bw .entry)) counts) i) (now (out .exit)) r ⌝ }
+{
+    let kind = bw[5 * i];
+    let p = write_short(out, at, kind);
+    if kind == 1 {
+        return write_code(ws, val, cw, bw, counts, i, out, p);
+    }
+    p
+}
+
+// All blocks.
+fn write_blocks(
+    ws: &[u16; 98304],
+    val: &[i32; 32768],
+    cw: &[u16; 65536],
+    bw: &[u16; 20480],
+    counts: Counts,
+    out: &mut [u8],
+    at: usize,
+) -> usize
+    requires { ⌜ KeptBy counts × Room (now out) at (blocksImageIn (memoryBy (now ws) (now val) (now cw) (now bw) counts) (counts .blocks) 0) ⌝ }
+    ensures { λ r. ⌜ Stored (now (out .entry)) at (blocksImageIn (memoryBy (now (ws .entry)) (now (val .entry)) (now (cw .entry)) (now (bw .entry)) counts) (counts .blocks) 0) (now (out .exit)) r ⌝ }
+{
+    let end = index_of(counts.blocks);
+    let mut p = at;
+    let mut i: usize = 0;
+    while i < end {
+        p = write_block(ws, val, cw, bw, counts, i, out, p);
+        i += 1;
+    }
+    p
+}
+
+// ---- the whole record
+
+// The image from the slice's first byte on; the bytes past it stay as they are.
+fn write_record(
+    ws: &[u16; 98304],
+    val: &[i32; 32768],
+    cw: &[u16; 65536],
+    bw: &[u16; 20480],
+    counts: Counts,
+    out: &mut [u8],
+) -> usize
+    requires { ⌜ KeptBy counts × Room (now out) 0 (recordImage (memoryBy (now ws) (now val) (now cw) (now bw) counts)) ⌝ }
+    ensures { λ r. ⌜ Stored (now (out .entry)) 0 (recordImage (memoryBy (now (ws .entry)) (now (val .entry)) (now (cw .entry)) (now (bw .entry)) counts)) (now (out .exit)) r ⌝ }
+{
+    let p = write_short(out, 0, counts.blocks);
+    write_blocks(ws, val, cw, bw, counts, out, p)
+}
+
+// Judged first, in the place of refusals 2 to 5; then 16 where the slice is shorter than the image; then written. Refused, the slice stays as it was.
+pub fn write_script(
+    ws: &[u16; 98304],
+    val: &[i32; 32768],
+    cw: &[u16; 65536],
+    bw: &[u16; 20480],
+    counts: Counts,
+    out: &mut [u8],
+) -> Written
+    ensures { λ r. ⌜ (wrote (r .refusal) (now (out .exit)) ≡ writeIn (memoryIn (now (ws .entry)) (now (val .entry)) (now (cw .entry)) (now (bw .entry)) (counts .nodes) (counts .commands) (counts .blocks)) (now (out .entry))) × (r .len ≡ lengthIn (memoryIn (now (ws .entry)) (now (val .entry)) (now (cw .entry)) (now (bw .entry)) (counts .nodes) (counts .commands) (counts .blocks)) (now (out .entry))) ⌝ }
+{
+    let judged = judge_record(ws, val, cw, bw, counts);
+    match judged {
+        Judged::Fine(len) => {
+            if len > out.len() {
+                return Written {
+                    refusal: 16,
+                    len: 0,
+                };
+            }
+            let end = write_record(ws, val, cw, bw, counts, out);
+            Written {
+                refusal: 0,
+                len: end,
+            }
+        }
+        Judged::No(k) => Written { refusal: k, len: 0 },
+    }
+}

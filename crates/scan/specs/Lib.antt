@@ -1,0 +1,9 @@
+pub mod Bits
+pub mod Table
+pub mod Reads
+pub mod Ready
+pub mod Accepted
+pub mod Block
+pub mod Extend
+pub mod Slots
+pub mod AllSlots
