@@ -1,3 +1,4 @@
+-- `conditions::compare_at` meets its contract: the word of a comparison comes from its left side's word and its right side's number. Assumes nothing.
 use mathlib.Core.Path.{_≡_, refl, sym, ap, _∙_}
 use mathlib.Core.List.{List}
 use Prim.Native.Nat.{ℕ, _+_, _*_, _-_, _<_, _≤_, _%_}

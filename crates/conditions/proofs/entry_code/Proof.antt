@@ -1,3 +1,4 @@
+-- `conditions::entry_code` meets its contract: a key is small enough that its Missing code fits. Assumes nothing.
 use mathlib.Core.Path.{_≡_, refl, sym, ap, _∙_}
 use mathlib.Core.Logic.{⊎-elim}
 use Prim.Native.Nat.{ℕ, _+_, _*_, _-_, _<_, _≤_}

@@ -1,3 +1,4 @@
+-- `conditions::extend` meets its contract: what a condition left joins the slot's set, and one entry too many is refused. Assumes nothing.
 use mathlib.Core.Path.{_≡_, refl, sym, ap, _∙_}
 use mathlib.Core.List.{List, [], map}
 use Prim.Native.Nat.{ℕ, _+_, _*_, _-_, _<_, _≤_}

@@ -1,3 +1,4 @@
+-- `conditions::fill_words` meets its contract: the words below i are written and the keys are a table, from node to node. Assumes nothing.
 use mathlib.Core.Path.{_≡_, refl, sym, ap, _∙_}
 use mathlib.Core.List.{List}
 use Prim.Native.Nat.{ℕ, _+_, _*_, _-_, _<_, _≤_, _%_}

@@ -1,3 +1,4 @@
+-- `conditions::find` meets its contract: the search stands where the code's bits lead, and the measure is how many keys lie above. Assumes nothing.
 use mathlib.Core.Path.{_≡_, refl, sym, ap, _∙_}
 use Prim.Native.Nat.{ℕ, _+_, _*_, _-_, _<_, _≤_}
 use native.Mathlib.Omega.{arith}

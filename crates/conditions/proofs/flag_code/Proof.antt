@@ -1,3 +1,4 @@
+-- `conditions::flag_code` meets its contract: every number of 32 bits is a flag. Assumes nothing.
 use mathlib.Core.Path.{_≡_, refl, sym, ap, _∙_}
 use Prim.Native.Nat.{ℕ, _+_, _*_, _-_, _<_, _≤_, _%_}
 use native.Mathlib.Omega.{arith}

@@ -1,3 +1,4 @@
+-- `conditions::id_code` meets its contract: only a number from 0 to n - 1 is an id. Assumes nothing.
 use mathlib.Core.Path.{_≡_, refl, sym, ap, _∙_}
 use Prim.Native.Nat.{ℕ, _+_, _*_, _-_, _<_, _≤_, _%_}
 use native.Mathlib.Omega.{arith}

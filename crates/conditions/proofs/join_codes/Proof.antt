@@ -1,3 +1,4 @@
+-- `conditions::join_codes` meets its contract: the first i codes have joined. Assumes nothing.
 use mathlib.Core.Path.{_≡_, refl, sym, ap, _∙_}
 use mathlib.Core.List.{List, [], map}
 use Prim.Native.Nat.{ℕ, _+_, _*_, _-_, _<_, _≤_}

@@ -1,3 +1,4 @@
+-- `conditions::key_of` meets its contract: a code has its key, or gets the next one at the free link. Assumes nothing.
 use mathlib.Core.Path.{_≡_, refl, sym, ap, _∙_}
 use Prim.Native.Nat.{ℕ, _+_, _*_, _-_, _<_, _≤_}
 use native.Mathlib.Omega.{arith}

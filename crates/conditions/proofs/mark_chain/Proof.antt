@@ -1,3 +1,4 @@
+-- `conditions::mark_chain` meets its contract: what is marked from here on completes what is marked from the start on; the condition's number falls. Assumes nothing.
 use mathlib.Core.Path.{_≡_, refl, sym, ap, _∙_}
 use mathlib.Core.Bool.{Bool}
 use mathlib.Core.List.{List}

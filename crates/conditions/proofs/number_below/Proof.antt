@@ -1,3 +1,4 @@
+-- `conditions::number_below` meets its contract: only an Imm that lies below has a number. Assumes nothing.
 use denote.Ref.{now}
 use mathlib.Core.Path.{_≡_, refl, sym, ap, _∙_}
 use Prim.Native.Nat.{ℕ, _+_, _*_, _-_, _<_, _≤_, _%_}

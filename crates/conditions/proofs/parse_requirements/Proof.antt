@@ -1,3 +1,4 @@
+-- `conditions::parse_requirements` meets its contract: the sweep over a cleared array's marks is the filter over the whole condition. Assumes nothing.
 use mathlib.Core.Path.{_≡_, refl, sym, ap, _∙_}
 use mathlib.Core.List.{List, [], map}
 use Prim.Native.Nat.{ℕ, _+_, _*_, _-_, _<_, _≤_}

@@ -1,3 +1,4 @@
+-- `conditions::read_at` meets its contract: what a node reads comes from its kind and its operand's number. Assumes nothing.
 use mathlib.Core.Path.{_≡_, refl, sym, ap, _∙_}
 use mathlib.Core.List.{List}
 use Prim.Native.Nat.{ℕ, _+_, _*_, _-_, _<_, _≤_, _%_}

@@ -1,3 +1,4 @@
+-- `conditions::read_code` meets its contract: an operator reads an item, an atc, a flag or nothing. Assumes nothing.
 use mathlib.Core.Path.{_≡_, refl, sym, ap, _∙_}
 use Prim.Native.Nat.{ℕ, _+_, _*_, _-_, _<_, _≤_, _%_}
 use native.Mathlib.Omega.{arith}

@@ -1,3 +1,4 @@
+-- `conditions::shifted` meets its contract: the bits of a number, moved by half their range. Assumes nothing.
 use mathlib.Core.Path.{_≡_, refl, sym, ap, _∙_}
 use Prim.Native.Nat.{ℕ, _+_, _*_, _-_, _<_, _≤_, _%_}
 use native.Mathlib.Omega.{arith}

@@ -1,3 +1,4 @@
+-- `conditions::survives` meets its contract: an entry stays where it is marked and its companion is not. Assumes nothing.
 use mathlib.Core.Path.{_≡_, refl, sym, ap, _∙_}
 use mathlib.Core.Logic.{⊎-elim}
 use Prim.Native.Nat.{ℕ, _+_, _*_, _-_, _<_, _≤_}

@@ -1,3 +1,4 @@
+-- `conditions::survivors` meets its contract: the negations of the entries so far that stay are the set; the measure is how many entries are left. Assumes nothing.
 use mathlib.Core.Path.{_≡_, refl, sym, ap, _∙_}
 use mathlib.Core.Logic.{⊎-elim}
 use Prim.Native.Nat.{ℕ, _+_, _*_, _-_, _<_, _≤_}

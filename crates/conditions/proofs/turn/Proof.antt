@@ -1,3 +1,4 @@
+-- `conditions::turn` meets its contract: the entry of the other sign is one more or one less. Assumes nothing.
 use mathlib.Core.Path.{_≡_, refl, sym, ap, _∙_}
 use Prim.Native.Nat.{ℕ, _+_, _*_, _-_, _<_, _≤_, _%_}
 use native.Mathlib.Omega.{arith}

@@ -1,3 +1,4 @@
+-- `conditions::word_at` meets its contract: a node that reads a subject gets its key, and any other is a comparison or nothing. Assumes nothing.
 use mathlib.Core.Path.{_≡_, refl, sym, ap, _∙_}
 use mathlib.Core.List.{List}
 use Prim.Native.Nat.{ℕ, _+_, _*_, _-_, _<_, _≤_, _%_}

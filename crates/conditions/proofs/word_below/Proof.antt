@@ -1,3 +1,4 @@
+-- `conditions::word_below` meets its contract: an operand that does not lie below has no word. Assumes nothing.
 use mathlib.Core.Path.{_≡_, refl, sym, ap, _∙_}
 use mathlib.Core.List.{List}
 use Prim.Native.Nat.{ℕ, _+_, _*_, _-_, _<_, _≤_, _%_}

@@ -1,3 +1,4 @@
+-- `conditions::zero_word` meets its contract: each comparison with 0 keeps the left side's sign, turns it or has no word. Assumes nothing.
 use mathlib.Core.Path.{_≡_, refl, sym, ap, _∙_}
 use Prim.Native.Nat.{ℕ, _+_, _*_, _-_, _<_, _≤_, _%_}
 use native.Mathlib.Omega.{arith}
