@@ -10,40 +10,24 @@ use Rattle.model.specs.Script.{Block}
 use Rattle.model.specs.Reading.{got, refusalOf}
 use Rattle.model.specs.Judge.{scriptRefusal, setupRefusal, callRefusal}
 use Rattle.model.specs.Run.{Ran, run, unlessRefused, runCall}
-use Rattle.model.specs.Memory.{Coded, Memory, scriptOf}
+use Rattle.model.specs.Memory.{Memory, scriptOf}
 use Rattle.model.specs.Record.{judgedRecord}
 use Rattle.model.specs.RecordCalls.{runIn}
 use Rattle.memory.specs.Transfer.{accepted-script}
+use Rattle.checks.specs.Calls.{callIn}
+use Rattle.checks.specs.Passed.{first-nested}
 use Rattle.runner.specs.declared.Ran as code
 
 -- the definition's answer for the code's, with the variables of that moment
 abbrev pub ranOf : code.Ran → List ℤ → Ran
 ranOf r v = record { answer = r .refusal; variables = v; entered = r .entered }
 
-abbrev pub saveOf : List ℤ → List ℕ → List ℕ → List ℤ → List ℤ → Save
-saveOf items atcs flags times variables = record { items = items; atcs = atcs; flags = flags; times = times; variables = variables }
-
--- a record with these blocks, whatever its commands
-abbrev pub blocksOver : Coded → List ℕ → ℕ → Memory
-blocksOver co bw b = record { coded = co; words = bw; count = b }
-
--- 1, 2 to 5, 6, 7 in that order
-unfoldable pub callIn : Sheet → Memory → ℕ → ℕ
-callIn h m b = firstOf (sheetRefusal h ∷ refusalOf (judgedRecord m) ∷ setupRefusal (scriptOf m) b ∷ [])
-
--- checks in two rows answer as in one
-pub one-row : (a b c d : ℕ) → firstOf (a ∷ b ∷ c ∷ d ∷ []) ≡ firstOf (firstOf (a ∷ b ∷ c ∷ []) ∷ d ∷ [])
-one-row (suc a) b c d = refl
-one-row zero (suc b) c d = refl
-one-row zero zero (suc c) d = refl
-one-row zero zero zero d = refl
-
 pub run-by-call : (h : Sheet) (m : Memory) (b : ℕ) (s : Save) (k : ℕ)
     → runIn h m b s k ≡ unlessRefused (firstOf (callIn h m b ∷ saveRefusal h s ∷ [])) (s .variables) (run (scriptOf m .blocks) s k b (s .variables))
 unfolding runIn callIn
 run-by-call h m b s k =
     ap (λ n. unlessRefused n (s .variables) (run (scriptOf m .blocks) s k b (s .variables)))
-    (one-row (sheetRefusal h) (refusalOf (judgedRecord m)) (setupRefusal (scriptOf m) b) (saveRefusal h s))
+    (sym (first-nested (sheetRefusal h ∷ refusalOf (judgedRecord m) ∷ setupRefusal (scriptOf m) b ∷ []) (saveRefusal h s ∷ [])))
 
 -- of an accepted record it is the call of the script that stands in it
 pub run-is-call : (h : Sheet) (m : Memory) (bs : List Block) (r : List ℕ) → judgedRecord m ≡ got bs r → (b : ℕ) (s : Save) (k : ℕ) → runIn h m b s k ≡ runCall h (scriptOf m) b s k

@@ -28,7 +28,7 @@ run-blocks-requires c κs =
     let a = c .before .before .before .before in
     let b = a .before in
     let s = b .before .before .before .before in
-    call-ready (memoryIn (s .args .ws .now) (s .args .val .now) (s .args .cw .now) (s .args .bw .now) (s .args .counts .nodes) (s .args .counts .commands) (s .args .counts .blocks)) (sheetOf (s .args .atc-of .now) (s .args .sheet)) (s .args .start .0) (sym (b .check-call .ensures) ∙ a .if1 .left)
+    call-ready (memoryIn (s .args .ws .now) (s .args .val .now) (s .args .cw .now) (s .args .bw .now) (s .args .counts .nodes) (s .args .counts .commands) (s .args .counts .blocks)) (sheetOf (s .args .attached .now) (s .args .sheet)) (s .args .start .0) (sym (b .check-call .ensures) ∙ a .if1 .left)
 
 same-length-2 : tie.Need-same-length-2
 same-length-2 c = search needs

@@ -9,8 +9,8 @@ use native.Mathlib.Omega.{arith}
 use mathlib.Core.Path.{sym}
 use Prim.Native.Nat.{_-_}
 use borrow.Author.Needs.{needs}
-use Rattle.runner.proofs.numbers_known.Statement.{statement}
-use Rattle.runner.proofs.numbers_known.Tie as tie
+use Rattle.checks.proofs.numbers_known.Statement.{statement}
+use Rattle.checks.proofs.numbers_known.Tie as tie
 
 abbrev Inv-loop : tie.InvT-loop
 Inv-loop list i₀ i = Tested (inRange w32) list i

@@ -1,9 +1,9 @@
 -- `check_setup` meets its contract: by the kind of the block, if it is there. Assumes nothing.
-use Rattle.runner.proofs.Checks.{setup-none, setup-not-code, setup-code}
-use Rattle.runner.specs.RunIn.{blocksOver}
+use Rattle.checks.specs.Passed.{setup-none, setup-not-code, setup-code}
+use Rattle.checks.specs.Calls.{blocksOver}
 use borrow.Author.Needs.{needs}
-use Rattle.runner.proofs.check_setup.Statement.{statement}
-use Rattle.runner.proofs.check_setup.Tie as tie
+use Rattle.checks.proofs.check_setup.Statement.{statement}
+use Rattle.checks.proofs.check_setup.Tie as tie
 
 returns : tie.Need-returns
 returns c = λ co. setup-none (blocksOver co (c .before .args .bw .now) (c .before .args .blocks)) (c .before .args .start .0) (c .if1 .taken)

@@ -1,5 +1,5 @@
 -- `counts_ok` meets its contract. The loop's invariant: every count passed is one. Assumes nothing.
-use Rattle.runner.proofs.Checks.{count-negative, count-natural}
+use Rattle.checks.proofs.Checks.{count-negative, count-natural}
 use lib.IntN.{pos}
 use lib.ListN.{getD}
 use native.Mathlib.Omega.{arith}
@@ -12,8 +12,8 @@ use lib.ListN.{length, getD}
 use lib.ListN.{length}
 use Prim.Native.Nat.{_-_}
 use borrow.Author.Needs.{needs}
-use Rattle.runner.proofs.counts_ok.Statement.{statement}
-use Rattle.runner.proofs.counts_ok.Tie as tie
+use Rattle.checks.proofs.counts_ok.Statement.{statement}
+use Rattle.checks.proofs.counts_ok.Tie as tie
 
 abbrev Inv-loop : tie.InvT-loop
 Inv-loop items i₀ i = Tested isCount items i

@@ -1,10 +1,10 @@
 -- `check_save` meets its contract: the tests come in the definition's order. Assumes nothing.
-use Rattle.runner.proofs.Checks.{save-is, and-true}
+use Rattle.checks.proofs.Checks.{save-is, and-true}
 use borrow.Author.Tests.{eq-eqb, ne-eqb, not-true, not-false}
 use mathlib.Core.Path.{sym, _∙_}
 use borrow.Author.Needs.{needs}
-use Rattle.runner.proofs.check_save.Statement.{statement}
-use Rattle.runner.proofs.check_save.Tie as tie
+use Rattle.checks.proofs.check_save.Statement.{statement}
+use Rattle.checks.proofs.check_save.Tie as tie
 
 returns : tie.Need-returns
 returns c = sym (save-is _ _ _ _ _ _ _ ∙ rw (ne-eqb _ _ (c .if1 .taken)))

@@ -1,11 +1,12 @@
 -- `check_call` meets its contract: the checks answer in their order. Assumes nothing.
-use Rattle.runner.proofs.Checks.{ready, fine-got, no-got, call-sheet, call-setup, call-refused}
+use Rattle.checks.proofs.Checks.{fine-got, no-got, call-sheet, call-setup, call-refused}
 use Rattle.model.specs.Memory.{codedIn, memoryIn}
+use Rattle.memory.specs.Transfer.{judged-kept}
 use borrow.Author.Tests.{not-true, not-false}
 use mathlib.Core.Path.{sym, _∙_}
 use borrow.Author.Needs.{needs}
-use Rattle.runner.proofs.check_call.Statement.{statement}
-use Rattle.runner.proofs.check_call.Tie as tie
+use Rattle.checks.proofs.check_call.Statement.{statement}
+use Rattle.checks.proofs.check_call.Tie as tie
 
 check-sheet-requires : tie.Need-check-sheet-requires
 check-sheet-requires c κs = search needs
@@ -24,7 +25,7 @@ check-setup-requires c κs =
     let a = c .before .before in
     let s = a .before .before .before .before in
     let m = memoryIn (s .args .ws .now) (s .args .val .now) (s .args .cw .now) (s .args .bw .now) (s .args .counts .nodes) (s .args .counts .commands) (s .args .counts .blocks) in
-    ready m _ _ (fine-got m (a .judge-record .ensures) (c .enum-told .given .1) .judged) .few
+    judged-kept m _ _ (fine-got m (a .judge-record .ensures) (c .enum-told .given .1) .judged) .0
 
 enum-known-j : tie.Need-enum-known-j
 enum-known-j c = search needs

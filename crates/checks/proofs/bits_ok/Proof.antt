@@ -6,8 +6,8 @@ use Rattle.model.specs.Sheet.{isBit}
 use lib.ListN.{length}
 use Prim.Native.Nat.{_-_}
 use borrow.Author.Needs.{needs}
-use Rattle.runner.proofs.bits_ok.Statement.{statement}
-use Rattle.runner.proofs.bits_ok.Tie as tie
+use Rattle.checks.proofs.bits_ok.Statement.{statement}
+use Rattle.checks.proofs.bits_ok.Tie as tie
 
 abbrev Inv-loop : tie.InvT-loop
 Inv-loop bits i₀ i = Tested isBit bits i

@@ -1,0 +1,86 @@
+-- What each check finds, and that the checks answer in their order. Assumes nothing.
+use mathlib.Core.Path.{_≡_, refl, _∙_, subst}
+use mathlib.Core.Bool.{Bool, true, false, _&&_}
+use mathlib.Core.List.{List, [], _∷_}
+use Prim.Native.Nat.{ℕ, zero, suc, _<_}
+use native.Mathlib.Omega.{arith}
+use native.Mathlib.Nat.{not-suc-le-zero}
+use lib.Dec.{T, eqb}
+use lib.IntN.{ℤ, pos, negsuc}
+use lib.Signed.{ltZ}
+use mir.Syntax.{w16, w32}
+use mir.Val.{SFits}
+use lib.ListN.{length, length-map}
+use borrow.Author.Tests.{ltb-true, le-leb}
+use Rattle.model.specs.Refusal.{firstOf}
+use Rattle.model.specs.Signed.{inRange}
+use Rattle.model.specs.Sheet.{Sheet, sheetOk, saveOk, all, isCount, isBit}
+use Rattle.model.specs.Script.{Block}
+use Rattle.model.specs.Reading.{got, refused}
+use Rattle.model.specs.Judge.{setupRefusal}
+use Rattle.model.specs.Memory.{Memory, scriptOf}
+use Rattle.model.specs.Record.{judgedRecord}
+use Rattle.checks.specs.Calls.{callIn, saveOf}
+use Rattle.checks.specs.Passed.{refused-above}
+use Rattle.shop.specs.Shapes.{sheetOf}
+use Rattle.shop.specs.declared.Sheet as code
+use Rattle.judge.specs.Stages.{Accepted, JudgedAs}
+use Rattle.judge.specs.declared.Judged.{Judged}
+use Rattle.judge.specs.declared.Judged.the-variants.{Fine, No}
+
+-- ---- check 12
+
+pub count-negative : (z : ℤ) → ltZ z (pos 0) ≡ true → isCount z ≡ false
+count-negative (pos n) t = absurd (not-suc-le-zero (ltb-true n 0 t))
+count-negative (negsuc n) t = refl
+
+pub count-natural : (z : ℤ) → SFits w16 z → ltZ z (pos 0) ≡ false → isCount z ≡ true
+count-natural (pos n) f t = let h : n < 32768 = f .sfits in rw (le-leb 0 n (omega arith), le-leb n 32767 (omega arith))
+count-natural (negsuc n) f t = absurd (subst T t tt)
+
+pub and-true : (b : Bool) → b && true ≡ b
+and-true true = refl
+and-true false = refl
+
+pub save-is : (ks : List ℕ) (h : code.Sheet) (items : List ℤ) (atcs flags : List ℕ) (times vars : List ℤ)
+    → saveOk (sheetOf ks h) (saveOf items atcs flags times vars)
+    ≡ ((eqb (length items) (length ks) && all isCount items)
+    && (eqb (length atcs) (h .atcs) && all isBit atcs)
+    && (eqb (length flags) 2048 && all isBit flags)
+    && (eqb (length times) 8 && all (inRange w16) times)
+    && (eqb (length vars) 1024 && all (inRange w32) vars))
+unfolding saveOk sheetOf
+save-is ks h items atcs flags times vars = rw length-map
+
+-- ---- the judge's answer
+
+pub fine-got : (m : Memory) {r : Judged} {n : ℕ} → JudgedAs m r → r ≡ Fine n → Accepted m n
+unfolding JudgedAs
+fine-got m {r} {n} j e = subst (JudgedAs m) e j
+
+pub no-got : (m : Memory) {r : Judged} {k : ℕ} → JudgedAs m r → r ≡ No k → judgedRecord m ≡ refused k
+unfolding JudgedAs
+no-got m {r} {k} j e = subst (JudgedAs m) e j
+
+-- ---- the call
+
+module _ (h : Sheet) (m : Memory) (b : ℕ) where
+  pub call-sheet : sheetOk h ≡ false → 1 ≡ callIn h m b
+  unfolding callIn
+  call-sheet e = rw e
+
+  pub call-refused : (k : ℕ) → sheetOk h ≡ true → judgedRecord m ≡ refused k → k ≡ callIn h m b
+  unfolding callIn
+  call-refused k e p = rw (e, p) (go k (refused-above m k p))
+    where
+      go : (k : ℕ) → 0 < k → k ≡ firstOf (k ∷ setupRefusal (scriptOf m) b ∷ [])
+      go zero l = absurd (omega arith)
+      go (suc k) l = refl
+
+  pub call-setup : (k : ℕ) (bs : List Block) (r : List ℕ) → sheetOk h ≡ true → judgedRecord m ≡ got bs r → k ≡ setupRefusal (scriptOf m) b → k ≡ callIn h m b
+  unfolding callIn
+  call-setup k bs r e p q = rw (e, p) (q ∙ go (setupRefusal (scriptOf m) b))
+    where
+      go : (k : ℕ) → k ≡ firstOf (k ∷ [])
+      go zero = refl
+      go (suc k) = refl
