@@ -20,7 +20,7 @@ use Rattle.shop.specs.declared.Reqs.{Reqs}
 use Rattle.shop.specs.declared.Timer as Kinds
 use Rattle.shop.specs.Shapes.{sheetOf, atcAt, timerIs, codeOf, requirementOf, entries, slotOf}
 use Rattle.shop.specs.Sets.{held, reqsOf, sortedReqs, sortedCodes, Exact}
-use Rattle.shop.specs.Codes.{AllNarrow, sorted-narrow, codes-narrow, sorted-code, code-stands}
+use Rattle.shop.specs.Codes.{sorted-narrow, codes-narrow, sorted-code, codes-stand}
 use Rattle.shop.specs.SetLaws.{held-set, sorted-few}
 use Rattle.shop.specs.Slots.{atc-for, entries-length}
 use Rattle.emit.specs.declared.Acquired.{Acquired}
@@ -68,10 +68,6 @@ rate-low (suc a) w fifteen = omega arith
 
 -- ---- the sorted requirements
 
-codes-stand : (rs : List Requirement) → AllNarrow rs → map requirementOf (map codeOf rs) ≡ rs
-codes-stand [] p = refl
-codes-stand (r ∷ rs) p = rw (code-stands r (p .0), codes-stand rs (p .1))
-
 pub record Standing (x : Slot) (s : Reqs) : Type 0 where
   pub few : s .len ≤ entryLimit
   pub long : length (s .codes) ≡ entryLimit
@@ -91,9 +87,14 @@ sorted-stands x e =
       is = ap (map requirementOf) (held-set (map codeOf rs)) ∙ codes-stand rs (sorted-narrow (map requirementOf (entries (x .len) (x .requirements))) n);
     }
 
-pub acquired-atc : (a w r : ℕ) → (a ≡ 0 → ⊥) → record { of = Atc; id = a - 1; rate = r } ≡ acquiredBy a w r
-acquired-atc zero w r h = absurd (h refl)
-acquired-atc (suc a) w r h = let e : suc a - 1 ≡ a = omega arith in rw e
+-- by the item's entry on the sheet
+pub acquired-item : (e w r : ℕ) → none ≡ atcEntry e → record { of = Item; id = w; rate = r } ≡ acquiredBy e w r
+acquired-item zero w r h = refl
+acquired-item (suc e) w r h = let z : _≡_ {A = ℕ} 0 1 = cc in absurd (omega arith)
+
+pub acquired-atc : (e a w r : ℕ) → some a ≡ atcEntry e → record { of = Atc; id = a; rate = r } ≡ acquiredBy e w r
+acquired-atc zero a w r h = let z : _≡_ {A = ℕ} 0 1 = cc in absurd (omega arith)
+acquired-atc (suc e) a w r h = let z : a ≡ e = cc in rw z
 
 -- ---- the context of a slot on a sheet
 

@@ -24,6 +24,7 @@ use memory::Counts;
 use model::BlockNo;
 use model::ItemId;
 use model::Op1;
+use shop::ItemAtc;
 use shop::Sheet;
 use shop::Shop;
 use shop::Slot;
@@ -277,17 +278,17 @@ fn acquired_of(attached: &[u8], item: ItemId, rate: u16) -> Acquired
     ensures { λ r. ⌜ r ≡ acquiredBy (atcAt (now (attached .entry)) (item .0)) (item .0) rate ⌝ }
 {
     let atc = atc_for(attached, item);
-    if atc == 0 {
-        return Acquired {
+    match atc {
+        ItemAtc::Nothing => Acquired {
             of: Op1::Item,
             id: item.0,
             rate: rate,
-        };
-    }
-    Acquired {
-        of: Op1::Atc,
-        id: (atc - 1) as u16,
-        rate: rate,
+        },
+        ItemAtc::Of(a) => Acquired {
+            of: Op1::Atc,
+            id: a.0,
+            rate: rate,
+        },
     }
 }
 

@@ -20,7 +20,7 @@ use Rattle.model.specs.Laws.Sets.{Sorted}
 use Rattle.shop.specs.Shapes.{codeOf, requirementOf, entries, itemOf, slotOf, noSlot, noShop}
 use Rattle.shop.specs.Sets.{insertCode, held, added, reqsOf}
 use Rattle.shop.specs.SetLaws.{held-set, insert-set}
-use Rattle.shop.specs.Codes.{AllNarrow, codes-narrow, code-stands}
+use Rattle.shop.specs.Codes.{AllNarrow, codes-narrow, codes-stand}
 use Rattle.shop.specs.Slots.{entries-take, entries-length}
 use Rattle.shop.specs.declared.Slot.{Slot}
 use Rattle.shop.specs.declared.SlotItem.the-variants.{Nothing}
@@ -52,10 +52,6 @@ beyond = record { item = Nothing; limit = pos 0; requirements = []; len = 0 }
 pub record GoodShop (s : Shop) : Type 0 where
   pub each : (j : ℕ) → j < slotCount → GoodSlot (getD (s .slots) j beyond)
 
-codes-back : (zs : List Requirement) → AllNarrow zs → map requirementOf (map codeOf zs) ≡ zs
-codes-back [] p = refl
-codes-back (z ∷ zs) p = ap₂ (λ (a : Requirement) (l : List Requirement). a ∷ l) (code-stands z (p .0)) (codes-back zs (p .1))
-
 -- a slot that holds the set of zs stands for zs
 module _ (x : Slot) (zs : List Requirement) (p : AllNarrow zs) (e : reqsIn x ≡ reqsOf (map codeOf zs)) where
   held-codes : entries (x .len) (x .requirements) ≡ map codeOf zs
@@ -69,7 +65,7 @@ module _ (x : Slot) (zs : List Requirement) (p : AllNarrow zs) (e : reqsIn x ≡
 
   pub stands-for : slotOf x .requirements ≡ zs
   unfolding slotOf
-  stands-for = ap (map requirementOf) held-codes ∙ codes-back zs p
+  stands-for = ap (map requirementOf) held-codes ∙ codes-stand zs p
 
   pub good-slot : Sorted zs → length zs ≤ entryLimit → GoodSlot x
   unfolding reqsOf

@@ -16,6 +16,8 @@ use Rattle.model.specs.Printer.{atcEntry}
 use Rattle.shop.specs.declared.Sheet.{Sheet}
 use Rattle.shop.specs.declared.SlotItem.{SlotItem}
 use Rattle.shop.specs.declared.SlotItem.the-variants.{Nothing, Of}
+use Rattle.shop.specs.declared.ItemAtc.{ItemAtc}
+use Rattle.shop.specs.declared.ItemAtc.the-variants as ItemAtc
 use Rattle.shop.specs.declared.Slot.{Slot}
 use Rattle.shop.specs.declared.Shop.{Shop}
 use Rattle.shop.specs.declared.Timer.{Timer}
@@ -76,6 +78,10 @@ sheetOf ks h = record { atcOf = map atcEntry ks; atcCount = h .atcs; timer5 = h 
 -- the entry of an item in that slice; an item past its end has none
 abbrev pub atcAt : List ℕ → ℕ → ℕ
 atcAt ks i = getD ks i 0
+
+abbrev pub atcIs : ItemAtc → Option ℕ
+atcIs ItemAtc.Nothing = none
+atcIs (ItemAtc.Of a) = some (a .0)
 
 abbrev pub timerIs : Timer → Shop.Timer
 timerIs Plain = Shop.plain
