@@ -15,7 +15,6 @@ use Rattle.model.specs.Printer.{atcEntry}
 use Rattle.model.specs.Compile.{test, itemTest, atcTest, acquiredReq, rateOf, orRate, acquiredExpr}
 use Rattle.shop.specs.declared.Sheet.{Sheet}
 use Rattle.shop.specs.declared.Slot.{Slot}
-use Rattle.shop.specs.declared.Shop.{Shop}
 use Rattle.shop.specs.declared.Reqs.{Reqs}
 use Rattle.shop.specs.declared.Timer as Kinds
 use Rattle.shop.specs.Shapes.{sheetOf, atcAt, timerIs, codeOf, requirementOf, entries, slotOf}
@@ -145,7 +144,3 @@ context-made ks h y i e w t r l a f s et er ea el ef ex es =
 pub none-blocks : (h : Model.Sheet) (y : Slot) (i e : ℕ) → y .item ≡ Nothing → slotBlocks h i e (slotOf y) ≡ hideBlock e i ∷ []
 unfolding slotBlocks slotOf
 none-blocks h y i e o = rw o
-
--- check 8 leaves no slot that is not exact
-pub record AllExact (s : Shop) : Type 0 where
-  pub slot : (i : ℕ) (d : Slot) → i < length (s .slots) → Exact (getD (s .slots) i d)

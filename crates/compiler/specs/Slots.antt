@@ -9,6 +9,7 @@ use Rattle.model.specs.Script.{Block, blockCommands, blockNodes, sumOf}
 use Rattle.model.specs.Memory.{Memory, putBlock, putBlocks}
 use Rattle.model.specs.Sheet as Model
 use Rattle.model.specs.Shop.{Slot, emptySlot}
+use Rattle.model.specs.Laws.Sound.{sum-append}
 use Rattle.model.specs.Compile.{slotBlocks, slotsBlocks, lastOf}
 use Rattle.shop.specs.declared.Slot as Given
 use Rattle.shop.specs.declared.Shop.{Shop}
@@ -22,10 +23,6 @@ put-append : (s : Memory) (xs ys : List Block) → putBlocks s (xs ++ ys) ≡ pu
 unfolding putBlocks
 put-append s [] ys = refl
 put-append s (x ∷ xs) ys = put-append (putBlock s x) xs ys
-
-sum-append : (f : Block → ℕ) (xs ys : List Block) → sumOf f (xs ++ ys) ≡ sumOf f xs + sumOf f ys
-sum-append f [] ys = omega arith
-sum-append f (x ∷ xs) ys = omega (arith, sum-append f xs ys)
 
 pub append-put : {s t u : Memory} {xs ys : List Block} → PutBlocks s xs t → PutBlocks t ys u → PutBlocks s (xs ++ ys) u
 append-put {s} {t} {u} {xs} {ys} p q = record {

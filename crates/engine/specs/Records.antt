@@ -2,7 +2,7 @@
 use mathlib.Core.Path.{_≡_, refl, sym, ap, _∙_, subst, fun-ext, ap₂}
 use mathlib.Core.Bool.{Bool, true, false, cond, _&&_}
 use mathlib.Core.Option.{Option, none, some}
-use mathlib.Core.List.{List, [], _∷_, _++_}
+use mathlib.Core.List.{List, [], _∷_}
 use Prim.Native.Nat.{ℕ, zero, suc, _≤_, _<_}
 use native.Mathlib.Omega.{arith}
 use lib.Dec.{eqb}
@@ -30,6 +30,7 @@ use Rattle.model.specs.Laws.Refused.{Proper, proper-within, proper-cond}
 use Rattle.model.specs.Laws.Checks.{first-passed}
 use Rattle.memory.specs.Sound.{Sound, Long}
 use Rattle.memory.specs.RecordLaws.{judged-sound, block-at, length-blocksIn}
+use Rattle.checks.specs.Passed.{first-nested}
 use Rattle.memory.specs.Transfer.{judged-script, accepted-script, judged-is, compile-transfer}
 
 -- the clauses of demand 3, in the terms of the calls on a record
@@ -37,12 +38,6 @@ pub record Demand3In (h : Sheet) (m : Memory) (cs : List Call) : Type 0 where
   pub runs : (b : ℕ) (xs : List Slot) → lastAtIn h m cs b ≡ some xs → (s : Save) → saveRefusal h s ≡ 0 → RunsAs h s xs (λ budget. runIn h (afterAllIn h m cs) b s budget)
   pub parses : (b : ℕ) (xs : List Slot) → lastAtIn h m cs b ≡ some xs → parseIn h (afterAllIn h m cs) b ≡ record { answer = 0; slots = normalShop h xs }
   pub others : (b : ℕ) → b < m .count → lastAtIn h m cs b ≡ none → blockIn (afterAllIn h m cs) b ≡ blockIn m b
-
--- checks within checks are checks one after the other
-pub first-nested : (ns ks : List ℕ) → firstOf (firstOf ns ∷ ks) ≡ firstOf (ns ++ ks)
-first-nested [] ks = refl
-first-nested (zero ∷ ns) ks = first-nested ns ks
-first-nested (suc n ∷ ns) ks = refl
 
 -- ---- a judged record does what its script does
 

@@ -1,5 +1,5 @@
 -- Sheets, slots and shops as values: what check 8 tells of the entries, and slots put into a shop one by one. Assumes nothing.
-use mathlib.Core.Path.{_≡_, refl, ap, _∙_}
+use mathlib.Core.Path.{_≡_, refl, sym, ap, _∙_}
 use mathlib.Core.Bool.{Bool, true, false, cond, _&&_}
 use mathlib.Core.List.{List, [], _∷_, _++_, map}
 use Prim.Native.Nat.{ℕ, zero, suc, _+_, _*_, _-_, _/_, _%_, _≤_, _<_}
@@ -17,7 +17,7 @@ use Rattle.model.specs.Shop.{slotOk, itemKnown, reqKnown, emptySlot, padded, wi
 use Rattle.model.specs.Printer.{atcEntry}
 use Rattle.model.specs.Laws.Checks.{and-left, and-right}
 use Rattle.shop.specs.Shapes.{sheetOf, atcAt, codeOf, idOf, ofKind, unshift, requirementOf, entries, itemOf, slotOf, slotsOf, noSlot, noShop, placed}
-use Rattle.shop.specs.Sets.{Exact}
+use Rattle.shop.specs.Sets.{Exact, AllExact}
 use Rattle.shop.specs.Codes.{AllNarrow, shift-unshift, codes-narrow}
 use Rattle.shop.specs.declared.Sheet.{Sheet}
 use Rattle.shop.specs.declared.Slot.{Slot}
@@ -113,8 +113,8 @@ module _ (h : Model.Sheet) (e : sheetOk h ≡ true) where
       }
 
   -- .. of a shop that passed it
-  pub shop-exact : (s : Shop) (i : ℕ) (d : Slot) → all (slotOk h) (slotsOf s) ≡ true → i < length (s .slots) → Exact (getD (s .slots) i d)
-  shop-exact s i d f l = slot-exact (getD (s .slots) i d) (shop-slot h s i d f l)
+  pub shop-exact : (s : Shop) → all (slotOk h) (slotsOf s) ≡ true → AllExact s
+  shop-exact s f = record { slot = λ i d l. slot-exact (getD (s .slots) i d) (shop-slot h s i d f l) }
 
 -- ---- slots put into a shop
 
@@ -170,3 +170,14 @@ fill (suc n) i p (x ∷ xs) e =
 pub with-slots : (xs : List Slot) → slotsOf (placedFrom 0 xs noShop) ≡ withSlots (map slotOf xs)
 unfolding slotsOf
 with-slots xs = placed-from 0 xs noShop ∙ ap (setFrom 0 (map slotOf xs)) (map-replicate slotCount) ∙ fill slotCount 0 [] (map slotOf xs) refl
+
+-- ---- twenty slots are neither dropped nor filled up
+
+all-slots : (xs : List Shops.Slot) → padded (length xs) xs ≡ xs
+unfolding padded
+all-slots [] = refl
+all-slots (x ∷ xs) = ap (λ l. x ∷ l) (all-slots xs)
+
+pub with-all : (s : Shop) → length (s .slots) ≡ slotCount → withSlots (slotsOf s) ≡ slotsOf s
+unfolding slotsOf
+with-all s e = ap (λ n. padded n (slotsOf s)) (sym (length-map (s .slots) slotOf ∙ e)) ∙ all-slots (slotsOf s)

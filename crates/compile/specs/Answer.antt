@@ -1,0 +1,20 @@
+-- The answer of a compile and the record that it leaves. Assumes nothing: these are definitions.
+use mathlib.Core.Path.{_≡_}
+use mathlib.Core.List.{List}
+use Prim.Native.Nat.{ℕ}
+use lib.IntN.{ℤ}
+use Rattle.model.specs.Sheet as Model
+use Rattle.model.specs.Memory.{Memory}
+use Rattle.model.specs.Compile.{Call}
+use Rattle.model.specs.RecordCalls.{compileRefusalIn, compiledIn}
+use Rattle.shop.specs.declared.Shop.{Shop}
+use Rattle.shop.specs.Shapes.{slotsOf}
+
+-- the call as the definition takes it: the setup block and the slots
+abbrev pub callOf : ℕ → Shop → Call
+callOf b s = record { setup = b; shop = slotsOf s }
+
+-- the refusal or 0, and the record after the call: refused, it is as it was
+pub record CompiledAs (h : Model.Sheet) (m : Memory) (c : Call) (refusal : ℕ) (after : Memory) : Type 0 where
+  pub answer : refusal ≡ compileRefusalIn h m c
+  pub is : after ≡ compiledIn h m c

@@ -1,0 +1,5 @@
+pub mod Places
+pub mod Codes
+pub mod Acquired
+pub mod Pairs
+pub mod Checks

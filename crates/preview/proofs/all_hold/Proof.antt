@@ -1,0 +1,97 @@
+-- `all_hold` meets its contract. The loop's invariant: every entry passed holds. Assumes nothing.
+use mathlib.Core.Path.{_≡_, sym, ap, _∙_}
+use mathlib.Core.Bool.{Bool}
+use mathlib.Core.List.{List}
+use Prim.Native.Nat.{ℕ, _-_, _<_}
+use native.Mathlib.Omega.{arith}
+use lib.IntN.{ℤ}
+use lib.ListN.{length, getD}
+use borrow.Author.Tests.{not-true, not-false}
+use Rattle.model.specs.Meaning.{holds}
+use Rattle.shop.specs.Shapes.{requirementOf, entries, slotOf}
+use Rattle.shop.specs.Slots.{entries-length}
+use Rattle.shop.proofs.All.{Tested, start, more, stop, done}
+use Rattle.checks.specs.Calls.{saveOf}
+use Rattle.preview.proofs.Codes.{all-held, entry-is}
+use borrow.Author.Needs.{needs}
+use Rattle.preview.proofs.all_hold.Statement.{statement}
+use Rattle.preview.proofs.all_hold.Tie as tie
+
+-- whether a code's requirement holds
+abbrev held : List ℤ → List ℕ → List ℕ → List ℤ → List ℤ → ℕ → Bool
+held items atcs flags t v c = holds (saveOf items atcs flags t v) (requirementOf c)
+
+abbrev Inv-loop : tie.InvT-loop
+Inv-loop items atcs flags codes n i₀ i = (t v : List ℤ) → Tested (held items atcs flags t v) (entries n codes) i
+
+abbrev μ-loop : tie.MeasureT-loop
+μ-loop items atcs flags codes n i₀ i = n - i
+
+-- the entries, and the one that is tested
+abbrev listed : tie.Start Inv-loop μ-loop → List ℕ
+listed s = entries (s .args .slot .len) (s .args .slot .requirements)
+
+inside : (c : tie.In-loop Inv-loop μ-loop) → c .before .loop .i < length (listed (c .before .before .before .before .before .before))
+inside c = omega (arith, entries-length (c .before .before .before .before .before .before .args .slot .len) (c .before .before .before .before .before .before .args .slot .requirements), c .loop-test .taken)
+
+entry : (c : tie.In-loop Inv-loop μ-loop) → getD (listed (c .before .before .before .before .before .before)) (c .before .loop .i) 0 ≡ getD (c .before .before .before .before .before .before .args .slot .requirements) (c .before .loop .i) 0
+entry c = entry-is (c .before .before .before .before .before .before .args .slot .len) (c .before .before .before .before .before .before .args .slot .requirements) (c .before .loop .i) (c .loop-test .taken)
+
+cast-n : tie.Need-cast-n Inv-loop μ-loop
+cast-n c = search needs
+
+loop-holds : tie.Need-loop-holds Inv-loop μ-loop
+loop-holds c = λ t v. start _ _
+
+entry-at-requires : tie.Need-entry-at-requires Inv-loop μ-loop
+entry-at-requires c κs = search needs
+
+holds-requires : tie.Need-holds-requires Inv-loop μ-loop
+holds-requires c κs = search needs
+
+returns : tie.Need-returns Inv-loop μ-loop
+unfolding slotOf
+returns c = λ t v.
+    let s = c .before .before .before .before .before .before .before .before .before in
+    let i = c .before .before .before .before .loop .i in
+    let p = held (s .args .items .now) (s .args .atcs .now) (s .args .flags .now) t v in
+    stop p (listed s) i (c .before .before .before .before .loop .inv t v) 0 (inside (c .before .before .before))
+    (ap p (entry (c .before .before .before)) ∙ sym (ap p (c .before .before .entry-at .ensures)) ∙ sym (c .before .holds .ensures t v) ∙ not-true _ (c .if1 .taken))
+    ∙ all-held (saveOf (s .args .items .now) (s .args .atcs .now) (s .args .flags .now) t v) (listed s)
+
+add-i : tie.Need-add-i Inv-loop μ-loop
+add-i c = search needs
+
+loop-less : tie.Need-loop-less Inv-loop μ-loop
+loop-less c = omega arith
+
+loop-again : tie.Need-loop-again Inv-loop μ-loop
+loop-again c = λ t v.
+    let s = c .before .before .before .before .before .before .before .before .before in
+    let i = c .before .before .before .before .loop .i in
+    let p = held (s .args .items .now) (s .args .atcs .now) (s .args .flags .now) t v in
+    more p (listed s) i (c .before .before .before .before .loop .inv t v) 0 (inside (c .before .before .before))
+    (ap p (entry (c .before .before .before)) ∙ sym (ap p (c .before .before .entry-at .ensures)) ∙ sym (c .before .holds .ensures t v) ∙ not-false _ (c .if1 .left))
+
+returns-2 : tie.Need-returns-2 Inv-loop μ-loop
+unfolding slotOf
+returns-2 c = λ t v.
+    let s = c .before .before .before .before .before .before in
+    done (held (s .args .items .now) (s .args .atcs .now) (s .args .flags .now) t v) (listed s) (c .before .loop .i) (c .before .loop .inv t v) (omega (arith, entries-length (s .args .slot .len) (s .args .slot .requirements), c .loop-test .left))
+    ∙ all-held (saveOf (s .args .items .now) (s .args .atcs .now) (s .args .flags .now) t v) (listed s)
+
+pub all-hold-spec : {M : Type 1} → statement M
+all-hold-spec =
+    tie.close
+    (tie.spec
+    Inv-loop
+    μ-loop
+    cast-n
+    loop-holds
+    entry-at-requires
+    holds-requires
+    returns
+    add-i
+    loop-less
+    loop-again
+    returns-2)

@@ -1,0 +1,63 @@
+-- `meaning_of` meets its contract, by the slot's item and its limit. Assumes nothing.
+use mathlib.Core.Path.{_∙_}
+use mir.Syntax.{w16}
+use mir.Facts.{toZ-ofZ}
+use Rattle.model.specs.Meaning.{meaningOf}
+use Rattle.shop.specs.Shapes.{sheetOf, slotOf}
+use Rattle.checks.specs.Calls.{saveOf}
+use Rattle.preview.proofs.Pairs.{meaning-unique, meaning-limit}
+use borrow.Author.Needs.{needs}
+use Rattle.preview.proofs.meaning_of.Statement.{statement}
+use Rattle.preview.proofs.meaning_of.Tie as tie
+
+enum-told : tie.Need-enum-told
+enum-told c = search needs
+
+hidden-requires : tie.Need-hidden-requires
+hidden-requires c κs = search needs
+
+enum-known-item : tie.Need-enum-known-item
+enum-known-item c = search needs
+
+all-hold-requires : tie.Need-all-hold-requires
+all-hold-requires c κs = search needs
+
+limit-of-requires : tie.Need-limit-of-requires
+limit-of-requires c κs = search needs
+
+unique-meaning-requires : tie.Need-unique-meaning-requires
+unique-meaning-requires c κs = search needs
+
+returns : tie.Need-returns
+returns c = λ v.
+    let s = c .before .before .before .before .before .before .before .before .before .before .before in
+    c .unique-meaning .ensures (s .args .flags .now) v
+    ∙ meaning-unique (sheetOf (s .args .attached .now) (s .args .sheet)) (saveOf (s .args .items .now) (s .args .atcs .now) (s .args .flags .now) (s .args .times .now) v) (s .args .slot) _ (c .before .before .before .before .before .before .item .given .1) _ (c .before .before .before .before .all-hold .ensures (s .args .times .now) v) _ (rw (toZ-ofZ {w = w16} {z = s .args .slot .limit} (record { sfits = c .before .before .before .struct-told .given .1 .0 .1 })) at (c .before .before .limit-of .ensures)) (c .before .if1 .taken)
+
+limit-meaning-requires : tie.Need-limit-meaning-requires
+limit-meaning-requires c κs = search needs
+
+returns-2 : tie.Need-returns-2
+unfolding meaningOf slotOf
+returns-2 c = λ v. rw (c .before .enum-told .given .1) (c .hidden .ensures)
+
+returns-3 : tie.Need-returns-3
+returns-3 c = λ v.
+    let s = c .before .before .before .before .before .before .before .before .before .before .before in
+    c .limit-meaning .ensures (s .args .atcs .now) (s .args .flags .now) (s .args .times .now) v
+    ∙ meaning-limit (sheetOf (s .args .attached .now) (s .args .sheet)) (saveOf (s .args .items .now) (s .args .atcs .now) (s .args .flags .now) (s .args .times .now) v) (s .args .slot) _ (c .before .before .before .before .before .before .item .given .1) _ (c .before .before .before .before .all-hold .ensures (s .args .times .now) v) _ (rw (toZ-ofZ {w = w16} {z = s .args .slot .limit} (record { sfits = c .before .before .before .struct-told .given .1 .0 .1 })) at (c .before .before .limit-of .ensures)) (c .before .if1 .left)
+
+pub meaning-of-spec : {M : Type 1} → statement M
+meaning-of-spec =
+    tie.close
+    (tie.spec
+    enum-told
+    hidden-requires
+    enum-known-item
+    all-hold-requires
+    limit-of-requires
+    unique-meaning-requires
+    returns
+    limit-meaning-requires
+    returns-2
+    returns-3)

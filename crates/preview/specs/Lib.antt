@@ -1,0 +1,4 @@
+pub mod Tests
+pub mod Shown
+pub mod Accepted
+pub mod Agree

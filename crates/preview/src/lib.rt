@@ -1,0 +1,404 @@
+// The preview: what a shop means under a save, slot by slot, without compiling it.
+ghost use mathlib.Core.Path.{_≡_};
+ghost use mathlib.Core.Bool.{not};
+ghost use mathlib.Core.List.{List};
+ghost use Prim.Native.Nat.{ℕ, _%_, _<_};
+ghost use lib.IntN.{ℤ, pos, _-ℤ_};
+ghost use lib.ListN.{getD};
+ghost use lib.Signed.{ltZ};
+ghost use Rattle.model.specs.Limits.{wide, slotCount};
+ghost use Rattle.model.specs.Signed.{eqZ, isZero, clamp};
+ghost use Rattle.model.specs.Sheet.{atcFor};
+ghost use Rattle.model.specs.Compile.{rateOf, acquiredReq};
+ghost use Rattle.model.specs.Meaning.{holds, allHold, acquired, hidden, listed, noTimerHeld, oneOf, uniqueMeaning, limitMeaning, meaningOf};
+ghost use Rattle.model.specs.Preview.{previewCall};
+ghost use Rattle.shop.specs.declared.Sheet.{Sheet};
+ghost use Rattle.shop.specs.Shapes.{unshift, requirementOf, sheetOf, timerIs, slotOf, slotsOf};
+ghost use Rattle.checks.specs.Calls.{saveOf};
+ghost use Rattle.preview.specs.Tests.{placeOf, isMissing, isThere, ratedAt};
+ghost use Rattle.preview.specs.Shown.{meaningIs, blankOf, shown, meaningsOf, previewedOf};
+use checks::check_save;
+use model::ItemId;
+use shop::ItemAtc;
+use shop::Sheet;
+use shop::Shop;
+use shop::Slot;
+use shop::SlotItem;
+use shop::Timer;
+use shop::atc_for;
+use shop::check_sheet;
+use shop::check_shop;
+use shop::limit_of;
+use shop::timer_of;
+
+const TIMER_5_RATE: u8 = 200;
+
+const TIMER_10_RATE: u8 = 100;
+
+const TIMER_15_RATE: u8 = 67;
+
+// The refusal or 0, the pairs of the slots, 0 where it is refused, and variable 0 after them.
+pub struct Previewed {
+    pub refusal: u8,
+    pub items: [i32; 20],
+    pub counts: [i32; 20],
+    pub temp: i32,
+}
+
+// The pair of a slot; one above limit 1 that is shown leaves its count in variable 0.
+struct Meaning {
+    item: i32,
+    count: i32,
+    kept: bool,
+}
+
+// ---- the save
+
+// Reads outside the save give 0.
+fn short_at(list: &[i16], i: usize) -> i16
+    ensures { λ r. ⌜ r ≡ getD (now (list .entry)) i (pos 0) ⌝ }
+{
+    if i < list.len() {
+        return list[i];
+    }
+    0
+}
+
+fn equals_at(list: &[i16], i: usize, x: u8) -> bool
+    ensures { λ r. ⌜ r ≡ eqZ (getD (now (list .entry)) i (pos 0)) (pos x) ⌝ }
+{
+    short_at(list, i) == x as i16
+}
+
+fn bit_at(bits: &[u8], i: usize) -> bool
+    ensures { λ r. ⌜ r ≡ not (isZero (pos (getD (now (bits .entry)) i 0))) ⌝ }
+{
+    if i < bits.len() {
+        return bits[i] != 0;
+    }
+    false
+}
+
+fn is_held(items: &[i16], item: ItemId) -> bool
+    ensures { λ r. ⌜ r ≡ ltZ (pos 0) (getD (now (items .entry)) (item .0) (pos 0)) ⌝ }
+{
+    0 < short_at(items, item.0 as usize)
+}
+
+// ---- requirements
+
+// The place that a code's number names; outside stands for one below 0.
+fn place_of(code: u64, outside: usize) -> usize
+    ensures { λ r. ⌜ r ≡ placeOf (unshift (code % wide)) outside ⌝ }
+{
+    let m = code % 4294967296;
+    if m < 2147483648 {
+        return outside;
+    }
+    (m - 2147483648) as usize
+}
+
+fn is_missing(code: u64) -> bool
+    ensures { λ r. ⌜ r ≡ isMissing (requirementOf code) ⌝ }
+{
+    let kind = code / 4294967296;
+    if kind < 6 {
+        return kind % 2 == 1;
+    }
+    false
+}
+
+// Whether the save has what a requirement names. An id below 0 stands for 512, and a code of no kind for item 512: on no sheet.
+fn is_there(code: u64, items: &[i16], atcs: &[u8], flags: &[u8]) -> bool
+    ensures { λ r. ⌜ ((t v : List ℤ) → r ≡ isThere (saveOf (now (items .entry)) (now (atcs .entry)) (now (flags .entry)) t v) (requirementOf code)) ⌝ }
+{
+    let kind = code / 4294967296;
+    if kind < 2 {
+        return !equals_at(items, place_of(code, 512), 0);
+    }
+    if kind < 4 {
+        return bit_at(atcs, place_of(code, 512));
+    }
+    if kind < 6 {
+        return bit_at(flags, place_of(code, flags.len()));
+    }
+    !equals_at(items, 512, 0)
+}
+
+fn holds(code: u64, items: &[i16], atcs: &[u8], flags: &[u8]) -> bool
+    ensures { λ r. ⌜ ((t v : List ℤ) → r ≡ holds (saveOf (now (items .entry)) (now (atcs .entry)) (now (flags .entry)) t v) (requirementOf code)) ⌝ }
+{
+    let there = is_there(code, items, atcs, flags);
+    if is_missing(code) {
+        return !there;
+    }
+    there
+}
+
+// Past the array every entry is code 0, as in the slot's value.
+fn entry_at(codes: [u64; 32], i: usize) -> u64
+    ensures { λ r. ⌜ r ≡ getD codes i 0 ⌝ }
+{
+    if i < 32 {
+        return codes[i];
+    }
+    0
+}
+
+// R: the entries as given, in any order and with repeats.
+fn all_hold(slot: Slot, items: &[i16], atcs: &[u8], flags: &[u8]) -> bool
+    ensures { λ r. ⌜ ((t v : List ℤ) → r ≡ allHold (saveOf (now (items .entry)) (now (atcs .entry)) (now (flags .entry)) t v) (slotOf slot .requirements)) ⌝ }
+{
+    let codes = slot.requirements;
+    let n = slot.len as usize;
+    let mut i = 0;
+    while i < n {
+        if !holds(entry_at(codes, i), items, atcs, flags) {
+            return false;
+        }
+        i += 1;
+    }
+    true
+}
+
+// ---- acquired
+
+// The atc's test if the item has one, else the item's.
+fn is_owned(attached: &[u8], item: ItemId, items: &[i16], atcs: &[u8]) -> bool
+    ensures { λ r. ⌜ ((h : Sheet) (f : List ℕ) (t v : List ℤ) → r ≡ holds (saveOf (now (items .entry)) (now (atcs .entry)) f t v) (acquiredReq (atcFor (sheetOf (now (attached .entry)) h) (item .0)) (item .0))) ⌝ }
+{
+    let atc = atc_for(attached, item);
+    match atc {
+        ItemAtc::Nothing => !equals_at(items, item.0 as usize, 0),
+        ItemAtc::Of(a) => bit_at(atcs, a.0 as usize),
+    }
+}
+
+// Whether the time rate is the timer's.
+fn is_rated(timer: Timer, times: &[i16]) -> bool
+    ensures { λ r. ⌜ r ≡ ratedAt (rateOf (timerIs timer)) (getD (now (times .entry)) 2 (pos 0)) ⌝ }
+{
+    match timer {
+        Timer::Plain => false,
+        Timer::Five => equals_at(times, 2, TIMER_5_RATE),
+        Timer::Ten => equals_at(times, 2, TIMER_10_RATE),
+        Timer::Fifteen => equals_at(times, 2, TIMER_15_RATE),
+    }
+}
+
+fn is_acquired(
+    attached: &[u8],
+    sheet: Sheet,
+    item: ItemId,
+    items: &[i16],
+    atcs: &[u8],
+    times: &[i16],
+) -> bool
+    ensures { λ r. ⌜ ((f : List ℕ) (v : List ℤ) → r ≡ acquired (sheetOf (now (attached .entry)) sheet) (saveOf (now (items .entry)) (now (atcs .entry)) f (now (times .entry)) v) (item .0)) ⌝ }
+{
+    if is_owned(attached, item, items, atcs) {
+        return true;
+    }
+    is_rated(timer_of(sheet, item), times)
+}
+
+// ---- the pair of a slot
+
+// (−1, 0)
+fn hidden() -> Meaning
+    ensures { λ r. ⌜ meaningIs r ≡ hidden ⌝ }
+{
+    Meaning {
+        item: -1,
+        count: 0,
+        kept: false,
+    }
+}
+
+fn listed(item: ItemId, count: u8) -> Meaning
+    ensures { λ r. ⌜ meaningIs r ≡ listed (item .0) count ⌝ }
+{
+    Meaning {
+        item: item.0 as i32,
+        count: count as i32,
+        kept: false,
+    }
+}
+
+fn no_timer_held(sheet: Sheet, items: &[i16]) -> bool
+    ensures { λ r. ⌜ ((ks bs f : List ℕ) (t v : List ℤ) → r ≡ noTimerHeld (sheetOf ks sheet) (saveOf (now (items .entry)) bs f t v)) ⌝ }
+{
+    let ten = sheet.timer10;
+    let fifteen = sheet.timer15;
+    if is_held(items, ten) {
+        return false;
+    }
+    !is_held(items, fifteen)
+}
+
+// 1, but 0 for Timer5 with neither other timer held.
+fn one_of(timer: Timer, alone: bool) -> u8
+    ensures { λ r. ⌜ r ≡ oneOf (timerIs timer) alone ⌝ }
+{
+    match timer {
+        Timer::Plain => 1,
+        Timer::Five => {
+            if alone {
+                return 0;
+            }
+            1
+        }
+        Timer::Ten => 1,
+        Timer::Fifteen => 1,
+    }
+}
+
+// Limit 1, r being whether the requirements hold.
+fn unique_meaning(
+    attached: &[u8],
+    sheet: Sheet,
+    item: ItemId,
+    r: bool,
+    items: &[i16],
+    atcs: &[u8],
+    times: &[i16],
+) -> Meaning
+    ensures { λ m. ⌜ ((f : List ℕ) (v : List ℤ) → meaningIs m ≡ uniqueMeaning (sheetOf (now (attached .entry)) sheet) (saveOf (now (items .entry)) (now (atcs .entry)) f (now (times .entry)) v) (item .0) (acquired (sheetOf (now (attached .entry)) sheet) (saveOf (now (items .entry)) (now (atcs .entry)) f (now (times .entry)) v) (item .0)) r) ⌝ }
+{
+    if is_acquired(attached, sheet, item, items, atcs, times) {
+        return listed(item, 0);
+    }
+    if r {
+        let alone = no_timer_held(sheet, items);
+        return listed(item, one_of(timer_of(sheet, item), alone));
+    }
+    hidden()
+}
+
+// The larger of 0 and limit − held.
+fn remaining(limit: u8, held: i16) -> i32
+    ensures { λ r. ⌜ r ≡ clamp (pos limit -ℤ held) ⌝ }
+{
+    ints::remaining(limit as i16, held)
+}
+
+// A limit above 1.
+fn limit_meaning(item: ItemId, limit: u8, r: bool, items: &[i16]) -> Meaning
+    ensures { λ m. ⌜ ((bs f : List ℕ) (t v : List ℤ) → meaningIs m ≡ limitMeaning (saveOf (now (items .entry)) bs f t v) (item .0) limit r) ⌝ }
+{
+    if r {
+        return Meaning {
+            item: item.0 as i32,
+            count: remaining(limit, short_at(items, item.0 as usize)),
+            kept: true,
+        };
+    }
+    hidden()
+}
+
+fn meaning_of(
+    attached: &[u8],
+    sheet: Sheet,
+    slot: Slot,
+    items: &[i16],
+    atcs: &[u8],
+    flags: &[u8],
+    times: &[i16],
+) -> Meaning
+    ensures { λ r. ⌜ ((v : List ℤ) → meaningIs r ≡ meaningOf (sheetOf (now (attached .entry)) sheet) (saveOf (now (items .entry)) (now (atcs .entry)) (now (flags .entry)) (now (times .entry)) v) (slotOf slot)) ⌝ }
+{
+    let item = slot.item;
+    match item {
+        SlotItem::Nothing => hidden(),
+        SlotItem::Of(w) => {
+            let r = all_hold(slot, items, atcs, flags);
+            let limit = limit_of(attached, sheet, w, slot.limit);
+            if limit <= 1 {
+                return unique_meaning(attached, sheet, w, r, items, atcs, times);
+            }
+            limit_meaning(w, limit, r, items)
+        }
+    }
+}
+
+// ---- the call
+
+// A preview without pairs: variable 0 is the save's.
+fn blank(refusal: u8, vars: &[i32]) -> Previewed
+    ensures { λ r. ⌜ r ≡ blankOf refusal (getD (now (vars .entry)) 0 (pos 0)) ⌝ }
+{
+    let mut temp = 0;
+    if 0 < vars.len() {
+        temp = vars[0];
+    }
+    Previewed {
+        refusal: refusal,
+        items: [0; 20],
+        counts: [0; 20],
+        temp: temp,
+    }
+}
+
+// The pair of slot i, and variable 0 after it.
+fn put(p: Previewed, i: usize, m: Meaning) -> Previewed
+    requires { ⌜ i < slotCount ⌝ }
+    ensures { λ r. ⌜ r ≡ shown p i (meaningIs m) ⌝ }
+{
+    let mut out = p;
+    let item = m.item;
+    let count = m.count;
+    out.items[i] = item;
+    out.counts[i] = count;
+    if m.kept {
+        out.temp = count;
+    }
+    out
+}
+
+fn meanings(
+    attached: &[u8],
+    sheet: Sheet,
+    shop: Shop,
+    items: &[i16],
+    atcs: &[u8],
+    flags: &[u8],
+    times: &[i16],
+    vars: &[i32],
+) -> Previewed
+    ensures { λ r. ⌜ r ≡ previewedOf (meaningsOf (sheetOf (now (attached .entry)) sheet) (slotsOf shop) (saveOf (now (items .entry)) (now (atcs .entry)) (now (flags .entry)) (now (times .entry)) (now (vars .entry)))) ⌝ }
+{
+    let mut out = blank(0, vars);
+    let mut i = 0;
+    while i < 20 {
+        let slot = shop.slots[i];
+        let m = meaning_of(attached, sheet, slot, items, atcs, flags, times);
+        out = put(out, i, m);
+        i += 1;
+    }
+    out
+}
+
+// What the shop means under the save. Refused by 1, 8 or 12 it has no pairs, and variable 0 as in the save.
+pub fn preview(
+    attached: &[u8],
+    sheet: Sheet,
+    shop: Shop,
+    items: &[i16],
+    atcs: &[u8],
+    flags: &[u8],
+    times: &[i16],
+    vars: &[i32],
+) -> Previewed
+    ensures { λ r. ⌜ r ≡ previewedOf (previewCall (sheetOf (now (attached .entry)) sheet) (slotsOf shop) (saveOf (now (items .entry)) (now (atcs .entry)) (now (flags .entry)) (now (times .entry)) (now (vars .entry)))) ⌝ }
+{
+    if !check_sheet(attached, sheet) {
+        return blank(1, vars);
+    }
+    if !check_shop(attached, sheet, shop) {
+        return blank(8, vars);
+    }
+    if !check_save(attached, sheet, items, atcs, flags, times, vars) {
+        return blank(12, vars);
+    }
+    meanings(attached, sheet, shop, items, atcs, flags, times, vars)
+}

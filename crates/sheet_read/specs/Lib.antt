@@ -1,0 +1,6 @@
+pub mod Outcome
+pub mod Told
+pub mod Steps
+pub mod Whole
+pub mod Checked
+pub mod Input

@@ -1,0 +1,4 @@
+pub mod Sizes
+pub mod Tests
+pub mod Blocks
+pub mod Slots

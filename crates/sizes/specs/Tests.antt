@@ -1,0 +1,111 @@
+-- The tests of requirements have as many nodes as worked out. Assumes nothing.
+use mathlib.Core.Path.{_≡_, refl, _∙_}
+use mathlib.Core.Option.{Option, none, some}
+use mathlib.Core.List.{List, [], _∷_, map, map-append}
+use Prim.Native.Nat.{ℕ, zero, suc, _+_, _*_, _/_, _%_, _≤_, _<_}
+use native.Mathlib.Numerals.{add-one}
+use native.Mathlib.Omega.{arith}
+use lib.IntN.{ℤ, pos}
+use lib.ListN.{length, take, getD}
+use lib.Seq.{take-suc}
+use Rattle.model.specs.Limits.{wide}
+use Rattle.model.specs.Expr.{Expr, two, negate, size}
+use Rattle.model.specs.declared.Op2.the-variants.{Equal, NotEqual, BitAnd}
+use Rattle.model.specs.declared.Op1.the-variants.{Item, Atc}
+use Rattle.model.specs.Requirement.{Requirement, haveItem, missingItem, haveAtc, missingAtc, haveFlag, missingFlag}
+use Rattle.model.specs.Sheet.{Sheet, atcFor}
+use Rattle.model.specs.Shop.{Timer, plain, five, ten, fifteen, timerOf}
+use Rattle.model.specs.Compile.{test, itemTest, atcTest, flagTest, joinTests, acquiredReq, rateOf, orRate, acquiredExpr}
+use Rattle.model.specs.Laws.Sound.{sum-append}
+use Rattle.shop.specs.Shapes.{ofKind, unshift, requirementOf}
+use Rattle.emit.specs.Laws.{size-imm}
+use Rattle.emit.specs.Codes.{size-compare, size-flag, size-not-flag}
+use Rattle.sizes.specs.Sizes.{testNodes, testsNodes, acquiredNodes}
+
+pub test-size : (r : Requirement) → size (test r) ≡ testNodes r
+unfolding test itemTest atcTest flagTest
+test-size (haveItem i) = size-compare NotEqual Item (pos i)
+test-size (missingItem i) = size-compare Equal Item (pos i)
+test-size (haveAtc a) = size-compare NotEqual Atc (pos a)
+test-size (missingAtc a) = size-compare Equal Atc (pos a)
+test-size (haveFlag f) = size-flag f
+test-size (missingFlag f) = size-not-flag f
+
+-- ---- the test of a code, by its kind
+
+pub flag-nodes : (c : ℕ) → c / wide ≡ 4 → testNodes (requirementOf c) ≡ 2
+unfolding requirementOf
+flag-nodes c e = rw e
+
+pub not-flag-nodes : (c : ℕ) → c / wide ≡ 5 → testNodes (requirementOf c) ≡ 3
+unfolding requirementOf
+not-flag-nodes c e = rw e
+
+other-kind : (k : ℕ) (z : ℤ) → (k ≡ 4 → ⊥) → (k ≡ 5 → ⊥) → testNodes (ofKind k z) ≡ 4
+other-kind zero z a b = refl
+other-kind (suc zero) z a b = refl
+other-kind (suc (suc zero)) z a b = refl
+other-kind (suc (suc (suc zero))) z a b = refl
+other-kind (suc (suc (suc (suc zero)))) z a b = absurd (a refl)
+other-kind (suc (suc (suc (suc (suc zero))))) z a b = absurd (b refl)
+other-kind (suc (suc (suc (suc (suc (suc k)))))) z a b = refl
+
+pub other-nodes : (c : ℕ) → (c / wide ≡ 4 → ⊥) → (c / wide ≡ 5 → ⊥) → testNodes (requirementOf c) ≡ 4
+unfolding requirementOf
+other-nodes c a b = other-kind (c / wide) (unshift (c % wide)) a b
+
+-- ---- tests joined
+
+pub joined-size : (e : Expr) (rs : List Requirement) → size (joinTests e rs) ≡ size e + testsNodes rs
+unfolding joinTests testsNodes size
+joined-size e [] = omega arith
+joined-size e (r ∷ rs) = omega (arith, joined-size (two BitAnd e (test r)) rs, test-size r)
+
+-- the tests of the first i codes
+pub record Counted (cs : List ℕ) (i nodes : ℕ) : Type 0 where
+  pub is : nodes ≡ testsNodes (map requirementOf (take i cs))
+  pub few : nodes ≤ 5 * i
+
+pub none-counted : (cs : List ℕ) → Counted cs 0 0
+unfolding testsNodes
+none-counted cs = record { is = refl; few = omega arith }
+
+pub one-counted : (cs : List ℕ) (i nodes t : ℕ) → Counted cs i nodes → i < length cs → t ≡ testNodes (requirementOf (getD cs i 0)) → t ≤ 4 → Counted cs (i + 1) (nodes + (t + 1))
+unfolding testsNodes
+one-counted cs i nodes t p l e f = record {
+  is = rw (add-one i, take-suc cs i 0 l, map-append, sum-append) (omega (arith, p .is, e));
+  few = omega (arith, p .few);
+}
+
+-- ---- acquired: an item's or atc's test, and a timer's rate joined to it
+
+acquired-four : (a : Option ℕ) (w : ℕ) → testNodes (acquiredReq a w) ≡ 4
+acquired-four none w = refl
+acquired-four (some a) w = refl
+
+or-rate-size : (t : Timer) (r : Requirement) → testNodes r ≡ 4 → size (orRate (rateOf t) (test r)) ≡ acquiredNodes t
+unfolding size
+or-rate-size plain r e = test-size r ∙ e
+or-rate-size five r e = omega (arith, test-size r, e)
+or-rate-size ten r e = omega (arith, test-size r, e)
+or-rate-size fifteen r e = omega (arith, test-size r, e)
+
+-- the negation has as many: a comparison flips, BitOr becomes BitAnd
+negated-size : (t : Timer) (a : Option ℕ) (w : ℕ) → size (negate (orRate (rateOf t) (test (acquiredReq a w)))) ≡ acquiredNodes t
+unfolding size test itemTest atcTest
+negated-size plain none w = size-compare Equal Item (pos w)
+negated-size plain (some a) w = size-compare Equal Atc (pos a)
+negated-size five none w = omega (arith, size-imm (pos w))
+negated-size five (some a) w = omega (arith, size-imm (pos a))
+negated-size ten none w = omega (arith, size-imm (pos w))
+negated-size ten (some a) w = omega (arith, size-imm (pos a))
+negated-size fifteen none w = omega (arith, size-imm (pos w))
+negated-size fifteen (some a) w = omega (arith, size-imm (pos a))
+
+pub acquired-size : (h : Sheet) (w : ℕ) → size (acquiredExpr h w) ≡ acquiredNodes (timerOf h w)
+unfolding acquiredExpr
+acquired-size h w = or-rate-size (timerOf h w) (acquiredReq (atcFor h w) w) (acquired-four (atcFor h w) w)
+
+pub missing-size : (h : Sheet) (w : ℕ) → size (negate (acquiredExpr h w)) ≡ acquiredNodes (timerOf h w)
+unfolding acquiredExpr
+missing-size h w = negated-size (timerOf h w) (atcFor h w) w

@@ -1,0 +1,27 @@
+-- `block_word` meets its contract. Assumes nothing.
+use borrow.Author.Needs.{needs}
+use Rattle.visit.proofs.block_word.Statement.{statement}
+use Rattle.visit.proofs.block_word.Tie as tie
+
+index-of-requires : tie.Need-index-of-requires
+index-of-requires c κs = search needs
+
+mul-result : tie.Need-mul-result
+mul-result c = search needs
+
+add-result : tie.Need-add-result
+add-result c = search needs
+
+mul-result-2 : tie.Need-mul-result-2
+mul-result-2 c = search needs
+
+element-copy-out-result : tie.Need-element-copy-out-result
+element-copy-out-result c = search needs
+
+returns : tie.Need-returns
+returns c = rw (c .before .index-of .ensures)
+
+pub block-word-spec : {M : Type 1} → statement M
+block-word-spec =
+    tie.close
+    (tie.spec index-of-requires mul-result add-result mul-result-2 element-copy-out-result returns)

@@ -1,0 +1,169 @@
+-- A visit put together: the scan of the block's commands, the slots that they change, the conditions after it. Assumes nothing.
+use mathlib.Core.Path.{_≡_, refl, sym, ap, _∙_, subst}
+use mathlib.Core.Bool.{Bool, true, false, cond}
+use mathlib.Core.Option.{Option}
+use mathlib.Core.List.{List}
+use Prim.Native.Nat.{ℕ, suc, _≤_, _<_}
+use native.Mathlib.Omega.{arith}
+use lib.IntN.{ℤ}
+use lib.ListN.{set}
+use lib.Seq.{take-set-lt}
+use Rattle.model.specs.Limits.{blockLimit, nodeLimit}
+use Rattle.model.specs.Expr.{Expr}
+use Rattle.model.specs.Sheet.{Sheet, itemCount, all}
+use Rattle.model.specs.Requirement.{Requirement}
+use Rattle.model.specs.Memory.{Memory, commandsIn, blockWord}
+use Rattle.model.specs.Parse.{State, Scan, scan, parseRequirements, updateSlots, fewEntries, visited}
+use Rattle.model.specs.Shop as Model
+use Rattle.model.specs.Refusal.{parseTooMany}
+use Rattle.memory.specs.Transfer.{judged-kept}
+use Rattle.shop.specs.Shapes.{slotsOf}
+use Rattle.shop.specs.declared.Shop.{Shop}
+use Rattle.shop.specs.declared.Added.{Added}
+use Rattle.scan.specs.Ready.{Ready}
+use Rattle.scan.specs.Accepted.{commands-ready}
+use Rattle.scan.specs.Block.{scanOf, freshScan}
+use Rattle.scan.specs.Slots.{GoodShop, Stands}
+use Rattle.scan.specs.AllSlots.{slotsThen, SlotsUpdated}
+use Rattle.scan.specs.declared.VarTable.{VarTable}
+use Rattle.scan.specs.declared.Scanned.{Scanned}
+use Rattle.scan.specs.declared.Updated.{Updated}
+use Rattle.conditions.specs.Entries.{Keyed}
+use Rattle.conditions.specs.Marks.{conditionOf}
+use Rattle.visit.specs.State.{stateOf, conditionIn, scanIn, stateAfter, Open, KeyedIn, Entered}
+use Rattle.visit.specs.LastIf.{lastIf, Rooted, last-low, Conditions, last-conditions, block-rooted}
+use Rattle.visit.specs.Hiding.{Hidden}
+use Rattle.visit.specs.Ways.{Joined}
+use Rattle.visit.specs.declared.Walk.{Walk}
+use Rattle.visit.specs.declared.Ways.{Ways}
+
+-- ---- the walk after the slots were updated
+
+-- by the slots xs of the definition
+pub record Moved (xs : List Model.Slot) (r : Walk) : Type 0 where
+  pub answer : r .answer ≡ cond (all fewEntries xs) 0 parseTooMany
+  pub slots : r .answer ≡ 0 → slotsOf (r .shop) ≡ xs
+  pub good : r .answer ≡ 0 → GoodShop (r .shop)
+
+-- for every sheet of so many items, and all requirements that hidden stands for; the limit l and n cells are given
+pub record Moves (shop : Shop) (items : ℕ) (t : VarTable) (hidden : Added) (l : ℤ) (n : ℕ) (r : Walk) : Type 0 where
+  pub by : (h : Sheet) (rs : List Requirement) → itemCount h ≡ items → Stands hidden rs → Moved (slotsThen h rs t shop) r
+  pub limit : r .limit ≡ l
+  pub cells : r .cells ≡ n
+
+module _ (shop : Shop) (items : ℕ) (t : VarTable) (hidden : Added) (u : Updated) (v : SlotsUpdated shop items t hidden u) (r : Walk) where
+  pub moves-refused : (l : ℤ) → r .limit ≡ l → u .ok ≡ false → r .answer ≡ parseTooMany → Moves shop items t hidden l (r .cells) r
+  moves-refused l q f e = record {
+    by = λ h rs i w. record {
+      answer = e ∙ rw (sym (v .by h rs i w .ok) ∙ f);
+      slots = λ q. absurd (omega arith);
+      good = λ q. absurd (omega arith);
+    };
+    limit = q;
+    cells = refl;
+  }
+
+  pub moves-on : (l : ℤ) → r .limit ≡ l → u .ok ≡ true → r .answer ≡ 0 → r .shop ≡ u .shop → Moves shop items t hidden l (r .cells) r
+  moves-on l q f e s = record {
+    by = λ h rs i w. record {
+      answer = e ∙ rw (sym (v .by h rs i w .ok) ∙ f);
+      slots = λ q. ap slotsOf s ∙ v .by h rs i w .is f;
+      good = λ q. rw s (v .by h rs i w .good f);
+    };
+    limit = q;
+    cells = refl;
+  }
+
+-- ---- what the calls of a visit want: n commands from command f on
+
+module _ {m : Memory} {marks : List Bool} {w : Walk} {b c : ℕ} (o : Open m marks w b c) where
+  pub open-block : b < blockLimit
+  open-block = let a = o .accepted in let k = judged-kept m (a .blocks) (a .rest) (a .is) .0 in omega (arith, o .block)
+
+  pub open-nodes : m .coded .nodes .count ≤ nodeLimit
+  open-nodes = let a = o .accepted in judged-kept m (a .blocks) (a .rest) (a .is) .2
+
+  pub open-ready : (n f : ℕ) → n ≡ blockWord m b 2 → f ≡ blockWord m b 1 → Ready (m .coded .nodes .words) (m .coded .nodes .values) (m .coded .words) n f
+  open-ready n f e d = let a = o .accepted in rw (e, d) (commands-ready m (a .blocks) (a .rest) (a .is) b (o .block) (o .code))
+
+  rooted : Rooted (m .coded .nodes .count) (m .coded .words) (blockWord m b 2) (blockWord m b 1)
+  rooted = let a = o .accepted in block-rooted m (a .blocks) (a .rest) (a .is) b (o .block) (o .code)
+
+  pub open-rooted : (n f : ℕ) → n ≡ blockWord m b 2 → f ≡ blockWord m b 1 → Rooted nodeLimit (m .coded .words) n f
+  open-rooted n f e d =
+      let most = open-nodes in
+      rw (e, d) record { low = rooted .low; root = λ k l u q. let x = rooted .root k l u q in omega arith }
+
+-- the requirements of the condition, the counts being as the call has them
+pub hidden-at : (h : Sheet) (m : Memory) (cells : List ℕ) (c : ℕ) (keys leaves : List ℕ) (k : ℕ) (t : VarTable) (a : Added) → KeyedIn h m keys leaves k → (n d : ℕ) → n ≡ m .coded .nodes .count → d ≡ c
+    → (Keyed h (m .coded .nodes) n keys leaves k → Hidden h (parseRequirements h (conditionOf (m .coded .nodes) n cells d)) t a) → Hidden h (parseRequirements h (conditionIn m cells c)) t a
+hidden-at h m cells c keys leaves k t a kd n d e f g =
+    subst (λ x. Hidden h (parseRequirements h (conditionOf (m .coded .nodes) x cells c)) t a) e
+    (subst (λ x. Hidden h (parseRequirements h (conditionOf (m .coded .nodes) n cells x)) t a) f
+    (g (subst (λ x. Keyed h (m .coded .nodes) x keys leaves k) (sym e) kd)))
+
+-- ---- the visit
+
+made : {xs ys : List Model.Slot} {ms ns : List Bool} {x y : ℤ} {p q : ℕ} → xs ≡ ys → ms ≡ ns → x ≡ y → p ≡ q
+    → _≡_ {A = State} (record { slots = xs; marks = ms; current = x; answer = p }) (record { slots = ys; marks = ns; current = y; answer = q })
+made e f g i = rw (e, f, g, i)
+
+module _ (h : Sheet) (m : Memory) (marks : List Bool) (cells : List ℕ) (w : Walk) (b c : ℕ) (o : Open m marks w b c)
+    (held first : ℕ) (many : held ≡ blockWord m b 2) (from : first ≡ blockWord m b 1) (l : ℤ) (lim : l ≡ w .limit)
+    (s : Scanned) (is : (e : Option Expr) → scanOf (m .coded .nodes) e s ≡ scan e (commandsIn (m .coded) held first) (freshScan l)) where
+  abbrev under : Option Expr
+  under = conditionIn m cells c
+
+  scan-is : scanOf (m .coded .nodes) under s ≡ scanIn m marks cells w b c
+  scan-is = rw (many, from, lim) at (is under)
+
+  module _ (items : ℕ) (of : itemCount h ≡ items) (a : Added) (d : Hidden h (parseRequirements h under) (s .table) a)
+      (r : Walk) (n : ℕ) (v : Moves (w .shop) items (s .table) a (s .limit) n r) where
+    slots-then : slotsThen h (d .reqs) (s .table) (w .shop) ≡ stateAfter h m marks cells w b c .slots
+    unfolding visited scanOf
+    slots-then = sym (d .same (slotsOf (w .shop))) ∙ ap (λ (k : Scan). updateSlots h (parseRequirements h under) (k .items) (k .counts) (slotsOf (w .shop))) scan-is
+
+    limit-then : r .limit ≡ scanIn m marks cells w b c .limit
+    unfolding scanOf
+    limit-then = v .limit ∙ ap (λ (k : Scan). k .limit) scan-is
+
+    moved : Moved (slotsThen h (d .reqs) (s .table) (w .shop)) r
+    moved = v .by h (d .reqs) of (d .stands)
+
+    answer-then : r .answer ≡ stateAfter h m marks cells w b c .answer
+    unfolding visited
+    answer-then = moved .answer ∙ ap (λ (xs : List Model.Slot). cond (all fewEntries xs) 0 parseTooMany) slots-then
+
+    state-then : r .answer ≡ 0 → stateOf (m .count) (set marks b true) r ≡ stateAfter h m marks cells w b c
+    unfolding visited
+    state-then z = made (moved .slots z ∙ slots-then) (take-set-lt (m .count) marks b true (o .block)) limit-then answer-then
+
+    module _ (cells′ : List ℕ) (y : Ways) (q : ℕ) (found : q ≡ lastIf (m .coded .words) held first) (j : Joined cells (w .cells) c q cells′ y) (cs : n ≡ y .cells) where
+      last-is : q ≡ lastIf (m .coded .words) (blockWord m b 2) (blockWord m b 1)
+      last-is = rw (many, from) at found
+
+      root-low : (x : ℕ) → q ≡ suc x → x < m .coded .nodes .count
+      root-low x e = last-low (m .coded .nodes .count) (m .coded .words) (blockWord m b 2) (blockWord m b 1) (rooted o) x (sym last-is ∙ e)
+
+      joined : Conditions (m .coded .nodes) under q (scanIn m marks cells w b c)
+      joined = rw last-is (last-conditions (m .coded) under (w .limit) (blockWord m b 2) (blockWord m b 1))
+
+      pub entered : (i x z : ℕ) → i ≡ b → x ≡ blockWord m b 3 → z ≡ blockWord m b 4
+          → Entered h m marks cells w b c (set marks i true) cells′ (record { walk = r; next = x; then = y .then; other = z; otherwise = y .otherwise })
+      entered i x z at e f =
+          let same : r .cells ≡ y .cells = v .cells ∙ cs in
+          rw at record {
+            answer = answer-then;
+            state = state-then;
+            good = moved .good;
+            onNext = j .onNext (m .coded .nodes) (m .coded .nodes .count) root-low ∙ sym (joined .onNext);
+            onElse = j .onElse (m .coded .nodes) (m .coded .nodes .count) root-low ∙ sym (joined .onElse);
+            next = e;
+            other = f;
+            marked = refl;
+            same = j .same;
+            more = omega (arith, j .more);
+            most = omega (arith, j .most);
+            lowNext = omega (arith, j .lowNext);
+            lowElse = omega (arith, j .lowElse);
+          }

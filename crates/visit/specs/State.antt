@@ -1,0 +1,76 @@
+-- What a parse has so far as the code keeps it, and what a visit of one block leaves of it. Assumes nothing: these are definitions.
+use mathlib.Core.Path.{_≡_}
+use mathlib.Core.Bool.{Bool, true, false}
+use mathlib.Core.Option.{Option}
+use mathlib.Core.List.{List}
+use Prim.Native.Nat.{ℕ, _+_, _*_, _≤_, _<_}
+use lib.ListN.{length, set, take}
+use Rattle.model.specs.Limits.{blockLimit}
+use Rattle.model.specs.Expr.{Expr}
+use Rattle.model.specs.Sheet.{Sheet, itemCount}
+use Rattle.model.specs.Script.{Block, Command}
+use Rattle.model.specs.Reading.{got}
+use Rattle.model.specs.Memory.{Memory, commandsIn, blockWord}
+use Rattle.model.specs.Record.{judgedRecord}
+use Rattle.model.specs.Parse.{State, Scan, scanned, visited}
+use Rattle.shop.specs.Shapes.{slotsOf}
+use Rattle.scan.specs.Slots.{GoodShop}
+use Rattle.conditions.specs.Entries.{Keyed, Keys}
+use Rattle.conditions.specs.Marks.{conditionOf}
+use Rattle.conditions.specs.Cells.{SameCells}
+use Rattle.visit.specs.declared.Walk.{Walk}
+use Rattle.visit.specs.declared.Visited.{Visited}
+
+-- 2 to 5 do not refuse the record
+pub record Accepted (m : Memory) : Type 0 where
+  pub blocks : List Block
+  pub rest : List ℕ
+  pub is : judgedRecord m ≡ got blocks rest
+
+-- the definition's state; marks past the blocks are never set
+abbrev pub stateOf : ℕ → List Bool → Walk → State
+stateOf n marks w = record { slots = slotsOf (w .shop); marks = take n marks; current = w .limit; answer = w .answer }
+
+-- the condition with the number c
+abbrev pub conditionIn : Memory → List ℕ → ℕ → Option Expr
+conditionIn m cells c = conditionOf (m .coded .nodes) (m .coded .nodes .count) cells c
+
+abbrev pub commandsOf : Memory → ℕ → List Command
+commandsOf m b = commandsIn (m .coded) (blockWord m b 2) (blockWord m b 1)
+
+-- block b, which is code, read under condition c
+abbrev pub scanIn : Memory → List Bool → List ℕ → Walk → ℕ → ℕ → Scan
+scanIn m marks cells w b c = scanned (conditionIn m cells c) (commandsOf m b) (stateOf (m .count) marks w)
+
+abbrev pub stateAfter : Sheet → Memory → List Bool → List ℕ → Walk → ℕ → ℕ → State
+stateAfter h m marks cells w b c = visited h b (conditionIn m cells c) (commandsOf m b) (stateOf (m .count) marks w)
+
+-- what a visit of block b under condition c wants
+pub record Open (m : Memory) (marks : List Bool) (w : Walk) (b c : ℕ) : Type 0 where
+  pub accepted : Accepted m
+  pub block : b < m .count
+  pub code : blockWord m b 0 ≡ 1
+  pub fine : w .answer ≡ 0
+  pub free : w .cells < blockLimit
+  pub low : c ≤ 2 * w .cells
+  pub good : GoodShop (w .shop)
+
+-- the keys of the record's requirements, as key_nodes leaves them
+abbrev pub KeyedIn : Sheet → Memory → List ℕ → List ℕ → ℕ → Type 0
+KeyedIn h m keys leaves n = Keyed h (m .coded .nodes) (m .coded .nodes .count) keys leaves n
+
+-- what it leaves; where it refuses only the answer counts
+pub record Entered (h : Sheet) (m : Memory) (marks : List Bool) (cells : List ℕ) (w : Walk) (b c : ℕ) (marks′ : List Bool) (cells′ : List ℕ) (r : Visited) : Type 0 where
+  pub answer : r .walk .answer ≡ stateAfter h m marks cells w b c .answer
+  pub state : r .walk .answer ≡ 0 → stateOf (m .count) marks′ (r .walk) ≡ stateAfter h m marks cells w b c
+  pub good : r .walk .answer ≡ 0 → GoodShop (r .walk .shop)
+  pub onNext : conditionIn m cells′ (r .then) ≡ scanIn m marks cells w b c .onNext
+  pub onElse : conditionIn m cells′ (r .otherwise) ≡ scanIn m marks cells w b c .onElse
+  pub next : r .next ≡ blockWord m b 3
+  pub other : r .other ≡ blockWord m b 4
+  pub marked : marks′ ≡ set marks b true
+  pub same : SameCells (w .cells) cells′ cells
+  pub more : w .cells ≤ r .walk .cells
+  pub most : r .walk .cells ≤ w .cells + 1
+  pub lowNext : r .then ≤ 2 * r .walk .cells
+  pub lowElse : r .otherwise ≤ 2 * r .walk .cells

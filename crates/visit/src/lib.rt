@@ -1,0 +1,256 @@
+// One block of a parse: its commands read under the condition that leads to it, the slots that it writes, the conditions of the blocks after it.
+ghost use mathlib.Core.Path.{_≡_};
+ghost use mathlib.Core.Bool.{false};
+ghost use Prim.Native.Nat.{ℕ, _+_, _*_, _≤_, _<_};
+ghost use lib.IntN.{ℤ};
+ghost use mathlib.Core.List.{List};
+ghost use lib.ListN.{length, getD};
+ghost use Rattle.model.specs.Limits.{slotCount, entryLimit, blockLimit, nodeLimit};
+ghost use Rattle.model.specs.Sheet.{Sheet, itemCount};
+ghost use Rattle.model.specs.Memory.{memoryIn, nodesIn};
+ghost use Rattle.model.specs.Parse.{parseRequirements};
+ghost use Rattle.scan.specs.Reads.{shortIs};
+ghost use Rattle.scan.specs.Slots.{GoodShop};
+ghost use Rattle.conditions.specs.Entries.{Keys, Keyed};
+ghost use Rattle.conditions.specs.Marks.{conditionOf};
+ghost use Rattle.conditions.specs.Cells.{withCell};
+ghost use Rattle.visit.specs.State.{Open, KeyedIn, Entered};
+ghost use Rattle.visit.specs.LastIf.{lastIf, Rooted};
+ghost use Rattle.visit.specs.Hiding.{hidesBy, Shown, Hidden, noneHidden};
+ghost use Rattle.visit.specs.Ways.{Joined};
+ghost use Rattle.visit.specs.Entering.{Moves};
+use conditions::parse_requirements;
+use memory::Counts;
+use memory::index_of;
+use scan::Scanned;
+use scan::Short;
+use scan::VarTable;
+use scan::count_at;
+use scan::item_at;
+use scan::scan_block;
+use scan::update_slots;
+use shop::Added;
+use shop::Shop;
+use shop::no_reqs;
+
+// What is carried from block to block: the slots, the current limit, how many cells of conditions there are, the refusal or 0.
+pub struct Walk {
+    pub shop: Shop,
+    pub limit: i16,
+    pub cells: u16,
+    pub answer: u8,
+}
+
+// What a block leaves, its next and else as they stand in the script, and the numbers of their conditions.
+pub struct Visited {
+    pub walk: Walk,
+    pub next: u16,
+    pub then: u16,
+    pub other: u16,
+    pub otherwise: u16,
+}
+
+// How many cells there are after a block, and the numbers of the conditions of its next and else.
+struct Ways {
+    cells: u16,
+    then: u16,
+    otherwise: u16,
+}
+
+// ---- the conditions after a block
+
+// The last If of held commands from first on: 0 for none, or 1 + its root. Most often it is the last command.
+// What scan_block says of it is a tree, and a cell wants a root that lies below the kept count.
+fn last_if(cw: &[u16; 65536], first: u16, held: u16) -> u16
+    requires { ⌜ Rooted nodeLimit (now cw) held first ⌝ }
+    ensures { λ r. ⌜ r ≡ lastIf (now (cw .entry)) held first ⌝ }
+{
+    let mut left = held;
+    while 0 < left {
+        let i = index_of(first + (left - 1));
+        if cw[4 * i] == 3 {
+            return cw[4 * i + 1] + 1;
+        }
+        left -= 1;
+    }
+    0
+}
+
+// Cell n holds the condition c and the root i of the If that it is joined with.
+fn add_cell(cells: &mut [u16; 8192], n: u16, c: u16, i: u16)
+    requires { ⌜ n < blockLimit ⌝ }
+    ensures { λ _. ⌜ now (cells .exit) ≡ withCell (now (cells .entry)) n c i ⌝ }
+{
+    let at = index_of(n);
+    cells[2 * at] = c;
+    cells[2 * at + 1] = i;
+}
+
+fn known_cells(a: &[u16; 8192]) -> usize
+    ensures { λ _. ⌜ length (now (a .entry)) ≡ 8192 ⌝ }
+{
+    let s: &[u16] = a;
+    s.len()
+}
+
+// The condition c joined with the last If of the block, negated for the else; without an If there is none.
+fn join(cells: &mut [u16; 8192], n: u16, c: u16, last: u16) -> Ways
+    requires { ⌜ (n < blockLimit) × (c ≤ 2 * n) ⌝ }
+    ensures { λ r. ⌜ Joined (now (cells .entry)) n c last (now (cells .exit)) r ⌝ }
+{
+    if last == 0 {
+        return Ways {
+            cells: n,
+            then: 0,
+            otherwise: 0,
+        };
+    }
+    known_cells(cells);
+    add_cell(cells, n, c, last - 1);
+    Ways {
+        cells: n + 1,
+        then: 2 * n + 1,
+        otherwise: 2 * n + 2,
+    }
+}
+
+// ---- the slots
+
+// A count with no item, or with one below 0.
+fn hides_at(item: Short, count: Short) -> bool
+    ensures { λ r. ⌜ r ≡ hidesBy (shortIs item) (shortIs count) ⌝ }
+{
+    let Short::Wrote(_) = count else {
+        return false;
+    };
+    let Short::Wrote(id) = item else {
+        return true;
+    };
+    id < 0
+}
+
+// Whether the block hides a slot: most blocks write no count.
+fn hides(t: VarTable) -> bool
+    ensures { λ r. ⌜ (r ≡ false → Shown t slotCount) ⌝ }
+{
+    if t.count_mask == 0 {
+        return false;
+    }
+    let mut i = 0;
+    while i < 20 {
+        if hides_at(item_at(t, i), count_at(t, i)) {
+            return true;
+        }
+        i += 1;
+    }
+    false
+}
+
+fn none_hidden() -> Added
+    ensures { λ r. ⌜ r ≡ noneHidden ⌝ }
+{
+    Added {
+        ok: true,
+        reqs: no_reqs(),
+    }
+}
+
+// The negated requirements of the condition c as a set. They are collected only where the block hides a slot: elsewhere none will do.
+// A set has no more than 32 entries; the test stands for a promise that parse_requirements gives for a sheet only, and here none is at hand.
+fn hidden_of(
+    ws: &[u16; 98304],
+    lf: &[u16; 32768],
+    cells: &[u16; 8192],
+    keys: &[u64; 32768],
+    seen: &mut [bool; 65536],
+    keyed: u16,
+    n: usize,
+    c: usize,
+    t: VarTable,
+) -> Added
+    requires { ⌜ ((n ≤ 32768) × (c ≤ 8192)) × ((keyed < 32768) × Keys (now keys) keyed) ⌝ }
+    ensures { λ r. ⌜ (r .reqs .len ≤ entryLimit) × ((h : Sheet) (vs : List ℤ) (k : ℕ) → Keyed h (nodesIn (now (ws .entry)) vs k) n (now (keys .entry)) (now (lf .entry)) keyed → Hidden h (parseRequirements h (conditionOf (nodesIn (now (ws .entry)) vs k) n (now (cells .entry)) c)) t r) ⌝ }
+{
+    if !hides(t) {
+        return none_hidden();
+    }
+    let a = parse_requirements(ws, lf, cells, keys, seen, keyed, n, c);
+    if 32 < a.reqs.len {
+        return none_hidden();
+    }
+    a
+}
+
+// The walk with the slots that the block leaves, or the refusal 11: a slot's 33rd requirement.
+fn moved(shop: Shop, items: u16, s: Scanned, hidden: Added, cells: u16) -> Walk
+    requires { ⌜ (hidden .reqs .len ≤ entryLimit) × GoodShop shop ⌝ }
+    ensures { λ r. ⌜ Moves shop items (s .table) hidden (s .limit) cells r ⌝ }
+{
+    let t = s.table;
+    let u = update_slots(shop, items, t, hidden);
+    if !u.ok {
+        return Walk {
+            shop,
+            limit: s.limit,
+            cells,
+            answer: 11,
+        };
+    }
+    let out = u.shop;
+    Walk {
+        shop: out,
+        limit: s.limit,
+        cells,
+        answer: 0,
+    }
+}
+
+// ---- the visit
+
+// Word j of block b.
+fn block_word(bw: &[u16; 20480], b: u16, j: usize) -> u16
+    requires { ⌜ (b < blockLimit) × (j < 5) ⌝ }
+    ensures { λ r. ⌜ r ≡ getD (now (bw .entry)) (5 * b + j) 0 ⌝ }
+{
+    bw[5 * index_of(b) + j]
+}
+
+// Block b, which is code and not marked, under the condition c.
+pub fn visit(
+    ws: &[u16; 98304],
+    val: &[i32; 32768],
+    cw: &[u16; 65536],
+    bw: &[u16; 20480],
+    lf: &[u16; 32768],
+    keys: &[u64; 32768],
+    seen: &mut [bool; 65536],
+    marks: &mut [bool; 4096],
+    cells: &mut [u16; 8192],
+    k: Counts,
+    keyed: u16,
+    items: u16,
+    w: Walk,
+    b: u16,
+    c: u16,
+) -> Visited
+    requires { ⌜ (keyed < 32768) × Keys (now keys) keyed ⌝ }
+    requires { ⌜ Open (memoryIn (now ws) (now val) (now cw) (now bw) (k .nodes) (k .commands) (k .blocks)) (now marks) w b c ⌝ }
+    ensures { λ r. ⌜ ((h : Sheet) → itemCount h ≡ items → KeyedIn h (memoryIn (now (ws .entry)) (now (val .entry)) (now (cw .entry)) (now (bw .entry)) (k .nodes) (k .commands) (k .blocks)) (now (keys .entry)) (now (lf .entry)) keyed → Entered h (memoryIn (now (ws .entry)) (now (val .entry)) (now (cw .entry)) (now (bw .entry)) (k .nodes) (k .commands) (k .blocks)) (now (marks .entry)) (now (cells .entry)) w b c (now (marks .exit)) (now (cells .exit)) r) ⌝ }
+{
+    let first = block_word(bw, b, 1);
+    let held = block_word(bw, b, 2);
+    let shop = w.shop;
+    marks[index_of(b)] = true;
+    let s = scan_block(ws, val, cw, first, held, w.limit);
+    let t = s.table;
+    let n = index_of(k.nodes);
+    let hidden = hidden_of(ws, lf, cells, keys, seen, keyed, n, index_of(c), t);
+    let ways = join(cells, w.cells, c, last_if(cw, first, held));
+    Visited {
+        walk: moved(shop, items, s, hidden, ways.cells),
+        next: block_word(bw, b, 3),
+        then: ways.then,
+        other: block_word(bw, b, 4),
+        otherwise: ways.otherwise,
+    }
+}

@@ -1,0 +1,101 @@
+-- Before the first block: the walk of the setup block alone, nothing marked, is the parse from it. Assumes nothing.
+use mathlib.Core.Path.{_≡_, refl, sym, ap, ap₂, subst, _∙_}
+use mathlib.Core.Bool.{Bool, false}
+use mathlib.Core.Option.{none}
+use mathlib.Core.List.{List, [], _∷_, map}
+use Prim.Native.Nat.{ℕ, zero, suc, _≤_}
+use native.Mathlib.Omega.{arith}
+use lib.IntN.{pos}
+use lib.ListN.{length, getD, take, replicate, length-replicate}
+use Rattle.model.specs.Limits.{slotCount}
+use Rattle.model.specs.Sheet.{Sheet, itemCount}
+use Rattle.model.specs.Shop
+use Rattle.model.specs.Shop.{emptySlot}
+use Rattle.model.specs.Memory.{Memory, Nodes, nodesIn, scriptOf}
+use Rattle.model.specs.Parse.{State, start, parse}
+use Rattle.memory.specs.Transfer.{blocks-counted}
+use Rattle.shop.specs.Shapes.{slotOf, slotsOf, noShop, entries}
+use Rattle.scan.specs.Slots.{good-start}
+use Rattle.conditions.specs.Entries.{Keyed}
+use Rattle.conditions.specs.Reads.{sheetBy}
+use Rattle.conditions.specs.Marks.{conditionTo, conditionOf}
+use Rattle.conditions.specs.Cells.{keyed-for}
+use Rattle.visit.specs.declared.Walk.{Walk}
+use Rattle.visit.specs.State.{Accepted, stateOf, conditionIn, KeyedIn}
+use Rattle.walk.specs.Dfs.{entry}
+use Rattle.walk.specs.Marks.{unmarked, unmarked-replicate}
+use Rattle.walk.specs.Steps.{walks, stack-one}
+use Rattle.walk.specs.Walks.{stackOf, under, walksIn, AllLow, Keying, Ready, startWalk}
+use Rattle.walk.proofs.Turns.{few-blocks}
+
+-- ---- nothing is marked
+
+take-replicate : (n k : ℕ) → n ≤ k → take n (replicate k false) ≡ replicate n false
+take-replicate zero k h = refl
+take-replicate (suc n) zero h = absurd (omega arith)
+take-replicate (suc n) (suc k) h = ap (λ l. false ∷ l) (take-replicate n k (omega arith))
+
+no-slots : slotsOf noShop ≡ replicate slotCount emptySlot
+unfolding slotsOf slotOf entries
+no-slots = refl
+
+state-of : (n k : ℕ) → n ≤ k → stateOf n (replicate k false) startWalk ≡ record { slots = replicate slotCount emptySlot; marks = replicate n false; current = pos 0; answer = 0 }
+state-of n k h = same no-slots (take-replicate n k h)
+  where
+    same : {xs ys : List Shop.Slot} {us vs : List Bool} → xs ≡ ys → us ≡ vs
+        → _≡_ {A = State} (record { slots = xs; marks = us; current = pos 0; answer = 0 }) (record { slots = ys; marks = vs; current = pos 0; answer = 0 })
+    same p q = rw (p, q)
+
+-- ---- the stack holds the setup block under no condition
+
+no-condition : (m : Memory) (cells : List ℕ) → conditionIn m cells 0 ≡ none
+unfolding conditionOf conditionTo
+no-condition m cells = refl
+
+module _ (m : Memory) (k : ℕ) (few : m .count ≤ k) (stack : List ℕ) (none-joined : getD stack 1 0 ≡ 0) (w : Walk) (new : w ≡ startWalk) where
+  pub ready-start : Accepted m → length stack ≡ 8194 → Ready m (replicate k false) stack w 1
+  unfolding stackOf
+  ready-start a l = subst (λ x. Ready m (replicate k false) stack x 1) (sym new) ready
+    where
+      left : unmarked (take (m .count) (replicate k false)) ≡ m .count
+      left = ap unmarked (take-replicate (m .count) k few) ∙ unmarked-replicate (m .count)
+
+      low : AllLow 0 (stackOf stack 1)
+      low = (omega arith, tt)
+
+      ready : Ready m (replicate k false) stack startWalk 1
+      ready = record {
+        accepted = a;
+        long = ap length (take-replicate (m .count) k few) ∙ length-replicate (m .count) false;
+        tall = l;
+        room = omega (arith, left, few-blocks m a);
+        free = omega (arith, left, few-blocks m a);
+        fine = refl;
+        good = good-start;
+        low = low;
+      }
+
+  pub walks-start : (h : Sheet) (cells : List ℕ) (b : ℕ) → getD stack 0 0 ≡ b → walksIn h m (replicate k false) cells stack 1 w ≡ parse h (scriptOf m .blocks) b
+  unfolding stackOf
+  walks-start h cells b e =
+      ap₂ (walks h (scriptOf m .blocks)) one (ap (stateOf (m .count) (replicate k false)) new ∙ state-of (m .count) k few ∙ begins)
+      ∙ stack-one h (scriptOf m .blocks) b
+    where
+      one : map (under m cells) (stackOf stack 1) ≡ entry b none ∷ []
+      one = rw (none-joined, e, no-condition m cells)
+
+      begins : record { slots = replicate slotCount emptySlot; marks = replicate (m .count) false; current = pos 0; answer = 0 } ≡ start (scriptOf m .blocks)
+      begins = rw (blocks-counted m)
+
+-- ---- keys: for every sheet of so many items and atcs
+
+module _ (items atcs : ℕ) (ns : Nodes) (keys leaves : List ℕ) (i n : ℕ) (e : i ≡ ns .count)
+    (q : (c : ℕ) → Keyed (sheetBy items atcs) (nodesIn (ns .words) (ns .values) c) i keys leaves n) where
+  pub by-counts : Keyed (sheetBy items atcs) ns (ns .count) keys leaves n
+  by-counts = subst (λ j. Keyed (sheetBy items atcs) ns j keys leaves n) e (q (ns .count))
+
+  pub keyed-in : (h : Sheet) → itemCount h ≡ items → h .atcCount ≡ atcs → Keyed h ns (ns .count) keys leaves n
+  keyed-in h p r = keyed-for h ns (ns .count) keys leaves n (rw (p, r) by-counts)
+
+pub keying : (items atcs : ℕ) (m : Memory) (keys leaves : List ℕ) (n : ℕ) → KeyedIn (sheetBy items atcs) m keys leaves n → Keying items m keys leaves n
+keying items atcs m keys leaves n q = record { sheet = sheetBy items atcs; count = length-replicate items none; keyed = q }

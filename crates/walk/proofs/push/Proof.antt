@@ -1,0 +1,46 @@
+-- No next, next alone, or else below next. Assumes nothing.
+use Rattle.walk.proofs.Stacks.{push-none, push-next, push-both}
+use borrow.Author.Needs.{needs}
+use Rattle.walk.proofs.push.Statement.{statement}
+use Rattle.walk.proofs.push.Tie as tie
+
+returns : tie.Need-returns
+returns c = push-none _ _ _ (c .before .args .v .then) (c .before .args .v .other) (c .before .args .v .otherwise) (c .before .pre .1) (c .if1 .taken)
+
+sub-push-one : tie.Need-sub-push-one
+sub-push-one c = search needs
+
+push-one-requires : tie.Need-push-one-requires
+push-one-requires c κs = search needs
+
+returns-2 : tie.Need-returns-2
+returns-2 c = push-next _ _ _ _ _ (c .before .before .before .before .args .v .otherwise) _ _ (c .before .before .before .if1 .left) (c .before .before .if2 .taken) (c .push-one .ensures)
+
+sub-push-one-2 : tie.Need-sub-push-one-2
+sub-push-one-2 c = search needs
+
+push-one-requires-2 : tie.Need-push-one-requires-2
+push-one-requires-2 c κs = search needs
+
+sub-push-one-3 : tie.Need-sub-push-one-3
+sub-push-one-3 c = search needs
+
+push-one-requires-3 : tie.Need-push-one-requires-3
+push-one-requires-3 c κs = search needs
+
+returns-3 : tie.Need-returns-3
+returns-3 c = push-both _ _ _ _ _ _ _ _ _ _ (c .before .before .before .before .before .if1 .left) (c .before .before .before .before .if2 .left) (c .before .before .push-one2 .ensures) (c .push-one3 .ensures)
+
+pub push-spec : {M : Type 1} → statement M
+push-spec =
+    tie.close
+    (tie.spec
+    returns
+    sub-push-one
+    push-one-requires
+    returns-2
+    sub-push-one-2
+    push-one-requires-2
+    sub-push-one-3
+    push-one-requires-3
+    returns-3)

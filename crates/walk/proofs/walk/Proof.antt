@@ -1,0 +1,22 @@
+-- The keys hold for every sheet of so many items and atcs. Assumes nothing.
+use native.Mathlib.Omega.{arith}
+use Rattle.walk.proofs.Turns.{few-nodes}
+use Rattle.walk.proofs.Starts.{by-counts, keying, keyed-in}
+use borrow.Author.Needs.{needs}
+use Rattle.walk.proofs.walk.Statement.{statement}
+use Rattle.walk.proofs.walk.Tie as tie
+
+index-of-requires : tie.Need-index-of-requires
+index-of-requires c κs = search needs
+
+key-nodes-requires : tie.Need-key-nodes-requires
+key-nodes-requires c κs = let n = few-nodes _ (c .before .before .before .pre .0) in omega (arith, c .index-of .ensures)
+
+walk-from-requires : tie.Need-walk-from-requires
+walk-from-requires c κs = let a = c .before .before .before .before .before .before in (keying (a .args .items) (a .args .atcs) _ _ _ _ (by-counts (a .args .items) (a .args .atcs) _ _ _ _ _ (c .before .before .before .index-of .ensures) (c .before .before .key-nodes .ensures)), a .pre .0)
+
+returns : tie.Need-returns
+returns c = λ h e f. c .walk-from .ensures h e (keyed-in _ _ _ _ _ _ _ (c .before .before .before .before .index-of .ensures) (c .before .before .before .key-nodes .ensures) h e f)
+
+pub walk-spec : {M : Type 1} → statement M
+walk-spec = tie.close (tie.spec index-of-requires key-nodes-requires walk-from-requires returns)

@@ -1,0 +1,137 @@
+-- The loop's invariant: what is on the stack is still to be walked, from what there is so far; the measure is the number of unmarked blocks. Assumes nothing.
+use mathlib.Core.Path.{_≡_, refl, sym, _∙_}
+use native.Mathlib.Omega.{arith}
+use lib.ListN.{take}
+use borrow.Author.Needs.{needs}
+use borrow.Author.Tests.{not-true, not-false}
+use Rattle.model.specs.Sheet.{Sheet, itemCount}
+use Rattle.model.specs.Memory.{memoryIn}
+use Rattle.visit.specs.State.{KeyedIn}
+use Rattle.walk.specs.Marks.{unmarked}
+use Rattle.walk.specs.Walks.{Ready, walksIn}
+use Rattle.walk.proofs.Stacks.{top-most}
+use Rattle.walk.proofs.Turns.{few-blocks, is-code, top-fits, came-end, came-stopped, came-refused, opens, less, push-room, again, same}
+use Rattle.walk.proofs.walk_all.Statement.{statement}
+use Rattle.walk.proofs.walk_all.Tie as tie
+
+abbrev Inv-loop : tie.InvT-loop
+Inv-loop ws val cw bw lf keys seen₀ marks₀ cells₀ stack₀ k keyed items w₀ depth₀ seen marks cells stack w depth =
+    Ready (memoryIn ws val cw bw (k .nodes) (k .commands) (k .blocks)) marks stack w depth
+    × ((h : Sheet) → itemCount h ≡ items → KeyedIn h (memoryIn ws val cw bw (k .nodes) (k .commands) (k .blocks)) keys lf keyed
+    → walksIn h (memoryIn ws val cw bw (k .nodes) (k .commands) (k .blocks)) marks cells stack depth w ≡ walksIn h (memoryIn ws val cw bw (k .nodes) (k .commands) (k .blocks)) marks₀ cells₀ stack₀ 1 w₀)
+
+abbrev μ-loop : tie.MeasureT-loop
+μ-loop ws val cw bw lf keys seen₀ marks₀ cells₀ stack₀ k keyed items w₀ depth₀ seen marks cells stack w depth = unmarked (take (k .blocks) marks)
+
+loop-holds : tie.Need-loop-holds Inv-loop μ-loop
+loop-holds c = (c .pre .1, λ h e q. refl)
+
+top-unmarked-requires : tie.Need-top-unmarked-requires Inv-loop μ-loop
+top-unmarked-requires c κs = let r = c .before .before .before .loop .inv .0 in (few-blocks _ (r .accepted), omega (arith, r .room))
+
+returns : tie.Need-returns Inv-loop μ-loop
+returns c = let a = c .before .before .before .before .before .loop in λ h e q. came-end (a .inv .0) h (a .cells) _ (a .inv .1 h e q) (sym (c .before .top-unmarked .ensures) ∙ c .if1 .taken)
+
+sub-d : tie.Need-sub-d Inv-loop μ-loop
+sub-d c = search needs
+
+mul-b : tie.Need-mul-b Inv-loop μ-loop
+mul-b c = omega (arith, top-fits (c .before .before .before .before .before .loop .inv .0) (c .before .top-unmarked .ensures))
+
+mul-b-2 : tie.Need-mul-b-2 Inv-loop μ-loop
+mul-b-2 c = omega (arith, top-fits (c .before .before .before .before .before .loop .inv .0) (c .before .top-unmarked .ensures))
+
+element-copy-out-b : tie.Need-element-copy-out-b Inv-loop μ-loop
+element-copy-out-b c = omega (arith, top-fits (c .before .before .before .before .before .loop .inv .0) (c .before .top-unmarked .ensures))
+
+is-code-requires : tie.Need-is-code-requires Inv-loop μ-loop
+is-code-requires c κs = few-blocks _ (c .before .before .before .before .before .before .loop .inv .0 .accepted)
+
+stopped-requires : tie.Need-stopped-requires Inv-loop μ-loop
+stopped-requires c κs = search needs
+
+returns-2 : tie.Need-returns-2 Inv-loop μ-loop
+returns-2 c =
+    let y = c .before in
+    let a = y .before .before .before .before .before .before .before .before .loop in
+    λ h e q.
+    came-stopped (a .inv .0) (y .before .before .before .before .top-unmarked .ensures) (y .before .before .before .if1 .left) refl refl h (a .cells) _ (c .stopped .result) (a .inv .1 h e q)
+    (sym (y .before .is-code .ensures) ∙ not-true _ (y .if2 .taken)) (c .stopped .ensures)
+
+mul-visit : tie.Need-mul-visit Inv-loop μ-loop
+mul-visit c = let y = c .before .before .before in omega (arith, top-fits (y .before .before .before .before .before .before .before .before .loop .inv .0) (y .before .before .before .before .top-unmarked .ensures))
+
+add-visit : tie.Need-add-visit Inv-loop μ-loop
+add-visit c = let y = c .before .before .before in omega (arith, top-fits (y .before .before .before .before .before .before .before .before .loop .inv .0) (y .before .before .before .before .top-unmarked .ensures))
+
+mul-visit-2 : tie.Need-mul-visit-2 Inv-loop μ-loop
+mul-visit-2 c = let y = c .before .before .before in omega (arith, top-fits (y .before .before .before .before .before .before .before .before .loop .inv .0) (y .before .before .before .before .top-unmarked .ensures))
+
+element-copy-out-visit : tie.Need-element-copy-out-visit Inv-loop μ-loop
+element-copy-out-visit c = let y = c .before .before .before in omega (arith, top-fits (y .before .before .before .before .before .before .before .before .loop .inv .0) (y .before .before .before .before .top-unmarked .ensures))
+
+visit-requires : tie.Need-visit-requires Inv-loop μ-loop
+visit-requires c κs =
+    let y = c .before .before .before .before in
+    let a = y .before .before .before .before .before .before .before .before .loop in
+    let s = y .before .before .before .before .before .before .before .before .before .pre .0 in
+    ((s .keyed .most, s .keyed .keys), opens (a .inv .0) (y .before .before .before .before .top-unmarked .ensures) (y .before .before .before .if1 .left) refl refl (is-code _ _ (sym (y .before .is-code .ensures) ∙ not-false _ (y .if2 .left))))
+
+returns-3 : tie.Need-returns-3 Inv-loop μ-loop
+returns-3 c =
+    let y = c .before .before .before .before .before .before .before .before in
+    let a = y .before .before .before .before .before .before .before .before .loop in
+    λ h e q. came-refused (a .inv .0) (y .before .before .before .before .top-unmarked .ensures) (y .before .before .before .if1 .left) refl refl (is-code _ _ (sym (y .before .is-code .ensures) ∙ not-false _ (y .if2 .left))) (c .before .before .before .visit .ensures h e q) _ (a .inv .1 h e q) (c .if3 .taken)
+
+push-requires : tie.Need-push-requires Inv-loop μ-loop
+push-requires c κs =
+    let y = c .before .before .before .before .before .before .before .before .before in
+    let a = y .before .before .before .before .before .before .before .before .loop in
+    let s = y .before .before .before .before .before .before .before .before .before .pre .0 in
+    (push-room (a .inv .0) (y .before .before .before .before .top-unmarked .ensures) (y .before .before .before .if1 .left) refl refl (is-code _ _ (sym (y .before .is-code .ensures) ∙ not-false _ (y .if2 .left))) (c .before .before .before .before .visit .ensures (s .sheet) (s .count) (s .keyed)) (c .before .if3 .left), a .inv .0 .tall)
+
+loop-less : tie.Need-loop-less Inv-loop μ-loop
+loop-less c =
+    let y = c .before .before .before .before .before .before .before .before .before .before in
+    let a = y .before .before .before .before .before .before .before .before .loop in
+    let s = y .before .before .before .before .before .before .before .before .before .pre .0 in
+    omega (arith, less (a .inv .0) (y .before .before .before .before .top-unmarked .ensures) (y .before .before .before .if1 .left) refl refl (is-code _ _ (sym (y .before .is-code .ensures) ∙ not-false _ (y .if2 .left))) (c .before .before .before .before .before .visit .ensures (s .sheet) (s .count) (s .keyed)) (c .before .before .if3 .left))
+
+loop-again : tie.Need-loop-again Inv-loop μ-loop
+loop-again c =
+    let y = c .before .before .before .before .before .before .before .before .before .before in
+    let a = y .before .before .before .before .before .before .before .before .loop in
+    let s = y .before .before .before .before .before .before .before .before .before .pre .0 in (
+      again (a .inv .0) (y .before .before .before .before .top-unmarked .ensures) (y .before .before .before .if1 .left) refl refl (is-code _ _ (sym (y .before .is-code .ensures) ∙ not-false _ (y .if2 .left))) (c .before .before .before .before .before .visit .ensures (s .sheet) (s .count) (s .keyed)) (c .before .before .if3 .left) (c .push .ensures),
+      λ h e q. same (a .inv .0) (y .before .before .before .before .top-unmarked .ensures) (y .before .before .before .if1 .left) refl refl (is-code _ _ (sym (y .before .is-code .ensures) ∙ not-false _ (y .if2 .left))) (c .before .before .before .before .before .visit .ensures h e q) (c .before .before .if3 .left) (c .push .ensures) ∙ a .inv .1 h e q,
+    )
+
+returns-4 : tie.Need-returns-4 Inv-loop μ-loop
+returns-4 c = let a = c .before .loop in λ h e q. came-end (a .inv .0) h (a .cells) _ (a .inv .1 h e q) (omega (arith, top-most (take (c .before .before .args .k .blocks) (a .marks)) (a .stack) (a .depth)))
+
+pub walk-all-spec : {M : Type 1} → statement M
+walk-all-spec =
+    tie.close
+    (tie.spec
+    Inv-loop
+    μ-loop
+    loop-holds
+    top-unmarked-requires
+    returns
+    sub-d
+    mul-b
+    mul-b-2
+    element-copy-out-b
+    is-code-requires
+    stopped-requires
+    returns-2
+    mul-visit
+    add-visit
+    mul-visit-2
+    element-copy-out-visit
+    visit-requires
+    returns-3
+    push-requires
+    loop-less
+    loop-again
+    returns-4)

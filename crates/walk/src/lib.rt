@@ -1,0 +1,225 @@
+// The parser's walk: a loop with a stack of blocks and conditions, and one array of marks.
+ghost use mathlib.Core.Path.{_≡_};
+ghost use mathlib.Core.Bool.{false};
+ghost use Prim.Native.Nat.{_+_, _*_, _≤_, _<_};
+ghost use lib.ListN.{length, getD, take};
+ghost use Rattle.model.specs.Sheet.{Sheet, itemCount};
+ghost use Rattle.model.specs.Memory.{memoryIn};
+ghost use Rattle.model.specs.Refusal.{parseNotCode};
+ghost use Rattle.visit.specs.State.{Accepted, KeyedIn};
+ghost use Rattle.walk.specs.Dfs.{entry, to};
+ghost use Rattle.walk.specs.Walks.{Walked, Keying, Ready, Came, startWalk, isCodeAt, topOf, ways, Pushed, walksIn};
+use conditions::key_nodes;
+use memory::Counts;
+use memory::index_of;
+use shop::empty_shop;
+use visit::Visited;
+use visit::Walk;
+use visit::visit;
+
+// Whether block b is one of nb blocks and marked.
+fn is_marked(marks: &[bool; 4096], nb: u16, b: u16) -> bool
+    requires { ⌜ nb ≤ 4096 ⌝ }
+    ensures { λ r. ⌜ r ≡ getD (take nb (now (marks .entry))) b false ⌝ }
+{
+    if b < nb {
+        return marks[index_of(b)];
+    }
+    false
+}
+
+// The depth of the stack without the marked entries at its top.
+fn top_unmarked(marks: &[bool; 4096], stack: &[u16; 8194], nb: u16, depth: usize) -> usize
+    requires { ⌜ (nb ≤ 4096) × (depth ≤ 4097) ⌝ }
+    ensures { λ r. ⌜ r ≡ topOf (take nb (now (marks .entry))) (now (stack .entry)) depth ⌝ }
+{
+    let mut d = depth;
+    while 0 < d {
+        if !is_marked(marks, nb, stack[2 * (d - 1)]) {
+            return d;
+        }
+        d -= 1;
+    }
+    0
+}
+
+fn push_one(stack: &mut [u16; 8194], depth: usize, b: u16, c: u16) -> usize
+    requires { ⌜ (depth < 4097) × (length (now stack) ≡ 8194) ⌝ }
+    ensures { λ r. ⌜ Pushed (now (stack .entry)) depth (to (entry b c)) (now (stack .exit)) r ⌝ }
+{
+    stack[2 * depth] = b;
+    stack[2 * depth + 1] = c;
+    depth + 1
+}
+
+// Next before else, else only where there is a next: next goes above else.
+fn push(stack: &mut [u16; 8194], depth: usize, v: Visited) -> usize
+    requires { ⌜ (depth < 4096) × (length (now stack) ≡ 8194) ⌝ }
+    ensures { λ r. ⌜ Pushed (now (stack .entry)) depth (ways (v .next) (v .then) (v .other) (v .otherwise)) (now (stack .exit)) r ⌝ }
+{
+    let nx = v.next;
+    let el = v.other;
+    if nx == 0 {
+        return depth;
+    }
+    if el == 0 {
+        return push_one(stack, depth, nx - 1, v.then);
+    }
+    let d = push_one(stack, depth, el - 1, v.otherwise);
+    push_one(stack, d, nx - 1, v.then)
+}
+
+fn is_code(bw: &[u16; 20480], nb: u16, b: u16) -> bool
+    requires { ⌜ nb ≤ 4096 ⌝ }
+    ensures { λ r. ⌜ r ≡ isCodeAt (now (bw .entry)) nb b ⌝ }
+{
+    if nb <= b {
+        return false;
+    }
+    let i = index_of(b);
+    bw[5 * i] == 1
+}
+
+// A block not code was reached: 10.
+fn stopped(w: Walk) -> Walk
+    ensures { λ r. ⌜ r .answer ≡ parseNotCode ⌝ }
+{
+    let s = w.shop;
+    Walk {
+        shop: s,
+        limit: w.limit,
+        cells: w.cells,
+        answer: 10,
+    }
+}
+
+fn start() -> Walk
+    ensures { λ r. ⌜ r ≡ startWalk ⌝ }
+{
+    let s = empty_shop();
+    Walk {
+        shop: s,
+        limit: 0,
+        cells: 0,
+        answer: 0,
+    }
+}
+
+// The walk of what is on the stack: each block once, next before else. Each turn marks one block more: the measure is the number of unmarked blocks.
+fn walk_all(
+    ws: &[u16; 98304],
+    val: &[i32; 32768],
+    cw: &[u16; 65536],
+    bw: &[u16; 20480],
+    lf: &[u16; 32768],
+    keys: &[u64; 32768],
+    seen: &mut [bool; 65536],
+    marks: &mut [bool; 4096],
+    cells: &mut [u16; 8192],
+    stack: &mut [u16; 8194],
+    k: Counts,
+    keyed: u16,
+    items: u16,
+    first: Walk,
+) -> Walk
+    requires { ⌜ Keying items (memoryIn (now ws) (now val) (now cw) (now bw) (k .nodes) (k .commands) (k .blocks)) (now keys) (now lf) keyed ⌝ }
+    requires { ⌜ Ready (memoryIn (now ws) (now val) (now cw) (now bw) (k .nodes) (k .commands) (k .blocks)) (now marks) (now stack) first 1 ⌝ }
+    ensures { λ r. ⌜ ((h : Sheet) → itemCount h ≡ items → KeyedIn h (memoryIn (now (ws .entry)) (now (val .entry)) (now (cw .entry)) (now (bw .entry)) (k .nodes) (k .commands) (k .blocks)) (now (keys .entry)) (now (lf .entry)) keyed → Came (walksIn h (memoryIn (now (ws .entry)) (now (val .entry)) (now (cw .entry)) (now (bw .entry)) (k .nodes) (k .commands) (k .blocks)) (now (marks .entry)) (now (cells .entry)) (now (stack .entry)) 1 first) r) ⌝ }
+{
+    let mut w = first;
+    let mut depth = 1;
+    while 0 < depth {
+        let top = top_unmarked(marks, stack, k.blocks, depth);
+        if top == 0 {
+            return w;
+        }
+        let d = top - 1;
+        let b = stack[2 * d];
+        if !is_code(bw, k.blocks, b) {
+            return stopped(w);
+        }
+        let v = visit(
+            ws,
+            val,
+            cw,
+            bw,
+            lf,
+            keys,
+            seen,
+            marks,
+            cells,
+            k,
+            keyed,
+            items,
+            w,
+            b,
+            stack[2 * d + 1],
+        );
+        w = v.walk;
+        if w.answer != 0 {
+            return w;
+        }
+        depth = push(stack, d, v);
+    }
+    w
+}
+
+// The walk from block setup, over keys that are there; the large arrays are made here and lent to the loop.
+fn walk_from(
+    ws: &[u16; 98304],
+    val: &[i32; 32768],
+    cw: &[u16; 65536],
+    bw: &[u16; 20480],
+    lf: &[u16; 32768],
+    keys: &[u64; 32768],
+    k: Counts,
+    keyed: u16,
+    items: u16,
+    setup: u16,
+) -> Walk
+    requires { ⌜ Keying items (memoryIn (now ws) (now val) (now cw) (now bw) (k .nodes) (k .commands) (k .blocks)) (now keys) (now lf) keyed ⌝ }
+    requires { ⌜ Accepted (memoryIn (now ws) (now val) (now cw) (now bw) (k .nodes) (k .commands) (k .blocks)) ⌝ }
+    ensures { λ r. ⌜ ((h : Sheet) → itemCount h ≡ items → KeyedIn h (memoryIn (now (ws .entry)) (now (val .entry)) (now (cw .entry)) (now (bw .entry)) (k .nodes) (k .commands) (k .blocks)) (now (keys .entry)) (now (lf .entry)) keyed → Walked h (memoryIn (now (ws .entry)) (now (val .entry)) (now (cw .entry)) (now (bw .entry)) (k .nodes) (k .commands) (k .blocks)) setup r) ⌝ }
+{
+    let mut seen = [false; 65536];
+    let mut marks = [false; 4096];
+    let mut cells = [0u16; 8192];
+    let mut stack = [0u16; 8194];
+    stack[0] = setup;
+    walk_all(
+        ws,
+        val,
+        cw,
+        bw,
+        lf,
+        keys,
+        &mut seen,
+        &mut marks,
+        &mut cells,
+        &mut stack,
+        k,
+        keyed,
+        items,
+        start(),
+    )
+}
+
+// The walk of an accepted script from block setup, for every sheet of so many items and atcs.
+pub fn walk(
+    ws: &[u16; 98304],
+    val: &[i32; 32768],
+    cw: &[u16; 65536],
+    bw: &[u16; 20480],
+    k: Counts,
+    items: u16,
+    atcs: u16,
+    setup: u16,
+) -> Walk
+    requires { ⌜ Accepted (memoryIn (now ws) (now val) (now cw) (now bw) (k .nodes) (k .commands) (k .blocks)) × (setup < k .blocks) ⌝ }
+    ensures { λ r. ⌜ ((h : Sheet) → itemCount h ≡ items → h .atcCount ≡ atcs → Walked h (memoryIn (now (ws .entry)) (now (val .entry)) (now (cw .entry)) (now (bw .entry)) (k .nodes) (k .commands) (k .blocks)) setup r) ⌝ }
+{
+    let mut lf = [0u16; 32768];
+    let mut keys = [0u64; 32768];
+    let keyed = key_nodes(ws, val, &mut lf, &mut keys, items, atcs, index_of(k.nodes));
+    walk_from(ws, val, cw, bw, &lf, &keys, k, keyed, items, setup)
+}
