@@ -27,6 +27,10 @@ use Rattle.runner.specs.declared.Ran as code
 use Rattle.runner.specs.RunIn.{ranOf}
 use Rattle.parse.specs.declared.ParsedShop.{ParsedShop}
 use Rattle.parse.specs.Answer.{answerOf, ParsedAs}
+use Rattle.model.specs.Preview.{previewCall}
+use Rattle.preview.specs.declared.Previewed.{Previewed}
+use Rattle.preview.specs.Shown.{previewedOf}
+use Rattle.preview.specs.Agree.{Agrees, AgreesCall, call-agrees}
 use Rattle.engine.specs.Records.{Demand3In, demand-3-in}
 
 -- a compile as it was made: what was given, what it answered, the record after it
@@ -71,6 +75,9 @@ pub record Delivered (h : Sheet) (m : Memory) (xs : List Made) : Type 0 where
   -- the parser reads there exactly that shop in normal form
   pub parses : (b : ℕ) (ys : List Slot) → lastShop xs b ≡ some ys → (r : ParsedShop) → ParsedAs (parseIn h (recordAfter m xs) b) r
       → (r .refusal ≡ 0) × (slotsOf (r .shop) ≡ normalShop h ys)
+  -- with a budget of 82 blocks or more the run leaves what a preview of that shop answers
+  pub previews : (b : ℕ) (ys : List Slot) → lastShop xs b ≡ some ys → (s : Save) → saveRefusal h s ≡ 0 → (budget : ℕ) → runBlocks ≤ budget → (r : code.Ran) (v′ : List ℤ) (q : Previewed)
+      → ranOf r v′ ≡ runIn h (recordAfter m xs) b s budget → q ≡ previewedOf (previewCall h ys s) → AgreesCall q v′
   -- every block of the start where none was accepted is as it was
   pub others : (b : ℕ) → b < m .count → lastShop xs b ≡ none → blockIn (recordAfter m xs) b ≡ blockIn m b
 
@@ -129,5 +136,9 @@ module _ (h : Sheet) where
           = ap (λ (t : Memory). parseIn h t b) (after-is m xs made) ∙ demand .parses b ys (sym (last-is m xs made b) ∙ e) in
           let z : r .refusal ≡ 0 = ap (λ (a : ParsedShop). a .refusal) (p .is ∙ ap answerOf q) in
           (z, p .slots z ∙ ap (λ (a : Parsed). a .slots) q);
+      previews = λ b ys e s f budget l r v′ q p u.
+          let a : Agrees (previewCall h ys s) v′
+          = subst (λ (x : Ran). Agrees (previewCall h ys s) (x .variables)) (ap (λ (t : Memory). runIn h t b s budget) (sym (after-is m xs made)) ∙ sym p) (demand .previews b ys (sym (last-is m xs made b) ∙ e) s f budget l) in
+          subst (λ (x : Previewed). AgreesCall x v′) (sym u) (call-agrees (previewCall h ys s) v′ a);
       others = λ b l e. ap (λ (t : Memory). blockIn t b) (after-is m xs made) ∙ demand .others b l (sym (last-is m xs made b) ∙ e);
     }

@@ -30,6 +30,8 @@ use Rattle.model.specs.Laws.Refused.{Proper, proper-within, proper-cond}
 use Rattle.model.specs.Laws.Checks.{first-passed}
 use Rattle.memory.specs.Sound.{Sound, Long}
 use Rattle.memory.specs.RecordLaws.{judged-sound, block-at, length-blocksIn}
+use Rattle.model.specs.Preview.{previewCall}
+use Rattle.preview.specs.Agree.{Agrees, preview-agrees}
 use Rattle.checks.specs.Passed.{first-nested}
 use Rattle.memory.specs.Transfer.{judged-script, accepted-script, judged-is, compile-transfer}
 
@@ -38,6 +40,9 @@ pub record Demand3In (h : Sheet) (m : Memory) (cs : List Call) : Type 0 where
   pub runs : (b : ℕ) (xs : List Slot) → lastAtIn h m cs b ≡ some xs → (s : Save) → saveRefusal h s ≡ 0 → RunsAs h s xs (λ budget. runIn h (afterAllIn h m cs) b s budget)
   pub parses : (b : ℕ) (xs : List Slot) → lastAtIn h m cs b ≡ some xs → parseIn h (afterAllIn h m cs) b ≡ record { answer = 0; slots = normalShop h xs }
   pub others : (b : ℕ) → b < m .count → lastAtIn h m cs b ≡ none → blockIn (afterAllIn h m cs) b ≡ blockIn m b
+  -- what the run leaves is what a preview of that shop answers
+  pub previews : (b : ℕ) (xs : List Slot) → lastAtIn h m cs b ≡ some xs → (s : Save) → saveRefusal h s ≡ 0 → (budget : ℕ) → runBlocks ≤ budget
+      → Agrees (previewCall h xs s) (runIn h (afterAllIn h m cs) b s budget .variables)
 
 -- ---- a judged record does what its script does
 
@@ -110,7 +115,8 @@ module _ (h : Sheet) where
   judged-demand : (m : Memory) (sc : Script) → Stands m sc → (cs : List Call) → NoneAppendedIn h (m .count) m cs → Demand3In h m cs
   judged-demand m sc st cs clean =
       let n = count-same m sc st in
-      let d = demand-3 h sc cs (subst (λ (k : ℕ). NoneAppended h k sc cs) n (none-same (m .count) m sc st cs clean)) in
+      let c = subst (λ (k : ℕ). NoneAppended h k sc cs) n (none-same (m .count) m sc st cs clean) in
+      let d = demand-3 h sc cs c in
       let last = all-stands m sc st cs in
       record {
         runs = λ b xs e s f. subst (RunsAs h s xs) (fun-ext (λ budget. sym (run-same h (afterAllIn h m cs) (afterAll h sc cs) last b s budget))) (d .runs b xs (sym (last-same m sc st cs b) ∙ e) s f);
@@ -119,6 +125,9 @@ module _ (h : Sheet) where
             let more = grows-all h sc cs in
             let n′ = count-same (afterAllIn h m cs) (afterAll h sc cs) last in
             block-of (afterAllIn h m cs) (afterAll h sc cs) last b (omega arith) ∙ d .others b (omega arith) (sym (last-same m sc st cs b) ∙ e) ∙ sym (block-of m sc st b l);
+        previews = λ b xs e s f budget l.
+            subst (λ (r : Ran). Agrees (previewCall h xs s) (r .variables)) (sym (run-same h (afterAllIn h m cs) (afterAll h sc cs) last b s budget))
+            (preview-agrees h sc cs c b xs (sym (last-same m sc st cs b) ∙ e) s f budget l);
       }
     where
       block-of : (m : Memory) (sc : Script) → Stands m sc → (b : ℕ) → b < m .count → blockIn m b ≡ blockAt (sc .blocks) b
@@ -163,6 +172,7 @@ module _ (h : Sheet) where
       runs = λ b xs q s f. absurd (none≢some (sym (none-last cs b) ∙ q));
       parses = λ b xs q. absurd (none≢some (sym (none-last cs b) ∙ q));
       others = λ b l q. ap (λ (k : Memory). blockIn k b) (all-stay cs);
+      previews = λ b xs q s f budget l. absurd (none≢some (sym (none-last cs b) ∙ q));
     }
 
 -- the judgement never refuses with 0
