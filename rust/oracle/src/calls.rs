@@ -46,12 +46,12 @@ fn panic_text(payload: Box<dyn Any + Send>) -> Panicked {
     Panicked(text)
 }
 
-/// Runs `body` on a thread with a large stack and with `sheet` in force.
-fn on_large_stack<T: Send>(sheet: &Sheet, body: impl FnOnce() -> T + Send) -> Result<T, Panicked> {
+/// Runs `body` on a thread with a large stack, on which panics print nothing. The calls that it
+/// makes need no thread of their own, which saves most of their time.
+pub fn on_large_stack<T: Send>(body: impl FnOnce() -> T + Send) -> Result<T, Panicked> {
     silence_quiet_threads();
     let quiet_body = || {
         QUIET.set(true);
-        data::set_sheet(sheet);
         panic::catch_unwind(AssertUnwindSafe(body)).map_err(panic_text)
     };
     thread::scope(|scope| {
@@ -63,9 +63,21 @@ fn on_large_stack<T: Send>(sheet: &Sheet, body: impl FnOnce() -> T + Send) -> Re
     })
 }
 
+/// Runs `body` on a thread with a large stack, this one if it is one, and with `sheet` in force.
+fn with_sheet<T: Send>(sheet: &Sheet, body: impl FnOnce() -> T + Send) -> Result<T, Panicked> {
+    let body = || {
+        data::set_sheet(sheet);
+        body()
+    };
+    if QUIET.get() {
+        return panic::catch_unwind(AssertUnwindSafe(body)).map_err(panic_text);
+    }
+    on_large_stack(body)
+}
+
 /// Reads the shop that starts at block `setup`, by the original `ShopParser`.
 pub fn parse(sheet: &Sheet, script: &Script, setup: usize) -> Result<Vec<Slot>, Panicked> {
-    on_large_stack(sheet, || {
+    with_sheet(sheet, || {
         let script = convert::script_in(script);
         let slots = access::parse(&script, convert::block_id(setup));
         slots.iter().map(convert::slot_out).collect()
@@ -82,7 +94,7 @@ pub fn compile(
     setup: usize,
     slots: &[Slot],
 ) -> Result<(), Panicked> {
-    let (after, answer) = on_large_stack(sheet, || {
+    let (after, answer) = with_sheet(sheet, || {
         let mut original = convert::script_in(script);
         let work = || {
             let shop = Shop::with_slots(slots.iter().take(shop::NUM_SLOTS).map(convert::slot_in));
@@ -103,4 +115,37 @@ pub fn negate(expr: &Expr) -> Expr {
 /// The constant that holds `value`, by the original `Expr::imm`.
 pub fn imm(value: i32) -> Expr {
     convert::expr_out(&crate::event::Expr::imm(value))
+}
+
+/// Puts a sheet in force on this thread, for the calls of `Original`.
+pub fn use_sheet(sheet: &Sheet) {
+    data::set_sheet(sheet);
+}
+
+/// The original's own script, for calls whose time is taken: nothing is converted or caught.
+pub struct Original(crate::event::Script);
+
+/// The original's own slots.
+pub struct OriginalSlots(Vec<shop::Slot>);
+
+/// Converts slots; the sheet that they fit is in force.
+pub fn original_slots(slots: &[Slot]) -> OriginalSlots {
+    OriginalSlots(slots.iter().map(convert::slot_in).collect())
+}
+
+impl Original {
+    /// Converts a script.
+    pub fn new(script: &Script) -> Self {
+        Self(convert::script_in(script))
+    }
+
+    /// Reads the shop that starts at block `setup`.
+    pub fn parse(&self, setup: usize) -> OriginalSlots {
+        OriginalSlots(access::parse(&self.0, convert::block_id(setup)))
+    }
+
+    /// Compiles slots and links them at block `setup`.
+    pub fn compile(&mut self, setup: usize, slots: &OriginalSlots) {
+        access::compile(&mut self.0, &slots.0, convert::block_id(setup));
+    }
 }

@@ -81,6 +81,13 @@ fn chain() -> Vec<Block> {
     blocks
 }
 
+/// Where the image begins in each of the inputs below: behind the sheet and a setup number of one byte.
+pub fn image_start() -> usize {
+    let mut head = Vec::new();
+    slots::put_sheet(&mut head, &sheet());
+    head.len() + 1
+}
+
 /// Inputs of `slots` at and just past each limit.
 pub fn parse_inputs() -> Vec<Vec<u8>> {
     let mut inputs = vec![

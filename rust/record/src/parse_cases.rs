@@ -10,14 +10,21 @@ use oracle::slots::{self, Input};
 /// One input, by a kind of case that follows from `index`.
 pub fn input(random: &mut Random, index: usize) -> Vec<u8> {
     match index % 10 {
-        0 | 1 => slots::write(&random_input(random)),
-        2 | 3 => slots::write(&decisions(random)),
-        4 => slots::write(&compiled(random)),
-        5 => slots::write(&changed(random)),
-        6 => slots::write(&many_requirements(random)),
-        7 => slots::write(&deep(random)),
         8 => edge(random),
-        _ => damaged(random),
+        9 => damaged(random),
+        kind => slots::write(&whole(random, kind)),
+    }
+}
+
+/// One input that can be read, by a kind of case from 0 to 7.
+pub fn whole(random: &mut Random, kind: usize) -> Input {
+    match kind {
+        0 | 1 => random_input(random),
+        2 | 3 => decisions(random),
+        4 => compiled(random),
+        5 => changed(random),
+        6 => many_requirements(random),
+        _ => deep(random),
     }
 }
 
@@ -377,7 +384,8 @@ fn damaged(random: &mut Random) -> Vec<u8> {
     bytes
 }
 
-fn damage(random: &mut Random, bytes: &mut Vec<u8>) {
+/// Damages bytes in one place.
+pub fn damage(random: &mut Random, bytes: &mut Vec<u8>) {
     let place = random.below(bytes.len() + 1);
     if place == bytes.len() {
         bytes.push(random.byte());

@@ -1,0 +1,16 @@
+-- `lk_compile` meets its contract: the shop that is compiled is the one that the arrays stand for. Assumes nothing.
+use borrow.Author.Needs.{needs}
+use Rattle.capi.proofs.lk_compile.Statement.{statement}
+use Rattle.capi.proofs.lk_compile.Tie as tie
+
+shop-from-requires : tie.Need-shop-from-requires
+shop-from-requires c κs = search needs
+
+compile-requires : tie.Need-compile-requires
+compile-requires c κs = search needs
+
+returns : tie.Need-returns
+returns c = rw (c .before .before .before .before .before .before .shop-from .ensures) at (c .before .compile .ensures)
+
+pub lk-compile-spec : {M : Type 1} → statement M
+lk-compile-spec = tie.close (tie.spec shop-from-requires compile-requires returns)

@@ -1,0 +1,20 @@
+-- `lk_preview` meets its contract: the shop that is previewed is the one that the arrays stand for. Assumes nothing.
+use mir.Syntax.{w32}
+use mir.Facts.{toZ-ofZ}
+use borrow.Author.Needs.{needs}
+use Rattle.capi.proofs.lk_preview.Statement.{statement}
+use Rattle.capi.proofs.lk_preview.Tie as tie
+
+shop-from-requires : tie.Need-shop-from-requires
+shop-from-requires c κs = search needs
+
+preview-requires : tie.Need-preview-requires
+preview-requires c κs = search needs
+
+returns : tie.Need-returns
+returns c =
+    let t = toZ-ofZ {w = w32} {z = c .before .before .before .preview .result .temp} (record { sfits = c .struct-told .given .1 .1 .1 .0 .1 }) in
+    rw t (rw (c .before .before .before .before .shop-from .ensures) at (c .before .before .before .preview .ensures))
+
+pub lk-preview-spec : {M : Type 1} → statement M
+lk-preview-spec = tie.close (tie.spec shop-from-requires preview-requires returns)

@@ -1,0 +1,307 @@
+// The calls of the engine for programs in Rust and C: numbers, slices and references to arrays of numbers go in, structs of numbers come out.
+ghost use mathlib.Core.Path.{_≡_};
+ghost use Rattle.model.specs.Image.{readImage};
+ghost use Rattle.model.specs.Memory.{memoryIn};
+ghost use Rattle.model.specs.RecordCalls.{runIn, writeIn};
+ghost use Rattle.shop.specs.Shapes.{sheetOf};
+ghost use Rattle.image_read.specs.Outcome.{readInto};
+ghost use Rattle.image_write.specs.Call.{wrote, lengthIn};
+ghost use Rattle.checks.specs.Calls.{saveOf};
+ghost use Rattle.model.specs.Preview.{previewCall};
+ghost use Rattle.model.specs.RecordCalls.{parseIn};
+ghost use Rattle.shop.specs.Shapes.{slotsOf};
+ghost use Rattle.shop_arrays.specs.Arrays.{arraysIn, shopFrom, arraysOf};
+ghost use Rattle.compile.specs.Answer.{callOf, CompiledAs};
+ghost use Rattle.parse.specs.Answer.{answerOf};
+ghost use Rattle.preview.specs.Shown.{previewedOf};
+ghost use Rattle.capi.specs.Answers.{sheetBy, readAs, ranAs, previewedAs};
+use compile::compile;
+use image_read::Image;
+use image_read::read_script;
+use image_write::write_script;
+use memory::Counts;
+use model::BlockNo;
+use model::ItemId;
+use parse::parse;
+use preview::preview;
+use runner::run;
+use shop::Sheet;
+use shop_arrays::shop_from;
+use shop_arrays::shop_to;
+
+// The refusal or 0, and the kept counts of the script; all are 0 where a read is refused.
+#[repr(C)]
+pub struct Kept {
+    pub refusal: u8,
+    pub nodes: u16,
+    pub commands: u16,
+    pub blocks: u16,
+}
+
+// The refusal or 0, and the length of the image in bytes.
+#[repr(C)]
+pub struct Written {
+    pub refusal: u8,
+    pub len: usize,
+}
+
+// The refusal or 0, the pair of each slot, and what variable 0 ends as.
+#[repr(C)]
+pub struct Previewed {
+    pub refusal: u8,
+    pub items: [i32; 20],
+    pub counts: [i32; 20],
+    pub temp: i32,
+}
+
+// The refusal or 0, and the count of blocks entered.
+#[repr(C)]
+pub struct Ran {
+    pub refusal: u8,
+    pub entered: u32,
+}
+
+// The script of an image. A refused read hands out nothing: the arrays are zero then.
+#[no_mangle]
+pub extern "C" fn lk_read(
+    bytes: &[u8],
+    ws: &mut [u16; 98304],
+    val: &mut [i32; 32768],
+    cw: &mut [u16; 65536],
+    bw: &mut [u16; 20480],
+) -> Kept
+    ensures { λ r. ⌜ readAs r (now (ws .exit)) (now (val .exit)) (now (cw .exit)) (now (bw .exit)) ≡ readInto (memoryIn (now (ws .entry)) (now (val .entry)) (now (cw .entry)) (now (bw .entry)) 0 0 0) (readImage (now (bytes .entry))) ⌝ }
+{
+    let r = read_script(bytes, 0, ws, val, cw, bw);
+    match r {
+        Image::Read(k) => Kept {
+            refusal: 0,
+            nodes: k.nodes,
+            commands: k.commands,
+            blocks: k.blocks,
+        },
+        Image::No(e) => Kept {
+            refusal: e,
+            nodes: 0,
+            commands: 0,
+            blocks: 0,
+        },
+    }
+}
+
+// The image of a script into a slice. Refused, the slice stays as it was.
+#[no_mangle]
+pub extern "C" fn lk_write(
+    ws: &[u16; 98304],
+    val: &[i32; 32768],
+    cw: &[u16; 65536],
+    bw: &[u16; 20480],
+    nodes: u16,
+    commands: u16,
+    blocks: u16,
+    out: &mut [u8],
+) -> Written
+    ensures { λ r. ⌜ (wrote (r .refusal) (now (out .exit)) ≡ writeIn (memoryIn (now (ws .entry)) (now (val .entry)) (now (cw .entry)) (now (bw .entry)) nodes commands blocks) (now (out .entry))) × (r .len ≡ lengthIn (memoryIn (now (ws .entry)) (now (val .entry)) (now (cw .entry)) (now (bw .entry)) nodes commands blocks) (now (out .entry))) ⌝ }
+{
+    let counts = Counts {
+        nodes: nodes,
+        commands: commands,
+        blocks: blocks,
+    };
+    let w = write_script(ws, val, cw, bw, counts, out);
+    Written {
+        refusal: w.refusal,
+        len: w.len,
+    }
+}
+
+// Runs the blocks from start on, with the variables in vars. Refused by 1 to 12 it enters no block and writes nothing.
+#[no_mangle]
+pub extern "C" fn lk_run(
+    attached: &[u8],
+    atcs: u16,
+    timer5: u16,
+    timer10: u16,
+    timer15: u16,
+    ws: &[u16; 98304],
+    val: &[i32; 32768],
+    cw: &[u16; 65536],
+    bw: &[u16; 20480],
+    nodes: u16,
+    commands: u16,
+    blocks: u16,
+    start: u32,
+    items: &[i16],
+    held: &[u8],
+    flags: &[u8],
+    times: &[i16],
+    vars: &mut [i32],
+    budget: u32,
+) -> Ran
+    ensures { λ r. ⌜ ranAs r (now (vars .exit)) ≡ runIn (sheetOf (now (attached .entry)) (sheetBy atcs timer5 timer10 timer15)) (memoryIn (now (ws .entry)) (now (val .entry)) (now (cw .entry)) (now (bw .entry)) nodes commands blocks) start (saveOf (now (items .entry)) (now (held .entry)) (now (flags .entry)) (now (times .entry)) (now (vars .entry))) budget ⌝ }
+{
+    let sheet = Sheet {
+        atcs: atcs,
+        timer5: ItemId(timer5),
+        timer10: ItemId(timer10),
+        timer15: ItemId(timer15),
+    };
+    let counts = Counts {
+        nodes: nodes,
+        commands: commands,
+        blocks: blocks,
+    };
+    let r = run(
+        attached,
+        sheet,
+        ws,
+        val,
+        cw,
+        bw,
+        counts,
+        BlockNo(start),
+        items,
+        held,
+        flags,
+        times,
+        vars,
+        budget,
+    );
+    Ran {
+        refusal: r.refusal,
+        entered: r.entered,
+    }
+}
+
+// Compiles the shop that the arrays stand for and links it at block setup. Refused, nothing is written and the counts are those handed in.
+#[no_mangle]
+pub extern "C" fn lk_compile(
+    attached: &[u8],
+    atcs: u16,
+    timer5: u16,
+    timer10: u16,
+    timer15: u16,
+    ws: &mut [u16; 98304],
+    val: &mut [i32; 32768],
+    cw: &mut [u16; 65536],
+    bw: &mut [u16; 20480],
+    nodes: u16,
+    commands: u16,
+    blocks: u16,
+    setup: u32,
+    items: &[i32; 20],
+    limits: &[i16; 20],
+    codes: &[u64; 640],
+    lens: &[u8; 20],
+) -> Kept
+    ensures { λ r. ⌜ CompiledAs (sheetOf (now (attached .entry)) (sheetBy atcs timer5 timer10 timer15)) (memoryIn (now (ws .entry)) (now (val .entry)) (now (cw .entry)) (now (bw .entry)) nodes commands blocks) (callOf setup (shopFrom (arraysIn (now (items .entry)) (now (limits .entry)) (now (codes .entry)) (now (lens .entry))))) (r .refusal) (memoryIn (now (ws .exit)) (now (val .exit)) (now (cw .exit)) (now (bw .exit)) (r .nodes) (r .commands) (r .blocks)) ⌝ }
+{
+    let sheet = Sheet {
+        atcs: atcs,
+        timer5: ItemId(timer5),
+        timer10: ItemId(timer10),
+        timer15: ItemId(timer15),
+    };
+    let counts = Counts {
+        nodes: nodes,
+        commands: commands,
+        blocks: blocks,
+    };
+    let shop = shop_from(items, limits, codes, lens);
+    let r = compile(
+        attached,
+        sheet,
+        ws,
+        val,
+        cw,
+        bw,
+        counts,
+        BlockNo(setup),
+        shop,
+    );
+    let k = r.counts;
+    Kept {
+        refusal: r.refusal,
+        nodes: k.nodes,
+        commands: k.commands,
+        blocks: k.blocks,
+    }
+}
+
+// The shop that starts at block setup, into the arrays; refused, those of an empty shop.
+#[no_mangle]
+pub extern "C" fn lk_parse(
+    attached: &[u8],
+    atcs: u16,
+    timer5: u16,
+    timer10: u16,
+    timer15: u16,
+    ws: &[u16; 98304],
+    val: &[i32; 32768],
+    cw: &[u16; 65536],
+    bw: &[u16; 20480],
+    nodes: u16,
+    commands: u16,
+    blocks: u16,
+    setup: u32,
+    items: &mut [i32; 20],
+    limits: &mut [i16; 20],
+    codes: &mut [u64; 640],
+    lens: &mut [u8; 20],
+) -> u8
+    ensures { λ r. ⌜ (r ≡ answerOf (parseIn (sheetOf (now (attached .entry)) (sheetBy atcs timer5 timer10 timer15)) (memoryIn (now (ws .entry)) (now (val .entry)) (now (cw .entry)) (now (bw .entry)) nodes commands blocks) setup) .refusal) × (arraysIn (now (items .exit)) (now (limits .exit)) (now (codes .exit)) (now (lens .exit)) ≡ arraysOf (answerOf (parseIn (sheetOf (now (attached .entry)) (sheetBy atcs timer5 timer10 timer15)) (memoryIn (now (ws .entry)) (now (val .entry)) (now (cw .entry)) (now (bw .entry)) nodes commands blocks) setup) .shop)) ⌝ }
+{
+    let sheet = Sheet {
+        atcs: atcs,
+        timer5: ItemId(timer5),
+        timer10: ItemId(timer10),
+        timer15: ItemId(timer15),
+    };
+    let counts = Counts {
+        nodes: nodes,
+        commands: commands,
+        blocks: blocks,
+    };
+    let r = parse(attached, sheet, ws, val, cw, bw, counts, BlockNo(setup));
+    let shop = r.shop;
+    shop_to(shop, items, limits, codes, lens);
+    r.refusal
+}
+
+// What the shop that the arrays stand for means under a save.
+#[no_mangle]
+pub extern "C" fn lk_preview(
+    attached: &[u8],
+    atcs: u16,
+    timer5: u16,
+    timer10: u16,
+    timer15: u16,
+    items: &[i32; 20],
+    limits: &[i16; 20],
+    codes: &[u64; 640],
+    lens: &[u8; 20],
+    counts: &[i16],
+    held: &[u8],
+    flags: &[u8],
+    times: &[i16],
+    vars: &[i32],
+) -> Previewed
+    ensures { λ r. ⌜ previewedAs r ≡ previewedOf (previewCall (sheetOf (now (attached .entry)) (sheetBy atcs timer5 timer10 timer15)) (slotsOf (shopFrom (arraysIn (now (items .entry)) (now (limits .entry)) (now (codes .entry)) (now (lens .entry))))) (saveOf (now (counts .entry)) (now (held .entry)) (now (flags .entry)) (now (times .entry)) (now (vars .entry)))) ⌝ }
+{
+    let sheet = Sheet {
+        atcs: atcs,
+        timer5: ItemId(timer5),
+        timer10: ItemId(timer10),
+        timer15: ItemId(timer15),
+    };
+    let shop = shop_from(items, limits, codes, lens);
+    let r = preview(attached, sheet, shop, counts, held, flags, times, vars);
+    let pair_items = r.items;
+    let pair_counts = r.counts;
+    Previewed {
+        refusal: r.refusal,
+        items: pair_items,
+        counts: pair_counts,
+        temp: r.temp,
+    }
+}

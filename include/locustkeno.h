@@ -1,0 +1,106 @@
+/* The calls of the static library libcapi.a.
+ *
+ * Every call answers with a refusal's number from document 01, or 0. A slice is a pointer and a length; where the
+ * length is 0 the pointer must still not be null. What is written to must not overlap anything else that is handed in.
+ * No call keeps a pointer, allocates, or has any state of its own: threads may call at the same time on different memory.
+ * 64 kilobytes of stack were enough for lk_read, lk_write and lk_run on the largest scripts, 768 for lk_parse.
+ *
+ * A script is four arrays and three kept counts:
+ *   ws   nodes: code, left operand, right operand at 3n, 3n + 1, 3n + 2
+ *   val  the number of an Imm node
+ *   cw   commands: code, two expressions, a block at 4c ..; of a Set the fourth is 0 for a target Variable, else 1
+ *   bw   blocks: kind, first command, how many, next + 1, else + 1 at 5b ..
+ * A sheet is attached (for each item its atc + 1, or 0), the count of atcs and the three timers' items.
+ * A save is items (a count for each item), held (0 or 1 for each atc), flags, times and vars.
+ */
+#ifndef LOCUSTKENO_H
+#define LOCUSTKENO_H
+
+#include <stddef.h>
+#include <stdint.h>
+
+#ifdef __cplusplus
+extern "C" {
+#endif
+
+#define LK_NODE_WORDS 98304
+#define LK_VALUES 32768
+#define LK_COMMAND_WORDS 65536
+#define LK_BLOCK_WORDS 20480
+#define LK_SLOTS 20
+#define LK_ENTRIES 32
+
+/* The refusal or 0, and the kept counts of the script; all are 0 where a read is refused. */
+typedef struct {
+    uint8_t refusal;
+    uint16_t nodes, commands, blocks;
+} lk_kept;
+
+/* The refusal or 0, and the length of the image in bytes. */
+typedef struct {
+    uint8_t refusal;
+    size_t len;
+} lk_written;
+
+/* The refusal or 0, and the count of blocks entered. */
+typedef struct {
+    uint8_t refusal;
+    uint32_t entered;
+} lk_ran;
+
+/* The script of an image. Refused (2 to 5), the arrays are all zero. */
+lk_kept lk_read(const uint8_t *bytes, size_t bytes_len, uint16_t ws[LK_NODE_WORDS], int32_t val[LK_VALUES],
+                uint16_t cw[LK_COMMAND_WORDS], uint16_t bw[LK_BLOCK_WORDS]);
+
+/* The image of a script into out. Refused (2 to 5, 16), out stays as it was; so do the bytes past the image. */
+lk_written lk_write(const uint16_t ws[LK_NODE_WORDS], const int32_t val[LK_VALUES], const uint16_t cw[LK_COMMAND_WORDS],
+                    const uint16_t bw[LK_BLOCK_WORDS], uint16_t nodes, uint16_t commands, uint16_t blocks, uint8_t *out,
+                    size_t out_len);
+
+/* Runs the blocks from start on. Refused by 1 to 12 it enters no block and writes nothing; refused by 13 to 15, vars
+ * keeps what was written until then. */
+lk_ran lk_run(const uint8_t *attached, size_t attached_len, uint16_t atcs, uint16_t timer5, uint16_t timer10,
+              uint16_t timer15, const uint16_t ws[LK_NODE_WORDS], const int32_t val[LK_VALUES],
+              const uint16_t cw[LK_COMMAND_WORDS], const uint16_t bw[LK_BLOCK_WORDS], uint16_t nodes, uint16_t commands,
+              uint16_t blocks, uint32_t start, const int16_t *items, size_t items_len, const uint8_t *held,
+              size_t held_len, const uint8_t *flags, size_t flags_len, const int16_t *times, size_t times_len,
+              int32_t *vars, size_t vars_len, uint32_t budget);
+
+/* A shop is four arrays: items (-1 for none; a number that no item can have stands for an item that no sheet has),
+ * limits, LK_ENTRIES codes of requirements for each slot, and how many of them are given (over LK_ENTRIES is refusal 8).
+ * A code is kind * 2^32 + number + 2^31, the kinds 0 to 5 being HaveItem, MissingItem, HaveAtc, MissingAtc, HaveFlag and
+ * MissingFlag. */
+
+/* The refusal or 0, the pair of each slot, and what variable 0 ends as. */
+typedef struct {
+    uint8_t refusal;
+    int32_t items[LK_SLOTS], counts[LK_SLOTS];
+    int32_t temp;
+} lk_previewed;
+
+/* Compiles a shop and links it at block setup. Refused (1 to 9), nothing is written and the counts are those handed in. */
+lk_kept lk_compile(const uint8_t *attached, size_t attached_len, uint16_t atcs, uint16_t timer5, uint16_t timer10,
+                   uint16_t timer15, uint16_t ws[LK_NODE_WORDS], int32_t val[LK_VALUES], uint16_t cw[LK_COMMAND_WORDS],
+                   uint16_t bw[LK_BLOCK_WORDS], uint16_t nodes, uint16_t commands, uint16_t blocks, uint32_t setup,
+                   const int32_t items[LK_SLOTS], const int16_t limits[LK_SLOTS],
+                   const uint64_t codes[LK_SLOTS * LK_ENTRIES], const uint8_t lens[LK_SLOTS]);
+
+/* The shop that starts at block setup, its requirements sorted, each once. Refused (1 to 7, 10, 11), an empty shop. */
+uint8_t lk_parse(const uint8_t *attached, size_t attached_len, uint16_t atcs, uint16_t timer5, uint16_t timer10,
+                 uint16_t timer15, const uint16_t ws[LK_NODE_WORDS], const int32_t val[LK_VALUES],
+                 const uint16_t cw[LK_COMMAND_WORDS], const uint16_t bw[LK_BLOCK_WORDS], uint16_t nodes,
+                 uint16_t commands, uint16_t blocks, uint32_t setup, int32_t items[LK_SLOTS], int16_t limits[LK_SLOTS],
+                 uint64_t codes[LK_SLOTS * LK_ENTRIES], uint8_t lens[LK_SLOTS]);
+
+/* What a shop means under a save, with refusals 1, 8 and 12. */
+lk_previewed lk_preview(const uint8_t *attached, size_t attached_len, uint16_t atcs, uint16_t timer5, uint16_t timer10,
+                        uint16_t timer15, const int32_t items[LK_SLOTS], const int16_t limits[LK_SLOTS],
+                        const uint64_t codes[LK_SLOTS * LK_ENTRIES], const uint8_t lens[LK_SLOTS], const int16_t *counts,
+                        size_t counts_len, const uint8_t *held, size_t held_len, const uint8_t *flags, size_t flags_len,
+                        const int16_t *times, size_t times_len, const int32_t *vars, size_t vars_len);
+
+#ifdef __cplusplus
+}
+#endif
+
+#endif

@@ -1,0 +1,106 @@
+//! Times the proved library beside the Rust sides, on the same inputs: microseconds a call, the
+//! best and the median of 15 rounds.
+
+mod cases;
+mod clock;
+mod shops;
+
+use cases::Case;
+use clock::{row, time};
+use compare::{convert, interpret};
+use locustkeno::Script;
+use oracle::image;
+use std::hint::black_box;
+
+fn main() {
+    println!(
+        "{:8} {:12} {:28} {:>10} {:>10}",
+        "call", "script", "side", "best us", "median us"
+    );
+    for case in cases::all() {
+        let a = case.script.arrays();
+        println!(
+            "-- {}: {} blocks, {} commands, {} nodes, {} bytes",
+            case.name,
+            a.blocks,
+            a.commands,
+            a.nodes,
+            case.bytes.len()
+        );
+        read(&case);
+        write(&case);
+        run(&case);
+        shops::all(&case);
+    }
+}
+
+fn read(case: &Case) {
+    let ours = time(
+        40,
+        || (),
+        |()| drop(black_box(Script::read(black_box(&case.bytes)))),
+    );
+    let theirs = time(
+        40,
+        || (),
+        |()| drop(black_box(image::read(black_box(&case.bytes)))),
+    );
+    let mut script = Script::default();
+    let again = time(
+        40,
+        || (),
+        |()| {
+            script
+                .read_again(black_box(&case.bytes))
+                .expect("it is an image")
+        },
+    );
+    let sides = [
+        ("library, new arrays", ours),
+        ("Rust, trees", theirs),
+        ("library, arrays kept", again),
+    ];
+    row("read", case.name, &sides);
+}
+
+fn write(case: &Case) {
+    let ours = time(
+        40,
+        || (),
+        |()| drop(black_box(black_box(&case.script).write())),
+    );
+    let theirs = time(
+        40,
+        || (),
+        |()| drop(black_box(image::write(black_box(&case.plain)))),
+    );
+    row(
+        "write",
+        case.name,
+        &[
+            ("library, judged first", ours),
+            ("Rust, trees, not judged", theirs),
+        ],
+    );
+}
+
+fn run(case: &Case) {
+    let sheet = convert::sheet(&case.sheet);
+    let save = || cases::save(&case.sheet);
+    let a = case.script.arrays();
+    let ours = time(200, save, |save| {
+        black_box(case.script.run(&sheet, 0, save, black_box(82)));
+    });
+    let theirs = time(200, save, |save| {
+        black_box(interpret::run(&case.sheet, a, 0, save, black_box(82)));
+    });
+    let alone = time(200, save, |save| {
+        black_box(interpret::run_blocks(a, 0, save, black_box(82)));
+    });
+    let sides = [
+        ("library, all checks", ours),
+        ("Rust, same checks", theirs),
+        ("Rust, no checks", alone),
+    ];
+    row("run", case.name, &sides);
+}

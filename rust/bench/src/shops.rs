@@ -1,0 +1,83 @@
+//! Times of parse, compile and preview beside the original's parse and compile.
+
+use crate::cases::{self, Case};
+use crate::clock::{row, time};
+use compare::{convert, meaning};
+use locustkeno::{Script, Shop};
+use oracle::calls::{self, Original};
+use oracle::plain::{Block, Code};
+use std::hint::black_box;
+
+/// All three, on one script.
+pub fn all(case: &Case) {
+    calls::use_sheet(&case.sheet);
+    parse(case);
+    compile(case);
+    preview(case);
+}
+
+fn parse(case: &Case) {
+    let sheet = convert::sheet(&case.sheet);
+    let ours = time(
+        20,
+        || (),
+        |()| drop(black_box(case.script.parse(&sheet, 0))),
+    );
+    let original = Original::new(&case.plain);
+    let theirs = time(20, || (), |()| drop(black_box(original.parse(0))));
+    row(
+        "parse",
+        case.name,
+        &[("library, judged first", ours), ("original", theirs)],
+    );
+}
+
+/// Into a script of one block, whatever the case's script is.
+fn compile(case: &Case) {
+    let sheet = convert::sheet(&case.sheet);
+    let shop = Shop::with_slots(case.slots.iter().map(convert::slot));
+    let one = Script::read(&[1, 1, 0, 0, 0]).expect("it is an image");
+    let ours = time(
+        20,
+        || one.clone(),
+        |script| script.compile(&sheet, 0, &shop).expect("it has room"),
+    );
+    let first = Block::Code(Code::default());
+    let one = oracle::plain::Script {
+        blocks: vec![first],
+    };
+    let slots = calls::original_slots(&case.slots);
+    let theirs = time(
+        20,
+        || Original::new(&one),
+        |script| script.compile(0, &slots),
+    );
+    row(
+        "compile",
+        case.name,
+        &[("library", ours), ("original", theirs)],
+    );
+}
+
+fn preview(case: &Case) {
+    let sheet = convert::sheet(&case.sheet);
+    let shop = Shop::with_slots(case.slots.iter().map(convert::slot));
+    let save = cases::save(&case.sheet);
+    let ours = time(
+        200,
+        || (),
+        |()| {
+            let _ = black_box(shop.preview(&sheet, &save));
+        },
+    );
+    let theirs = time(
+        200,
+        || (),
+        |()| drop(black_box(meaning::meaning(&case.sheet, &case.slots, &save))),
+    );
+    row(
+        "preview",
+        case.name,
+        &[("library", ours), ("Rust, not checked", theirs)],
+    );
+}

@@ -1,0 +1,160 @@
+#!/usr/bin/env python3
+"""Breaks the engine on purpose and says whether `compare` notices.
+
+usage: breaks.py SEED COUNT LONGEST [CRATE/LABEL ...]     (the edits of breaks.txt where none is named)
+
+Only a proved crate is built into a library, so a broken one is compiled the way `rt try` compiles a program without a
+proof: a program that mentions the library's calls, with a compiler in between that keeps what it is given. Each edit is
+one of the must-fail edits of a crate's source. The first line is the engine as it is: there nothing may differ.
+"""
+import os
+import pathlib
+import re
+import shutil
+import subprocess
+import sys
+import tempfile
+
+HERE = pathlib.Path(__file__).resolve().parent
+TOP = HERE.parents[2]
+KIT = pathlib.Path(os.environ.get("RATTLE_HOME") or pathlib.Path(shutil.which("rt")).resolve().parent.parent)
+TOOLS = KIT / "on" / os.uname().machine
+CLANG = TOOLS / "toolchain/bin/clang"
+CALLS = ["lk_read", "lk_write", "lk_run", "lk_compile", "lk_parse", "lk_preview"]
+
+# A program that reaches the calls and makes none of them.
+PROGRAM = """fn main() {
+    let never = 0;
+    if never == 1 {
+        let mut ws = [0; 98304];
+        let mut val = [0; 32768];
+        let mut cw = [0; 65536];
+        let mut bw = [0; 20480];
+        let mut bytes = [0, 0];
+        let shorts = [0, 0];
+        let mut vars = [0, 0];
+        capi::lk_read(&bytes, &mut ws, &mut val, &mut cw, &mut bw);
+        capi::lk_run(&bytes, 0, 0, 1, 2, &ws, &val, &cw, &bw, 0, 0, 0, 0, &shorts, &bytes, &bytes, &shorts, &mut vars, 5);
+        capi::lk_write(&ws, &val, &cw, &bw, 0, 0, 0, &mut bytes);
+        let mut items = [0; 20];
+        let mut limits = [0; 20];
+        let mut codes = [0; 640];
+        let mut lens = [0; 20];
+        capi::lk_parse(&bytes, 0, 0, 1, 2, &ws, &val, &cw, &bw, 0, 0, 0, 0, &mut items, &mut limits, &mut codes, &mut lens);
+        capi::lk_preview(&bytes, 0, 0, 1, 2, &items, &limits, &codes, &lens, &shorts, &bytes, &bytes, &shorts, &vars);
+        capi::lk_compile(&bytes, 0, 0, 1, 2, &mut ws, &mut val, &mut cw, &mut bw, 0, 0, 0, 0, &items, &limits, &codes, &lens);
+    }
+}
+"""
+
+
+def reached(name):
+    """The crates that a crate rests on, itself last."""
+    lines = (TOP / "crates.txt").read_text().splitlines()
+    deps = dict(re.split(r":\s*", line, maxsplit=1) for line in lines if line and not line.startswith("#"))
+    order = []
+
+    def visit(crate):
+        for dep in deps[crate].split():
+            visit(dep)
+        if crate not in order:
+            order.append(crate)
+
+    visit(name)
+    return order
+
+
+def apply(edit, crates):
+    """Makes the replacements of a must-fail edit in the copies of the crates."""
+    crate, label = edit.split("/")
+    file = None
+    old = None
+    for line in (TOP / "crates" / crate / "must-fail" / f"{label}.edit").read_text().splitlines():
+        if line.startswith("file: "):
+            file = crates / crate / line[6:]
+        elif line.startswith("old: "):
+            old = line[5:]
+        elif line.startswith("new:"):
+            text = file.read_text()
+            assert text.count(old) == 1, (edit, old)
+            file.write_text(text.replace(old, line[5:]))
+
+
+def module(crates, work):
+    """The engine as LLVM's text, with the calls to be seen from outside."""
+    tool = work / "tool"
+    (tool / "bin").mkdir(parents=True)
+    (tool / "lib").symlink_to(TOOLS / "toolchain/lib")
+    (tool / "bin/clang").write_text(f"#!/bin/sh\ncp module.bc {work}/module.bc\nexit 1\n")
+    (tool / "bin/clang").chmod(0o755)
+    for name in ("ld.lld", "llvm-ar"):
+        (tool / "bin" / name).symlink_to("clang")
+    program = work / "program/main.rt"
+    program.parent.mkdir()
+    program.write_text(PROGRAM)
+    sources = [f"std={KIT}/libs/std/src/lib.rt"] + [f"{crate}={crates}/{crate}/src/lib.rt" for crate in reached("capi")]
+    libs = [word for source in sources for word in ("--lib", source)]
+    command = [TOOLS / "bin/rattle-cases", "--toolchain", tool, program, "--crate-name", "broken", *libs]
+    said = subprocess.run(command, capture_output=True, text=True)
+    if not (work / "module.bc").exists():
+        raise RuntimeError(said.stdout + said.stderr)
+    flags = ["-S", "-emit-llvm", "-x", "ir", "-O0", "-Xclang", "-disable-llvm-passes"]
+    subprocess.run([CLANG, *flags, work / "module.bc", "-o", work / "module.ll"], check=True, capture_output=True)
+    text = (work / "module.ll").read_text()
+    for call in CALLS:
+        text = re.sub(rf'define internal (.*)@"capi::{call}"', rf'define \1@"capi::{call}"', text)
+        text = text.replace(f'@"capi::{call}"', f"@inner_{call}")
+    return text.replace("define i32 @main()", "define internal i32 @main()")
+
+
+def library(crates, work, folder):
+    """Compiles the engine, whatever it is, into a library of the same name."""
+    (work / "module.ll").write_text(module(crates, work))
+    subprocess.run([CLANG, "-O3", "-fPIC", "-c", work / "module.ll", "-o", work / "module.o"], check=True, capture_output=True)
+    shim = ["cc", "-O2", "-fPIC", "-I", TOP / "include", "-c", HERE / "shim.c", "-o", work / "shim.o"]
+    subprocess.run(shim, check=True)
+    archive = folder / "libcapi.a"
+    archive.unlink(missing_ok=True)
+    subprocess.run(["ar", "rcs", archive, work / "module.o", work / "shim.o"], check=True)
+
+
+def verdict(folder, arguments):
+    """What `compare` says of the library in the folder."""
+    env = dict(os.environ, LOCUSTKENO_LIB=str(folder), CARGO_TARGET_DIR=str(TOP / "target/breaks"))
+    build = ["cargo", "build", "-q", "-j1", "--offline", "--release", "-p", "compare"]
+    subprocess.run(build, check=True, env=env, cwd=TOP / "rust")
+    try:
+        ran = subprocess.run([TOP / "target/breaks/release/compare", *arguments], capture_output=True, text=True, timeout=600)
+    except subprocess.TimeoutExpired:
+        return "caught: it does not end"
+    if ran.returncode < 0:
+        return f"caught: signal {-ran.returncode}"
+    found = re.search(r"differences: (\d+)", ran.stdout)
+    if ran.returncode == 0:
+        return "no difference"
+    return f"caught: {found.group(1)} differences" if found else f"caught: {ran.stderr.strip()[:80]}"
+
+
+def main():
+    arguments, edits = sys.argv[1:4], sys.argv[4:]
+    edits = edits or [line.split()[0] for line in (HERE / "breaks.txt").read_text().splitlines() if line and line[0] != "#"]
+    caught = 0
+    with tempfile.TemporaryDirectory() as temporary:
+        folder = pathlib.Path(temporary) / "library"
+        folder.mkdir()
+        for edit in [None, *edits]:
+            work = pathlib.Path(temporary) / "work"
+            shutil.rmtree(work, ignore_errors=True)
+            crates = work / "crates"
+            for crate in reached("capi"):
+                shutil.copytree(TOP / "crates" / crate / "src", crates / crate / "src")
+            if edit:
+                apply(edit, crates)
+            library(crates, work, folder)
+            said = verdict(folder, arguments)
+            caught += said.startswith("caught") and edit is not None
+            print(f"{edit or 'the engine as it is'}: {said}", flush=True)
+    print(f"{caught} of {len(edits)} caught")
+
+
+main()

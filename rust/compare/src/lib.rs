@@ -1,0 +1,36 @@
+//! The proved library held against the original, against a hand-written interpreter and against
+//! document 01's meaning of a shop, on the same inputs.
+
+pub mod convert;
+pub mod images;
+pub mod interpret;
+pub mod judge;
+pub mod meaning;
+pub mod runs;
+pub mod saves;
+pub mod shops;
+pub mod small;
+pub mod tally;
+pub mod tree;
+
+use record::random::Random;
+use tally::Tally;
+
+/// Everything that can be compared, from a seed; `longest` and `small` are said in `main.rs`.
+pub fn all(seed: u64, count: usize, longest: usize, small: bool) -> Tally {
+    let mut tally = Tally::default();
+    let mut random = Random::new(seed);
+    images::exhaustive(&mut tally, longest);
+    images::limits(&mut tally);
+    images::numbers(&mut tally);
+    images::random(&mut tally, &mut random, count);
+    runs::random(&mut tally, &mut random, count);
+    runs::records(&mut tally, &mut random, count);
+    runs::compiled(&mut tally, &mut random, count);
+    shops::all(&mut tally, &mut random, count);
+    if small {
+        runs::small(&mut tally, &mut random);
+        shops::small(&mut tally);
+    }
+    tally
+}

@@ -1,0 +1,222 @@
+//! Parses, compiles, lists of compiles and previews: the library's against the original's.
+
+use crate::meaning::meaning;
+use crate::tally::Tally;
+use crate::{convert, runs, saves, small, tree};
+use locustkeno::{Preview, Script, Shop};
+use oracle::plain::{self, Block, Code, Command, Expr, Sheet, Slot, Target};
+use oracle::rules::{self, InUse};
+use oracle::{image, slots};
+use record::compile_cases::{self, Case};
+use record::parse_cases;
+use record::random::Random;
+
+fn shop(slots: &[Slot]) -> Shop {
+    Shop::with_slots(slots.iter().map(convert::slot))
+}
+
+/// Parses on both sides.
+fn check_parse(
+    tally: &mut Tally,
+    sheet: &Sheet,
+    script: &Script,
+    setup: u32,
+    theirs: Result<Vec<Slot>, u8>,
+) {
+    let ours = script
+        .parse(&convert::sheet(sheet), setup)
+        .map_err(|refused| refused.0);
+    tally.count("parse", ours.as_ref().err().copied().unwrap_or(0));
+    let theirs = theirs.map(|slots| shop(&slots));
+    tally.same("parse", &ours, &theirs, || {
+        format!(
+            "setup {setup}, sheet {sheet:?}, image {:02X?}",
+            script.write()
+        )
+    });
+}
+
+/// Inputs of the program `slots`, those that can be read.
+pub fn parses(tally: &mut Tally, random: &mut Random, count: usize) {
+    let mut script = Script::default();
+    for index in 0..count {
+        let Ok(input) = slots::read(&parse_cases::input(random, index)) else {
+            continue;
+        };
+        script
+            .read_again(&image::write(&input.script))
+            .expect("the oracle could read it");
+        let theirs = rules::parse(&input.sheet, &input.script, input.setup as usize)
+            .map_err(|refusal| refusal.0);
+        check_parse(tally, &input.sheet, &script, input.setup, theirs);
+    }
+}
+
+/// Writes to variables that would be those of a slot if their numbers were cut to 16 bits: target
+/// numbers are not cut.
+pub fn targets(tally: &mut Tally) {
+    let sheet = small::sheet();
+    let away = [0, 65_536, -65_536, 1 << 20];
+    for (item, count) in away.iter().flat_map(|a| away.map(|b| (600 + a, 620 + b))) {
+        let set = |variable, value| {
+            Command::Set(Target::Variable(Expr::Imm32(variable)), Expr::Imm16(value))
+        };
+        let code = Code {
+            commands: vec![set(item, 3), set(count, 5)],
+            ..Code::default()
+        };
+        let plain = plain::Script {
+            blocks: vec![Block::Code(code)],
+        };
+        let script = Script::read(&image::write(&plain)).expect("it is a script");
+        let theirs = rules::parse(&sheet, &plain, 0).map_err(|refusal| refusal.0);
+        check_parse(tally, &sheet, &script, 0, theirs);
+    }
+}
+
+/// Every small script.
+pub fn small(tally: &mut Tally) {
+    let sheet = small::sheet();
+    let mut script = Script::default();
+    for plain in small::scripts() {
+        script
+            .read_again(&image::write(&plain))
+            .expect("a small script is one");
+        let theirs = rules::parse(&sheet, &plain, 0).map_err(|refusal| refusal.0);
+        check_parse(tally, &sheet, &script, 0, theirs);
+    }
+}
+
+/// Parses at and just past each limit.
+pub fn parse_limits(tally: &mut Tally) {
+    for bytes in record::limits::parse_inputs() {
+        let Ok(input) = slots::read(&bytes) else {
+            continue;
+        };
+        let script = Script::read(&image::write(&input.script)).expect("the oracle could read it");
+        let theirs = rules::parse(&input.sheet, &input.script, input.setup as usize)
+            .map_err(|refusal| refusal.0);
+        check_parse(tally, &input.sheet, &script, input.setup, theirs);
+    }
+}
+
+/// One compile on both sides: the answer, the script after it and its kept counts. Refused, no word
+/// of the arrays may have changed.
+fn check_compile(
+    tally: &mut Tally,
+    sheet: &Sheet,
+    ours: &mut Script,
+    theirs: &mut InUse,
+    setup: u32,
+    slots: &[Slot],
+) -> bool {
+    let before = ours.clone();
+    let answer = ours
+        .compile(&convert::sheet(sheet), setup, &shop(slots))
+        .map_err(|refused| refused.0);
+    tally.count("compile", answer.err().unwrap_or(0));
+    let expected = theirs
+        .compile(sheet, setup as usize, slots)
+        .map_err(|refusal| refusal.0);
+    let case = || {
+        format!(
+            "setup {setup}, sheet {sheet:?}, shop {slots:?}, image {:02X?}",
+            before.write()
+        )
+    };
+    tally.same("compile", &answer, &expected, case);
+    let a = ours.arrays();
+    let kept = [a.blocks, a.commands, a.nodes].map(usize::from);
+    tally.same(
+        "kept counts",
+        &kept,
+        &[theirs.kept.blocks, theirs.kept.commands, theirs.kept.nodes],
+        case,
+    );
+    match answer {
+        Ok(()) => tally.same("compiled script", &tree::script(a), &theirs.script, case),
+        Err(_) => tally.same(
+            "arrays after a refused compile",
+            &(*ours == before),
+            &true,
+            case,
+        ),
+    }
+    answer.is_ok()
+}
+
+/// A list of compiles. After each, every block that was named runs as the last shop accepted there
+/// means, where no later compile named a block that the list appended, and parses as the original does.
+fn check_list(tally: &mut Tally, random: &mut Random, case: &Case) {
+    let bytes = image::write(&case.before);
+    let mut ours = Script::read(&bytes).expect("a script that the maker made can be read");
+    let mut theirs = InUse::new(case.before.clone());
+    let mut last: Vec<(u32, &[Slot])> = Vec::new();
+    for step in &case.steps {
+        if !check_compile(
+            tally,
+            &case.sheet,
+            &mut ours,
+            &mut theirs,
+            step.setup,
+            &step.shop,
+        ) {
+            continue;
+        }
+        if step.setup as usize >= case.before.blocks.len() {
+            // Such a compile may change what an earlier one appended.
+            last.clear();
+        } else {
+            last.retain(|(setup, _)| *setup != step.setup);
+            last.push((step.setup, &step.shop));
+        }
+        for (setup, slots) in &last {
+            let save = saves::save(random, &case.sheet);
+            runs::check_meaning(tally, &case.sheet, slots, &ours, *setup, &save);
+            check_preview(tally, &case.sheet, slots, &save);
+            let read = rules::parse(&case.sheet, &theirs.script, *setup as usize)
+                .map_err(|refusal| refusal.0);
+            check_parse(tally, &case.sheet, &ours, *setup, read);
+        }
+    }
+}
+
+/// Random lists of compiles.
+pub fn lists(tally: &mut Tally, random: &mut Random, count: usize) {
+    for _ in 0..count {
+        let case = compile_cases::case(random);
+        check_list(tally, random, &case);
+    }
+}
+
+/// Compiles that just fit and that just do not.
+pub fn compile_limits(tally: &mut Tally, random: &mut Random) {
+    for case in record::limits::compile_cases() {
+        check_list(tally, random, &case);
+    }
+}
+
+/// The preview of a shop against its meaning.
+fn check_preview(tally: &mut Tally, sheet: &Sheet, slots: &[Slot], save: &locustkeno::Save) {
+    let ours = shop(slots)
+        .preview(&convert::sheet(sheet), save)
+        .map_err(|refused| refused.0);
+    tally.count("preview", ours.as_ref().err().copied().unwrap_or(0));
+    let expected = meaning(sheet, slots, save);
+    let theirs = Ok(Preview {
+        pairs: expected.pairs,
+        variable0: expected.variable0,
+    });
+    tally.same("preview", &ours, &theirs, || {
+        format!("sheet {sheet:?}, shop {slots:?}, save {save:?}")
+    });
+}
+
+/// All of these.
+pub fn all(tally: &mut Tally, random: &mut Random, count: usize) {
+    targets(tally);
+    parse_limits(tally);
+    compile_limits(tally, random);
+    parses(tally, random, count);
+    lists(tally, random, count);
+}

@@ -1,0 +1,31 @@
+//! The shop engine of Locustkeno: a safe crate over the proved static library.
+//!
+//! A stage script holds a shop, a web of linked blocks that a parser reads as twenty slots. Every
+//! call here is one call of the library, whose promises are proved; this crate only hands memory
+//! over. Refusals have document 01's numbers.
+//!
+//! ```
+//! use locustkeno::{Item, Refused, Save, Script, Sheet};
+//! let sheet = Sheet::new(&[None; 3], 0, [Item(0), Item(1), Item(2)]);
+//! let script = Script::read(&[1, 1, 1, 0, 0, 0])?;
+//! let mut save = Save::new(&sheet);
+//! assert_eq!(script.run(&sheet, 0, &mut save, 10).entered, 1);
+//! assert_eq!(script.run(&sheet, 1, &mut save, 10).refusal, Some(Refused(6)));
+//! # Ok::<(), Refused>(())
+//! ```
+
+mod arrays;
+mod ffi;
+mod refused;
+mod save;
+mod script;
+mod sheet;
+mod shop;
+
+pub use arrays::{Arrays, BlockWords, CommandWords, NodeWords, Values};
+pub use refused::Refused;
+pub use save::{FLAGS, Save, TIMES, VARIABLES};
+pub use script::Preview;
+pub use script::{Ran, Script};
+pub use sheet::{Atc, Item, Sheet};
+pub use shop::{ENTRIES, NUM_SLOTS, Requirement, Shop, Slot};

@@ -1,0 +1,58 @@
+//! Refusals, by document 01's numbers.
+
+use std::error::Error;
+use std::fmt;
+
+/// A refusal, by its number in document 01.
+///
+/// ```
+/// use locustkeno::Refused;
+/// assert_eq!(Refused(9).to_string(), "the compile would pass a limit of the script (refusal 9)");
+/// ```
+#[derive(Debug, Copy, Clone, PartialEq, Eq, PartialOrd, Ord, Hash)]
+pub struct Refused(pub u8);
+
+impl Refused {
+    /// What the library's number says: 0 is acceptance.
+    pub(crate) fn check(number: u8) -> Result<(), Self> {
+        if number == 0 {
+            Ok(())
+        } else {
+            Err(Self(number))
+        }
+    }
+
+    fn sentence(self) -> &'static str {
+        match self.0 {
+            1 => "the sheet breaks a range",
+            2 => {
+                "the image is cut short, has a bad number or an unknown code, or bytes are left over"
+            }
+            3 => "the script passes a limit",
+            4 => "an expression is deeper than 64",
+            5 => "a block is named that is not there",
+            6 => "the number given is not a block",
+            7 => "the block given is not code",
+            8 => "the shop has an id outside the sheet, or over 32 entries in a slot",
+            9 => "the compile would pass a limit of the script",
+            10 => "the parse reaches a block that is not code",
+            11 => "the parse reads a 33rd requirement for a slot",
+            12 => "the save has a wrong length or value",
+            13 => {
+                "the run meets a block that is not code, or an unknown command, target or expression"
+            }
+            14 => "the run needs a next block and there is none",
+            15 => "the run's budget is spent",
+            16 => "the slice is too short for the image",
+            _ => "no refusal of document 01",
+        }
+    }
+}
+
+impl fmt::Display for Refused {
+    fn fmt(&self, f: &mut fmt::Formatter<'_>) -> fmt::Result {
+        write!(f, "{} (refusal {})", self.sentence(), self.0)
+    }
+}
+
+impl Error for Refused {}

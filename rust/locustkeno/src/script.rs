@@ -1,0 +1,293 @@
+//! Scripts: read and written as images, compiled into, parsed and run.
+
+use crate::arrays::Arrays;
+use crate::{Refused, Save, Sheet, ffi};
+
+/// A stage script, held on the heap.
+///
+/// ```
+/// use locustkeno::{Refused, Script};
+/// // One block of code with one Return; no next, no else.
+/// let image = [1, 1, 1, 0, 0, 0];
+/// let script = Script::read(&image)?;
+/// assert_eq!(script.blocks(), 1);
+/// assert_eq!(script.write()?, image);
+/// // A number that is not shortest.
+/// assert_eq!(Script::read(&[0x81, 0x00]).unwrap_err(), Refused(2));
+/// # Ok::<(), Refused>(())
+/// ```
+#[derive(Debug, Clone, PartialEq, Eq, Default)]
+pub struct Script {
+    arrays: Arrays,
+}
+
+/// What a run answers: its refusal, if it was refused, and how many blocks it entered.
+#[derive(Debug, Copy, Clone, PartialEq, Eq)]
+pub struct Ran {
+    pub refusal: Option<Refused>,
+    pub entered: u32,
+}
+
+impl Script {
+    /// Reads the image of a script, with refusals 2 to 5.
+    pub fn read(image: &[u8]) -> Result<Self, Refused> {
+        let mut script = Self::default();
+        script.read_again(image)?;
+        Ok(script)
+    }
+
+    /// Reads an image in the place of this script, which saves making the arrays anew. Refused, the
+    /// script has no blocks.
+    pub fn read_again(&mut self, image: &[u8]) -> Result<(), Refused> {
+        let a = &mut self.arrays;
+        // SAFETY: the slice and the arrays are as the library takes them, and none overlaps.
+        let kept = unsafe {
+            ffi::lk_read(
+                image.as_ptr(),
+                image.len(),
+                &mut *a.ws,
+                &mut *a.val,
+                &mut *a.cw,
+                &mut *a.bw,
+            )
+        };
+        (a.nodes, a.commands, a.blocks) = (kept.nodes, kept.commands, kept.blocks);
+        Refused::check(kept.refusal)
+    }
+
+    /// The image of the script. A script that was read is never refused.
+    pub fn write(&self) -> Result<Vec<u8>, Refused> {
+        // A node takes 6 bytes at most, a command 3 and a block 8, besides the count of blocks.
+        let a = &self.arrays;
+        let most =
+            6 * usize::from(a.nodes) + 3 * usize::from(a.commands) + 8 * usize::from(a.blocks) + 3;
+        let mut image = vec![0; most];
+        let len = self.write_into(&mut image)?;
+        image.truncate(len);
+        Ok(image)
+    }
+
+    /// Writes the image into a slice and says how long it is. A slice that is too short is refusal
+    /// 16 and stays as it was; so do the bytes past the image.
+    pub fn write_into(&self, out: &mut [u8]) -> Result<usize, Refused> {
+        let a = &self.arrays;
+        // SAFETY: as in `read_again`.
+        let written = unsafe {
+            ffi::lk_write(
+                &*a.ws,
+                &*a.val,
+                &*a.cw,
+                &*a.bw,
+                a.nodes,
+                a.commands,
+                a.blocks,
+                out.as_mut_ptr(),
+                out.len(),
+            )
+        };
+        Refused::check(written.refusal).map(|()| written.len)
+    }
+
+    /// Runs the script from a block on, entering at most `budget` blocks, and writes the save's
+    /// variables.
+    ///
+    /// ```
+    /// use locustkeno::{Item, Refused, Save, Script, Sheet};
+    /// let sheet = Sheet::new(&[None; 3], 0, [Item(0), Item(1), Item(2)]);
+    /// // Variable 600 := 2, then Return.
+    /// let script = Script::read(&[1, 1, 2, 2, 0, 0x0B, 0xB0, 0x09, 0x0B, 4, 0, 0, 0])?;
+    /// let mut save = Save::new(&sheet);
+    /// let ran = script.run(&sheet, 0, &mut save, 100);
+    /// assert_eq!((ran.refusal, ran.entered), (None, 1));
+    /// assert_eq!(save.pair(0), (2, 0));
+    /// let ran = script.run(&sheet, 0, &mut save, 0);
+    /// assert_eq!((ran.refusal, ran.entered), (Some(Refused(15)), 0));
+    /// # Ok::<(), Refused>(())
+    /// ```
+    pub fn run(&self, sheet: &Sheet, start: u32, save: &mut Save, budget: u32) -> Ran {
+        let a = &self.arrays;
+        let [timer5, timer10, timer15] = sheet.timers.map(|item| item.0);
+        // SAFETY: as in `read_again`; only the variables are written.
+        let ran = unsafe {
+            ffi::lk_run(
+                sheet.attached.as_ptr(),
+                sheet.attached.len(),
+                sheet.atcs,
+                timer5,
+                timer10,
+                timer15,
+                &*a.ws,
+                &*a.val,
+                &*a.cw,
+                &*a.bw,
+                a.nodes,
+                a.commands,
+                a.blocks,
+                start,
+                save.items.as_ptr(),
+                save.items.len(),
+                save.atcs.as_ptr(),
+                save.atcs.len(),
+                save.flags.as_ptr(),
+                save.flags.len(),
+                save.times.as_ptr(),
+                save.times.len(),
+                save.variables.as_mut_ptr(),
+                save.variables.len(),
+                budget,
+            )
+        };
+        Ran {
+            refusal: Refused::check(ran.refusal).err(),
+            entered: ran.entered,
+        }
+    }
+
+    /// How many blocks the script has.
+    pub fn blocks(&self) -> usize {
+        self.arrays.blocks.into()
+    }
+
+    /// The script as arrays.
+    pub fn arrays(&self) -> &Arrays {
+        &self.arrays
+    }
+
+    /// A script from arrays, whatever they hold: the calls judge it in the place of refusals 2 to 5.
+    pub fn from_arrays(arrays: Arrays) -> Self {
+        Self { arrays }
+    }
+}
+
+mod shops {
+    use super::Script;
+    use crate::shop::{NUM_SLOTS, ShopArrays};
+    use crate::{Refused, Save, Sheet, Shop, ffi};
+
+    impl Script {
+        /// Compiles a shop and links it at block `setup`. Refused, the script stays as it was.
+        ///
+        /// ```
+        /// use locustkeno::{Item, Refused, Save, Script, Sheet, Shop, Slot};
+        /// let sheet = Sheet::new(&[None; 8], 0, [Item(0), Item(1), Item(2)]);
+        /// let slot = Slot { item: Some(Item(7)), limit: 3, requirements: vec![] };
+        /// let shop = Shop::with_slots([slot]);
+        /// let mut script = Script::read(&[1, 1, 1, 0, 0, 0])?;
+        /// script.compile(&sheet, 0, &shop)?;
+        /// assert_eq!(script.parse(&sheet, 0)?, shop);
+        /// let mut save = Save::new(&sheet);
+        /// script.run(&sheet, 0, &mut save, 100);
+        /// assert_eq!(save.pair(0), (7, 3));
+        /// assert_eq!(script.compile(&sheet, 9_999, &shop), Err(Refused(6)));
+        /// # Ok::<(), Refused>(())
+        /// ```
+        pub fn compile(&mut self, sheet: &Sheet, setup: u32, shop: &Shop) -> Result<(), Refused> {
+            let a = &mut self.arrays;
+            let [timer5, timer10, timer15] = sheet.timers.map(|item| item.0);
+            let shop = ShopArrays::of(shop);
+            // SAFETY: the slice and the arrays are as the library takes them, and none overlaps.
+            let kept = unsafe {
+                ffi::lk_compile(
+                    sheet.attached.as_ptr(),
+                    sheet.attached.len(),
+                    sheet.atcs,
+                    timer5,
+                    timer10,
+                    timer15,
+                    &mut *a.ws,
+                    &mut *a.val,
+                    &mut *a.cw,
+                    &mut *a.bw,
+                    a.nodes,
+                    a.commands,
+                    a.blocks,
+                    setup,
+                    &shop.items,
+                    &shop.limits,
+                    &shop.codes,
+                    &shop.lens,
+                )
+            };
+            (a.nodes, a.commands, a.blocks) = (kept.nodes, kept.commands, kept.blocks);
+            Refused::check(kept.refusal)
+        }
+
+        /// Reads the shop that starts at block `setup`. Requirements come out sorted, each once.
+        pub fn parse(&self, sheet: &Sheet, setup: u32) -> Result<Shop, Refused> {
+            let a = &self.arrays;
+            let [timer5, timer10, timer15] = sheet.timers.map(|item| item.0);
+            let mut shop = ShopArrays::new();
+            // SAFETY: as in `compile`.
+            let refusal = unsafe {
+                ffi::lk_parse(
+                    sheet.attached.as_ptr(),
+                    sheet.attached.len(),
+                    sheet.atcs,
+                    timer5,
+                    timer10,
+                    timer15,
+                    &*a.ws,
+                    &*a.val,
+                    &*a.cw,
+                    &*a.bw,
+                    a.nodes,
+                    a.commands,
+                    a.blocks,
+                    setup,
+                    &mut shop.items,
+                    &mut shop.limits,
+                    &mut shop.codes,
+                    &mut shop.lens,
+                )
+            };
+            Refused::check(refusal).map(|()| shop.shop())
+        }
+    }
+
+    /// What a shop means for a save: the pair of each slot, and what variable 0 ends as.
+    #[derive(Debug, Copy, Clone, PartialEq, Eq)]
+    pub struct Preview {
+        pub pairs: [(i32, i32); NUM_SLOTS],
+        pub variable0: i32,
+    }
+
+    impl Shop {
+        /// What the shop means for a save, with refusals 1, 8 and 12.
+        pub fn preview(&self, sheet: &Sheet, save: &Save) -> Result<Preview, Refused> {
+            let [timer5, timer10, timer15] = sheet.timers.map(|item| item.0);
+            let shop = ShopArrays::of(self);
+            // SAFETY: nothing is written.
+            let seen = unsafe {
+                ffi::lk_preview(
+                    sheet.attached.as_ptr(),
+                    sheet.attached.len(),
+                    sheet.atcs,
+                    timer5,
+                    timer10,
+                    timer15,
+                    &shop.items,
+                    &shop.limits,
+                    &shop.codes,
+                    &shop.lens,
+                    save.items.as_ptr(),
+                    save.items.len(),
+                    save.atcs.as_ptr(),
+                    save.atcs.len(),
+                    save.flags.as_ptr(),
+                    save.flags.len(),
+                    save.times.as_ptr(),
+                    save.times.len(),
+                    save.variables.as_ptr(),
+                    save.variables.len(),
+                )
+            };
+            Refused::check(seen.refusal)?;
+            Ok(Preview {
+                pairs: std::array::from_fn(|i| (seen.items[i], seen.counts[i])),
+                variable0: seen.temp,
+            })
+        }
+    }
+}
+
+pub use shops::Preview;
