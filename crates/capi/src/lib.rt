@@ -61,6 +61,17 @@ pub struct Ran {
     pub entered: u32,
 }
 
+fn sheet_by(atcs: u16, timer5: u16, timer10: u16, timer15: u16) -> Sheet
+    ensures { λ r. ⌜ r ≡ sheetBy atcs timer5 timer10 timer15 ⌝ }
+{
+    Sheet {
+        atcs: atcs,
+        timer5: ItemId(timer5),
+        timer10: ItemId(timer10),
+        timer15: ItemId(timer15),
+    }
+}
+
 // The script of an image. A refused read hands out nothing: the arrays are zero then.
 #[no_mangle]
 pub extern "C" fn lk_read(
@@ -140,12 +151,7 @@ pub extern "C" fn lk_run(
 ) -> Ran
     ensures { λ r. ⌜ ranAs r (now (vars .exit)) ≡ runIn (sheetOf (now (attached .entry)) (sheetBy atcs timer5 timer10 timer15)) (memoryIn (now (ws .entry)) (now (val .entry)) (now (cw .entry)) (now (bw .entry)) nodes commands blocks) start (saveOf (now (items .entry)) (now (held .entry)) (now (flags .entry)) (now (times .entry)) (now (vars .entry))) budget ⌝ }
 {
-    let sheet = Sheet {
-        atcs: atcs,
-        timer5: ItemId(timer5),
-        timer10: ItemId(timer10),
-        timer15: ItemId(timer15),
-    };
+    let sheet = sheet_by(atcs, timer5, timer10, timer15);
     let counts = Counts {
         nodes: nodes,
         commands: commands,
@@ -196,12 +202,7 @@ pub extern "C" fn lk_compile(
 ) -> Kept
     ensures { λ r. ⌜ CompiledAs (sheetOf (now (attached .entry)) (sheetBy atcs timer5 timer10 timer15)) (memoryIn (now (ws .entry)) (now (val .entry)) (now (cw .entry)) (now (bw .entry)) nodes commands blocks) (callOf setup (shopFrom (arraysIn (now (items .entry)) (now (limits .entry)) (now (codes .entry)) (now (lens .entry))))) (r .refusal) (memoryIn (now (ws .exit)) (now (val .exit)) (now (cw .exit)) (now (bw .exit)) (r .nodes) (r .commands) (r .blocks)) ⌝ }
 {
-    let sheet = Sheet {
-        atcs: atcs,
-        timer5: ItemId(timer5),
-        timer10: ItemId(timer10),
-        timer15: ItemId(timer15),
-    };
+    let sheet = sheet_by(atcs, timer5, timer10, timer15);
     let counts = Counts {
         nodes: nodes,
         commands: commands,
@@ -251,12 +252,7 @@ pub extern "C" fn lk_parse(
 ) -> u8
     ensures { λ r. ⌜ (r ≡ answerOf (parseIn (sheetOf (now (attached .entry)) (sheetBy atcs timer5 timer10 timer15)) (memoryIn (now (ws .entry)) (now (val .entry)) (now (cw .entry)) (now (bw .entry)) nodes commands blocks) setup) .refusal) × (arraysIn (now (items .exit)) (now (limits .exit)) (now (codes .exit)) (now (lens .exit)) ≡ arraysOf (answerOf (parseIn (sheetOf (now (attached .entry)) (sheetBy atcs timer5 timer10 timer15)) (memoryIn (now (ws .entry)) (now (val .entry)) (now (cw .entry)) (now (bw .entry)) nodes commands blocks) setup) .shop)) ⌝ }
 {
-    let sheet = Sheet {
-        atcs: atcs,
-        timer5: ItemId(timer5),
-        timer10: ItemId(timer10),
-        timer15: ItemId(timer15),
-    };
+    let sheet = sheet_by(atcs, timer5, timer10, timer15);
     let counts = Counts {
         nodes: nodes,
         commands: commands,
@@ -288,12 +284,7 @@ pub extern "C" fn lk_preview(
 ) -> Previewed
     ensures { λ r. ⌜ previewedAs r ≡ previewedOf (previewCall (sheetOf (now (attached .entry)) (sheetBy atcs timer5 timer10 timer15)) (slotsOf (shopFrom (arraysIn (now (items .entry)) (now (limits .entry)) (now (codes .entry)) (now (lens .entry))))) (saveOf (now (counts .entry)) (now (held .entry)) (now (flags .entry)) (now (times .entry)) (now (vars .entry)))) ⌝ }
 {
-    let sheet = Sheet {
-        atcs: atcs,
-        timer5: ItemId(timer5),
-        timer10: ItemId(timer10),
-        timer15: ItemId(timer15),
-    };
+    let sheet = sheet_by(atcs, timer5, timer10, timer15);
     let shop = shop_from(items, limits, codes, lens);
     let r = preview(attached, sheet, shop, counts, held, flags, times, vars);
     let pair_items = r.items;

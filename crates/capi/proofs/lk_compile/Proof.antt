@@ -3,6 +3,9 @@ use borrow.Author.Needs.{needs}
 use Rattle.capi.proofs.lk_compile.Statement.{statement}
 use Rattle.capi.proofs.lk_compile.Tie as tie
 
+sheet-by-requires : tie.Need-sheet-by-requires
+sheet-by-requires c κs = search needs
+
 shop-from-requires : tie.Need-shop-from-requires
 shop-from-requires c κs = search needs
 
@@ -10,7 +13,7 @@ compile-requires : tie.Need-compile-requires
 compile-requires c κs = search needs
 
 returns : tie.Need-returns
-returns c = rw (c .before .before .before .before .before .before .shop-from .ensures) at (c .before .compile .ensures)
+returns c = rw (c .before .before .before .before .before .before .before .sheet-by .ensures, c .before .before .before .before .before .before .shop-from .ensures) at (c .before .compile .ensures)
 
 pub lk-compile-spec : {M : Type 1} → statement M
-lk-compile-spec = tie.close (tie.spec shop-from-requires compile-requires returns)
+lk-compile-spec = tie.close (tie.spec sheet-by-requires shop-from-requires compile-requires returns)

@@ -6,6 +6,9 @@ use borrow.Author.Needs.{needs}
 use Rattle.capi.proofs.lk_parse.Statement.{statement}
 use Rattle.capi.proofs.lk_parse.Tie as tie
 
+sheet-by-requires : tie.Need-sheet-by-requires
+sheet-by-requires c κs = search needs
+
 parse-requires : tie.Need-parse-requires
 parse-requires c κs = search needs
 
@@ -13,7 +16,9 @@ shop-to-requires : tie.Need-shop-to-requires
 shop-to-requires c κs = search needs
 
 returns : tie.Need-returns
-returns c = (ap (λ (p : ParsedShop). p .refusal) (c .before .before .before .before .before .before .parse .ensures .is), c .shop-to .ensures ∙ ap (λ (p : ParsedShop). arraysOf (p .shop)) (c .before .before .before .before .before .before .parse .ensures .is))
+returns c =
+    let p = rw (c .before .before .before .before .before .before .before .sheet-by .ensures) at (c .before .before .before .before .before .before .parse .ensures .is) in
+    (ap (λ (r : ParsedShop). r .refusal) p, c .shop-to .ensures ∙ ap (λ (r : ParsedShop). arraysOf (r .shop)) p)
 
 pub lk-parse-spec : {M : Type 1} → statement M
-lk-parse-spec = tie.close (tie.spec parse-requires shop-to-requires returns)
+lk-parse-spec = tie.close (tie.spec sheet-by-requires parse-requires shop-to-requires returns)
