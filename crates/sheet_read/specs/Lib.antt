@@ -3,4 +3,3 @@ pub mod Told
 pub mod Steps
 pub mod Whole
 pub mod Checked
-pub mod Input

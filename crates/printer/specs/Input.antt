@@ -3,7 +3,7 @@ use mathlib.Core.Path.{_≡_, refl, sym, ap, _∙_, subst}
 use mathlib.Core.List.{List, []}
 use Prim.Native.Nat.{ℕ, _≤_, _<_}
 use borrow.Author.Tests.{le-leb, lt-leb}
-use lib.ListN.{length}
+use lib.ListN.{length, drop}
 use native.Mathlib.Omega.{arith}
 use lib.IntN.{ℤ}
 use Rattle.model.specs.Limits.{commandLimit, nodeLimit, inputLimit}
@@ -24,11 +24,13 @@ use Rattle.memory.specs.Sound.{Long}
 use Rattle.memory.specs.RecordLaws.{judged-sound}
 use Rattle.memory.specs.declared.Counts.{Counts}
 use Rattle.image_read.specs.Outcome.{outcome, readInto}
-use Rattle.image_read.specs.Caller.{was-accepted}
-use Rattle.image_read.specs.declared.Image.the-variants.{Read}
+use Rattle.image_read.specs.Caller.{was-accepted, was-refused}
+use Rattle.image_read.specs.declared.Image.{Image}
+use Rattle.image_read.specs.declared.Image.the-variants.{Read, No}
 use Rattle.model.specs.Printer.{refusedText, parsedText, inputText, slots}
-use Rattle.sheet_read.specs.Outcome.{Head, readHead}
+use Rattle.sheet_read.specs.declared.Heading.{Heading}
+use Rattle.sheet_read.specs.Outcome.{Head, headOf, readHead}
 use Rattle.sheet_read.specs.Whole.{withBlocks, read-input}
 use Rattle.engine.specs.Files.{Empty, read-judged}
 
 -- the kept counts of what was read are those of its blocks
@@ -94,3 +96,22 @@ module _ (s : List ℕ) where
       pub slots-parsed : (bs : List Block) (u : List ℕ) → readImage r ≡ got bs u → slots s ≡ parsedText (parseCall (h .sheet) (counted bs) (h .setup))
       unfolding inputText
       slots-parsed bs u q = slots-input ∙ rw (p, q)
+
+-- ---- .. by what the reader answered
+
+-- an input within the limit whose heading was read; the items' atcs stand in the array
+pub record Headed (s : List ℕ) (h : Heading) (ks : List ℕ) : Type 0 where
+  pub short : length s ≤ inputLimit
+  pub lent : h .items ≤ length ks
+  pub read : readHead s ≡ got (headOf h ks) (drop (h .at) s)
+
+module _ (s : List ℕ) (h : Heading) (ks : List ℕ) (d : Headed s h ks) where
+  module _ (ws : List ℕ) (vs : List ℤ) (cw bw : List ℕ) (ws′ : List ℕ) (vs′ : List ℤ) (cw′ bw′ : List ℕ) (a : Image) (p : outcome a ws′ vs′ cw′ bw′ ≡ readInto (memoryIn ws vs cw bw 0 0 0) (readImage (drop (h .at) s))) where
+    pub image-parsed : Long (memoryIn ws vs cw bw 0 0 0) → (k : Counts) → a ≡ Read k
+        → parsedText (parseIn (headOf h ks .sheet) (memoryIn ws′ vs′ cw′ bw′ (k .nodes) (k .commands) (k .blocks)) (h .setup)) ≡ slots s
+    image-parsed long k e =
+        let z = read-stands ws vs cw bw long ws′ vs′ cw′ bw′ (drop (h .at) s) k (rw e at p) in
+        ap parsedText (z .parses (headOf h ks .sheet) (h .setup)) ∙ sym (slots-parsed s (d .short) (headOf h ks) (drop (h .at) s) (d .read) (z .blocks) (z .rest) (z .read))
+
+    pub image-no : (e : ℕ) → a ≡ No e → refusedText e ≡ slots s
+    image-no e q = sym (slots-image-no s (d .short) (headOf h ks) (drop (h .at) s) (d .read) e (was-refused ws vs cw bw ws′ vs′ cw′ bw′ (readImage (drop (h .at) s)) e (rw q at p) .0))
