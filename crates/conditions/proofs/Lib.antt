@@ -1,3 +1,2 @@
-pub mod Numbers
-pub mod Words
-pub mod Sweeps
+-- What the proofs of several functions use.
+mod Sweeps

@@ -1,28 +1,27 @@
--- The loops over entries and codes: what is in the set so far, and that a set only grows. Assumes nothing.
+-- The loop over the entries: what is in the set so far, and that a set only grows. Assumes nothing.
 use mathlib.Core.Path.{_≡_, refl, sym, ap, _∙_}
 use mathlib.Core.Bool.{Bool, true, false, not, cond, _&&_}
-use mathlib.Core.List.{List, [], _∷_, _++_}
+use mathlib.Core.List.{List, []}
 use Prim.Native.Nat.{ℕ, zero, suc, _+_, _*_, _-_, _/_, _%_, _≤_, _<_}
 use native.Mathlib.Numerals.{add-one}
 use native.Mathlib.Nat.{zero-add, suc-add, sub-add-cancel}
 use native.Mathlib.Omega.{arith}
-use lib.Dec.{leb, eqb}
-use lib.ListN.{getD, length, take, drop, replicate, take-append-drop, List·getD-append}
-use lib.Seq.{take-suc, take-all, take-length}
+use lib.Dec.{leb}
+use lib.ListN.{getD, length}
 use lib.IntN.{ℤ, pos, negsuc}
 use lib.Signed.{mag}
-use borrow.Author.Tests.{le-leb, lt-leb, leb-true, leb-false, eq-eqb, ne-eqb}
+use borrow.Author.Tests.{le-leb, lt-leb, leb-true, leb-false}
 use Rattle.model.specs.Limits.{wide, entryLimit}
 use Rattle.model.specs.Requirement.{Requirement, haveItem, missingItem, haveAtc, missingAtc, haveFlag, missingFlag, kind, number}
 use Rattle.shop.specs.Shapes.{shift, codeOf, requirementOf}
 use Rattle.shop.specs.Sets.{insertCode, held, added, reqsOf, noReqs}
-use Rattle.shop.specs.SetLaws.{insert-more, insert-set, held-set}
+use Rattle.shop.specs.SetLaws.{insert-more, insert-set}
 use Rattle.shop.specs.Codes.{Narrow, code-narrow}
 use Rattle.shop.specs.declared.Reqs.{Reqs}
 use Rattle.shop.specs.declared.Added.{Added}
-use Rattle.conditions.specs.Entries.{turned, entryCode, Valid, Keys}
-use Rattle.conditions.specs.Turns.{turn-valid}
-use Rattle.conditions.specs.Sweep.{survives, sweepTo, joinCodes, asSet}
+use Rattle.keys.specs.Entries.{turned, entryCode, Valid, Keys}
+use Rattle.keys.specs.Turns.{turn-valid}
+use Rattle.conditions.specs.Sweep.{survives, sweepTo, asSet}
 
 true≢false : true ≡ false → ⊥
 true≢false e = let z : _≡_ {A = ℕ} 0 1 = cc in omega arith
@@ -116,6 +115,15 @@ pub set-many : (l : List ℕ) (a : Added) → 32 < length l → a ≡ record { o
 unfolding asSet
 set-many l a h e = rw (lt-leb (length l) entryLimit h) e
 
+-- the refusal of a 33rd has an empty set
+pub set-most : (l : List ℕ) (a : Added) → a ≡ asSet l → a .reqs .len ≤ entryLimit
+unfolding asSet reqsOf
+set-most l a e = by (leb (length l) entryLimit) refl e
+  where
+    by : (t : Bool) → leb (length l) entryLimit ≡ t → a ≡ cond t (record { ok = true; reqs = reqsOf l }) (record { ok = false; reqs = reqsOf [] }) → a .reqs .len ≤ entryLimit
+    by true p f = let k : a .reqs .len ≡ length l = ap (λ (x : Added). x .reqs .len) f in let m = leb-true (length l) entryLimit p in omega arith
+    by false p f = let k : a .reqs .len ≡ 0 = ap (λ (x : Added). x .reqs .len) f in omega arith
+
 -- ---- the sweep
 
 module _ (ks : List ℕ) (s : List Bool) where
@@ -177,96 +185,3 @@ module _ (ks : List ℕ) (s : List Bool) (m : ℕ) where
 
     pub entry-at : (k : ℕ) → k ≡ turned true (j + 2) → Valid m k
     entry-at k e = rw e (turn-valid m (j + 2) true (record { low = omega arith; high = omega arith }))
-
--- ---- joining
-
-join-snoc : (xs : List ℕ) (x : ℕ) (l : List ℕ) → joinCodes (xs ++ (x ∷ [])) l ≡ insertCode x (joinCodes xs l)
-unfolding joinCodes
-join-snoc [] x l = refl
-join-snoc (y ∷ ys) x l = join-snoc ys x (insertCode y l)
-
-pub join-more : (xs l : List ℕ) → length l ≤ length (joinCodes xs l)
-unfolding joinCodes
-join-more [] l = omega arith
-join-more (x ∷ xs) l = omega (arith, insert-more x l .0, join-more xs (insertCode x l))
-
-join-next : (a b : List ℕ) (i : ℕ) → i < length a → joinCodes (take (i + 1) a) b ≡ insertCode (getD a i 0) (joinCodes (take i a) b)
-join-next a b i h = rw (add-one i, take-suc a i 0 h) (join-snoc (take i a) (getD a i 0) b)
-
-join-all : (a b : List ℕ) (i : ℕ) → length a ≤ i → joinCodes (take i a) b ≡ joinCodes a b
-join-all a b i h = ap (λ t. joinCodes t b) (take-all i a h)
-
-join-append : (xs ys l : List ℕ) → joinCodes (xs ++ ys) l ≡ joinCodes ys (joinCodes xs l)
-unfolding joinCodes
-join-append [] ys l = refl
-join-append (x ∷ xs) ys l = join-append xs ys (insertCode x l)
-
-join-rest : (a b : List ℕ) (i : ℕ) → length (joinCodes (take i a) b) ≤ length (joinCodes a b)
-join-rest a b i =
-    let e : joinCodes (drop i a) (joinCodes (take i a) b) ≡ joinCodes a b = sym (join-append (take i a) (drop i a) b) ∙ ap (λ t. joinCodes t b) (take-append-drop i a) in
-    rw (← e) (join-more (drop i a) (joinCodes (take i a) b))
-
-pub record Joining (a b : List ℕ) (at : Reqs) (i : ℕ) : Type 0 where
-  pub few : length (joinCodes (take i a) b) ≤ 32
-  pub is : at ≡ reqsOf (joinCodes (take i a) b)
-
-pub joining-start : (a b : List ℕ) (t : Reqs) → t ≡ reqsOf b → length b ≤ 32 → Joining a b t 0
-unfolding joinCodes
-joining-start a b t e h = record { few = h; is = e }
-
--- what a set's value holds
-set-len : (a : List ℕ) (s : Reqs) → s ≡ reqsOf a → s .len ≡ length a
-unfolding reqsOf
-set-len a s e = ap (λ (r : Reqs). r .len) e
-
-set-at : (a : List ℕ) (s : Reqs) (i : ℕ) → s ≡ reqsOf a → i < length a → getD (s .codes) i 0 ≡ getD a i 0
-unfolding reqsOf
-set-at a s i e h = ap (λ (r : Reqs). getD (r .codes) i 0) e ∙ List·getD-append a (replicate (entryLimit - length a) 0) 0 i h
-
-module _ (a b : List ℕ) (s at : Reqs) (i : ℕ) (e : s ≡ reqsOf a) (j : Joining a b at i) where
-  pub joining-end : s .len ≤ i → _≡_ {A = Added} (record { ok = true; reqs = at }) (asSet (joinCodes a b))
-  joining-end h =
-      let l : length a ≤ i = omega (arith, set-len a s e) in
-      rw (← join-all a b i l) (set-few (joinCodes (take i a) b) at (j .few) (j .is))
-
-  module _ (r : Added) (lt : i < s .len) (v : r ≡ added (insertCode (getD (s .codes) i 0) (held at)) at) where
-    low : i < length a
-    low = omega (arith, set-len a s e)
-
-    joined : joinCodes (take (i + 1) a) b ≡ insertCode (getD (s .codes) i 0) (joinCodes (take i a) b)
-    joined = join-next a b i low ∙ rw (set-at a s i e low)
-
-    pub joining-on : r .ok ≡ true → Joining a b (r .reqs) (i + 1)
-    joining-on o = record {
-      few = rw joined (put-few (getD (s .codes) i 0) (joinCodes (take i a) b) at r (j .is) v o);
-      is = rw joined (put-is (getD (s .codes) i 0) (joinCodes (take i a) b) at r (j .is) v o);
-    }
-
-    pub joining-many : (q : Added) → r .ok ≡ false → q ≡ record { ok = false; reqs = reqsOf [] } → q ≡ asSet (joinCodes a b)
-    joining-many q o z =
-        set-many (joinCodes a b) q
-        (omega (arith, put-many (getD (s .codes) i 0) (joinCodes (take i a) b) at r (j .is) v o, ap length joined, join-rest a b (i + 1))) z
-
-pub join-many : (a b : List ℕ) (t r : Added) → t ≡ asSet b → t .ok ≡ false → r ≡ record { ok = false; reqs = reqsOf [] } → r ≡ asSet (joinCodes a b)
-unfolding asSet
-join-many a b t r e o z = by (leb (length b) entryLimit) refl e
-  where
-    by : (u : Bool) → leb (length b) entryLimit ≡ u → t ≡ cond u (record { ok = true; reqs = reqsOf b }) (record { ok = false; reqs = reqsOf [] }) → r ≡ asSet (joinCodes a b)
-    by true h w = absurd (true≢false (sym (ap (λ (x : Added). x .ok) w) ∙ o))
-    by false h w = set-many (joinCodes a b) r (omega (arith, leb-false (length b) entryLimit h, join-more a b)) z
-
-pub record Of (b : List ℕ) (s : Reqs) : Type 0 where
-  pub few : length b ≤ 32
-  pub is : s ≡ reqsOf b
-
-pub set-of : (b : List ℕ) (t : Added) → t ≡ asSet b → t .ok ≡ true → Of b (t .reqs)
-unfolding asSet
-set-of b t e o = by (leb (length b) entryLimit) refl e
-  where
-    by : (u : Bool) → leb (length b) entryLimit ≡ u → t ≡ cond u (record { ok = true; reqs = reqsOf b }) (record { ok = false; reqs = reqsOf [] }) → Of b (t .reqs)
-    by true h w = record { few = leb-true (length b) entryLimit h; is = ap (λ (x : Added). x .reqs) w }
-    by false h w = absurd (true≢false (sym o ∙ ap (λ (x : Added). x .ok) w))
-
--- the loop over the codes of a set, whatever that set and the other stand for
-abbrev pub JoiningAny : List ℕ → ℕ → Reqs → Reqs → ℕ → Type 0
-JoiningAny cs n t at i = (a b : List ℕ) → _≡_ {A = Reqs} (record { codes = cs; len = n }) (reqsOf a) → t ≡ reqsOf b → length b ≤ 32 → Joining a b at i

@@ -1,50 +1,20 @@
 -- A cell more: the conditions that there were stay, and the new cell's two are the If joined to one of them, plain for next and negated for else. Assumes nothing.
-use mathlib.Core.Path.{_≡_, refl, sym, ap, _∙_}
+use mathlib.Core.Path.{_≡_, refl, _∙_}
 use mathlib.Core.Bool.{Bool, true, false, cond}
-use mathlib.Core.Option.{Option, none, some}
+use mathlib.Core.Option.{none, some}
 use mathlib.Core.List.{List}
-use Prim.Native.Nat.{ℕ, zero, suc, _+_, _*_, _-_, _/_, _%_, _≤_, _<_}
+use Prim.Native.Nat.{ℕ, zero, suc, _+_, _*_, _-_, _%_, _≤_, _<_}
 use native.Mathlib.Omega.{arith}
 use lib.Dec.{leb, eqb}
 use lib.ListN.{getD, set, length, length-set}
 use lib.Seq.{getD-set-same, getD-set-other}
-use borrow.Author.Tests.{eq-eqb, ne-eqb, eqb-true, eqb-false, leb-false}
-use Rattle.model.specs.Expr.{Expr, two, one, imm16, imm32, other, negate}
-use Rattle.model.specs.Sheet.{Sheet, itemCount}
-use Rattle.model.specs.Memory.{Nodes, tree}
-use Rattle.model.specs.Parse.{readReq, value, compareReq, parseRequirement, join}
-use Rattle.model.specs.declared.Op1.{Op1}
-use Rattle.model.specs.declared.Op1.the-variants.{Not, Flag, Variable, Item, Atc, Time}
-use Rattle.model.specs.declared.Op2.{Op2}
+use borrow.Author.Tests.{eq-eqb, ne-eqb, eqb-false, leb-false}
+use Rattle.model.specs.Expr.{two, one, negate}
+use Rattle.model.specs.Memory.{Nodes}
+use Rattle.model.specs.Parse.{join}
 use Rattle.expr.specs.Tree.{treeBelow}
-use Rattle.conditions.specs.Entries.{Keyed}
-use Rattle.conditions.specs.Reads.{sheetBy}
 use Rattle.conditions.specs.Marks.{cellOf, joinedTo, nodeIn, isElse, negatedIf, conditionTo, conditionOf}
 use Rattle.conditions.specs.Chains.{condition-at}
-use lib.ListN.{length-replicate}
-use lib.IntN.{ℤ}
-
--- ---- a reading asks only how many items and atcs there are
-
-read-by : (h : Sheet) (o : Op1) (z : Option ℤ) → readReq (sheetBy (itemCount h) (h .atcCount)) o z ≡ readReq h o z
-read-by h Not z = refl
-read-by h Flag z = refl
-read-by h Variable z = refl
-read-by h Item z = simp length-replicate
-read-by h Atc z = refl
-read-by h Time z = refl
-
-parse-by : (h : Sheet) (e : Expr) → parseRequirement (sheetBy (itemCount h) (h .atcCount)) e ≡ parseRequirement h e
-parse-by h (two o a b) = ap (λ r. compareReq o r (value b)) (parse-by h a)
-parse-by h (one o a) = read-by h o (value a)
-parse-by h (imm16 z) = refl
-parse-by h (imm32 z) = refl
-parse-by h other = refl
-
-pub keyed-for : (h : Sheet) (ns : Nodes) (n : ℕ) (ks ls : List ℕ) (m : ℕ) → Keyed (sheetBy (itemCount h) (h .atcCount)) ns n ks ls m → Keyed h ns n ks ls m
-keyed-for h ns n ks ls m k = record { keys = k .keys; most = k .most; leaf = λ i l. rw (← parse-by h (tree ns i)) (k .leaf i l) }
-
--- ---- cells
 
 -- the words of the cells below j are the same
 abbrev pub SameCells : ℕ → List ℕ → List ℕ → Type 0

@@ -3,11 +3,9 @@ use mathlib.Core.Path.{_≡_, refl, sym, ap, _∙_}
 use mathlib.Core.Bool.{Bool, true, false, not, cond, _||_}
 use mathlib.Core.Option.{Option, none, some}
 use mathlib.Core.List.{List}
-use Prim.Native.Nat.{ℕ, zero, suc, _+_, _*_, _-_, _/_, _%_, _≤_, _<_}
+use Prim.Native.Nat.{ℕ, zero, suc, _+_, _-_, _≤_, _<_}
 use native.Mathlib.Omega.{arith}
 use native.Mathlib.Nat.{zero-add, suc-add}
-use lib.ListN.{getD, set, length}
-use lib.Seq.{getD-set-same, getD-set-other}
 use lib.Dec.{leb, eqb}
 use lib.IntN.{ℤ}
 use borrow.Author.Tests.{le-leb, lt-leb, leb-false, eq-eqb, ne-eqb}
@@ -21,9 +19,8 @@ use Rattle.model.specs.declared.Op2.the-variants.{Equal, NotEqual, Less, LessEq
 use Rattle.model.specs.declared.Op1.the-variants.{Not, Flag, Variable, Item, Atc, Time}
 use Rattle.model.specs.Laws.Sets.{member-insert}
 use Rattle.expr.specs.Tree.{treeBelow}
-use Rattle.conditions.specs.Entries.{Keyed}
-use Rattle.conditions.specs.Turns.{neg-neg}
-use Rattle.conditions.specs.Marks.{isReq, among, amongAll, Stands, Gathers, ofNode, cellOf, joinedTo, nodeIn, isElse, negatedIf, conditionTo, conditionOf, ofChain}
+use Rattle.expr.specs.Requirement.{negate-twice}
+use Rattle.conditions.specs.Marks.{isReq, among, amongAll, Gathers, ofNode, joinedTo, nodeIn, isElse, negatedIf, conditionTo, conditionOf, ofChain}
 use Rattle.conditions.specs.MarkLaws.{stands-same}
 
 -- ---- negation is the other sign
@@ -33,7 +30,7 @@ not-not true = refl
 not-not false = refl
 
 sign-req : (q r : Requirement) (n : Bool) → sameReq q (signed n (negateReq r)) ≡ sameReq q (signed (not n) r)
-sign-req q r true = ap (sameReq q) (neg-neg r)
+sign-req q r true = ap (sameReq q) (negate-twice r)
 sign-req q r false = refl
 
 if-neg : (q : Requirement) (n : Bool) (z : Option ℤ) (o : Option Requirement) → isReq q n (ifZero z (mapReq negateReq o)) ≡ isReq q (not n) (ifZero z o)

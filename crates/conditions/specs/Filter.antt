@@ -1,20 +1,20 @@
--- The sweep over the marks is the filter of the definitions, and what it leaves joins a slot's set. Assumes nothing.
+-- The sweep over the marks is the filter of the definitions. Assumes nothing.
 use mathlib.Core.Path.{_≡_, refl, sym, ap, _∙_}
 use mathlib.Core.Bool.{Bool, true, false, not, cond, _&&_, _||_}
 use mathlib.Core.Option.{Option, none, some}
 use mathlib.Core.List.{List, [], _∷_, map}
-use Prim.Native.Nat.{ℕ, zero, suc, _+_, _*_, _-_, _/_, _%_, _≤_, _<_}
+use Prim.Native.Nat.{ℕ, zero, suc, _+_, _*_, _-_, _/_, _≤_, _<_}
 use native.Mathlib.Omega.{arith}
 use native.Mathlib.Decide.{ℕ-discrete}
-use lib.ListN.{getD, length, replicate, length-replicate, getD-replicate, List·getD-eq-default}
-use lib.Dec.{leb, ltb}
+use lib.ListN.{getD, replicate, length-replicate, getD-replicate, List·getD-eq-default}
+use lib.Dec.{ltb}
 use lib.IntN.{ℤ}
-use borrow.Author.Tests.{le-leb, lt-leb, leb-false, ltb-true, ltb-false}
-use Rattle.model.specs.Limits.{wide, entryLimit}
+use borrow.Author.Tests.{ltb-true, ltb-false}
+use Rattle.model.specs.Limits.{wide}
 use Rattle.model.specs.Expr.{Expr}
 use Rattle.model.specs.Requirement.{Requirement, haveItem, missingItem, haveAtc, missingAtc, haveFlag, missingFlag, sameReq, negateReq, insert, member, keep, settled, extend}
 use Rattle.model.specs.Sheet.{Sheet}
-use Rattle.model.specs.Memory.{Nodes, nodesIn}
+use Rattle.model.specs.Memory.{nodesIn}
 use Rattle.model.specs.Parse.{gather, parseRequirements}
 use Rattle.model.specs.Laws.Sets.{same-refl, Sorted, insert-sorted, member-insert, member-keep, ext}
 use Rattle.model.specs.Laws.Runs.{sameReq-true}
@@ -22,12 +22,13 @@ use Rattle.shop.specs.Shapes.{codeOf, requirementOf}
 use Rattle.shop.specs.Sets.{insertCode}
 use Rattle.shop.specs.declared.Added.{Added}
 use Rattle.shop.specs.Codes.{Narrow, AllNarrow, insert-code, insert-narrow, code-narrow}
-use Rattle.conditions.specs.Entries.{isHave, turned, entryCode, entryReq, Valid, Stand, Keys, Keyed}
-use Rattle.conditions.specs.Turns.{neg-neg, by-parity, req-even, req-odd, turn-req, turn-valid}
-use Rattle.conditions.specs.Marks.{among, amongAll, Has, Stands, Gathers, conditionOf, ofChain}
+use Rattle.expr.specs.Requirement.{negate-twice}
+use Rattle.keys.specs.Entries.{isHave, turned, entryCode, entryReq, Valid, Keys, Keyed}
+use Rattle.keys.specs.Turns.{by-parity, req-even, req-odd, turn-req, turn-valid}
+use Rattle.conditions.specs.Marks.{amongAll, Has, Stands, Gathers, conditionOf, ofChain}
 use Rattle.conditions.specs.MarkLaws.{stands-same}
 use Rattle.conditions.specs.Chains.{mem-gather}
-use Rattle.conditions.specs.Sweep.{survives, sweepTo, joinCodes, asSet, Negated}
+use Rattle.conditions.specs.Sweep.{survives, sweepTo, asSet, Negated}
 
 true≢false : true ≡ false → ⊥
 true≢false e = let z : _≡_ {A = ℕ} 0 1 = cc in omega arith
@@ -49,18 +50,14 @@ and-right false b e = absurd (true≢false (sym e))
 and-both : (a b : Bool) → a ≡ true → b ≡ true → a && b ≡ true
 and-both a b e f = rw (e, f)
 
-not-yes : (a : Bool) → not a ≡ true → a ≡ false
-not-yes true e = absurd (true≢false (sym e))
-not-yes false e = refl
-
 -- ---- negated requirements
 
 neg-eq : (a b : Requirement) → negateReq a ≡ b → a ≡ negateReq b
-neg-eq a b e = sym (neg-neg a) ∙ ap negateReq e
+neg-eq a b e = sym (negate-twice a) ∙ ap negateReq e
 
 same-move : (a b : Requirement) → sameReq a (negateReq b) ≡ sameReq (negateReq a) b
 same-move a b = both-ways (sameReq a (negateReq b)) (sameReq (negateReq a) b)
-    (λ e. let p : a ≡ negateReq b = sameReq-true a (negateReq b) e in rw (p, neg-neg b) (same-refl b))
+    (λ e. let p : a ≡ negateReq b = sameReq-true a (negateReq b) e in rw (p, negate-twice b) (same-refl b))
     (λ e. let p : a ≡ negateReq b = neg-eq a b (sameReq-true (negateReq a) b e) in rw p (same-refl (negateReq b)))
 
 neg-code : (r : Requirement) → isHave r ≡ true → codeOf (negateReq r) ≡ codeOf r + wide
@@ -182,7 +179,7 @@ module _ (ks : List ℕ) (m : ℕ) (s : List Bool) (gs : List Requirement) (st :
       by : survives s (j + 2) && sameReq q (entryReq ks (turned true (j + 2))) ≡ true → not (member q gs) && member (negateReq q) gs ≡ true
       by f =
           let p : q ≡ negateReq (entryReq ks (j + 2)) = sameReq-true q (entryReq ks (turned true (j + 2))) (and-right (survives s (j + 2)) (sameReq q (entryReq ks (turned true (j + 2)))) f) ∙ turn-req ks (j + 2) in
-          let r : negateReq q ≡ entryReq ks (j + 2) = ap negateReq p ∙ neg-neg (entryReq ks (j + 2)) in
+          let r : negateReq q ≡ entryReq ks (j + 2) = ap negateReq p ∙ negate-twice (entryReq ks (j + 2)) in
           let w : member (entryReq ks (j + 2)) gs && not (member (negateReq (entryReq ks (j + 2))) gs) ≡ true = sym (survives-is (j + 2) v) ∙ and-left (survives s (j + 2)) (sameReq q (entryReq ks (turned true (j + 2)))) f in
           rw (r, p)
           (and-both (not (member (negateReq (entryReq ks (j + 2))) gs)) (member (entryReq ks (j + 2)) gs)
@@ -214,14 +211,14 @@ module _ (ks : List ℕ) (m : ℕ) (s : List Bool) (gs : List Requirement) (st :
       let h = st .all (negateReq q) a in
       let k : ℕ = h .at in
       let v = h .stand .valid in
-      let f : q ≡ negateReq (entryReq ks k) = sym (neg-neg q) ∙ ap negateReq (sym (h .stand .is)) in
+      let f : q ≡ negateReq (entryReq ks k) = sym (negate-twice q) ∙ ap negateReq (sym (h .stand .is)) in
       let w : survives s k ≡ true = survives-is k v ∙ rw (← f, h .stand .is) (and-both (member (negateReq q) gs) (not (member q gs)) a b) in
       let z : k - 2 + 2 ≡ k = omega (arith, v .low) in
       found q (k - 2) (2 * m) (omega (arith, v .high, v .low)) (rw z w) (rw z (f ∙ sym (turn-req ks k)))
 
   adds-is : (q : Requirement) → adds ks s (2 * m) q ≡ member (negateReq q) (settled gs)
   adds-is q = both-ways (adds ks s (2 * m) q) (not (member q gs) && member (negateReq q) gs) (added q (2 * m) (omega arith)) (settles q)
-      ∙ sym (settled-member (negateReq q) gs ∙ rw (neg-neg q))
+      ∙ sym (settled-member (negateReq q) gs ∙ rw (negate-twice q))
 
 extend-member : (q : Requirement) (xs rs : List Requirement) → member q (extend rs xs) ≡ member (negateReq q) xs || member q rs
 unfolding member
@@ -241,10 +238,6 @@ pub extend-sorted : (xs rs : List Requirement) → Sorted rs → Sorted (extend 
 extend-sorted [] rs s = s
 extend-sorted (x ∷ xs) rs s = extend-sorted xs (insert (negateReq x) rs) (insert-sorted (negateReq x) rs s)
 
-pub extend-narrow : (xs rs : List Requirement) → AllNarrow xs → AllNarrow rs → AllNarrow (extend rs xs)
-extend-narrow [] rs a b = b
-extend-narrow (x ∷ xs) rs a b = extend-narrow xs (insert (negateReq x) rs) (a .1) (insert-narrow (negateReq x) rs (neg-narrow x (a .0)) b)
-
 -- the sweep over all entries
 pub sweep-is : (ks : List ℕ) (m : ℕ) (s : List Bool) (gs rs : List Requirement) → Keys ks m → Stands ks m s (λ q. member q gs) → Sorted rs → AllNarrow rs
     → sweepTo ks s (2 * m) (map codeOf rs) ≡ map codeOf (extend rs (settled gs))
@@ -253,50 +246,6 @@ sweep-is ks m s gs rs keys st so na =
     ∙ ap (map codeOf)
     (ext (sweepReqs ks s (2 * m) rs) (extend rs (settled gs)) (sweep-sorted ks s rs (2 * m) so) (extend-sorted (settled gs) rs so)
     (λ q. sweep-member ks s rs q (2 * m) ∙ ap (λ t. t || member q rs) (adds-is ks m s gs st q) ∙ sym (extend-member q (settled gs) rs)))
-
--- ---- a slot's set joins what was left
-
-unfoldable joinReqs : List Requirement → List Requirement → List Requirement
-joinReqs [] ts = ts
-joinReqs (r ∷ rs) ts = joinReqs rs (insert r ts)
-
-join-codes : (rs ts : List Requirement) → AllNarrow rs → AllNarrow ts → map codeOf (joinReqs rs ts) ≡ joinCodes (map codeOf rs) (map codeOf ts)
-unfolding joinReqs joinCodes
-join-codes [] ts a b = refl
-join-codes (r ∷ rs) ts a b =
-    join-codes rs (insert r ts) (a .1) (insert-narrow r ts (a .0) b)
-    ∙ ap (joinCodes (map codeOf rs)) (insert-code r ts (a .0) b)
-
-join-sorted : (rs ts : List Requirement) → Sorted ts → Sorted (joinReqs rs ts)
-unfolding joinReqs
-join-sorted [] ts s = s
-join-sorted (r ∷ rs) ts s = join-sorted rs (insert r ts) (insert-sorted r ts s)
-
-join-member : (q : Requirement) (rs ts : List Requirement) → member q (joinReqs rs ts) ≡ member q rs || member q ts
-unfolding joinReqs member
-join-member q [] ts = refl
-join-member q (r ∷ rs) ts = join-member q rs (insert r ts) ∙ ap (λ t. member q rs || t) (member-insert q r ts) ∙ or-swap (member q rs) (sameReq q r) (member q ts)
-  where
-    or-swap : (a b m : Bool) → a || (b || m) ≡ (b || a) || m
-    or-swap true true m = refl
-    or-swap true false m = refl
-    or-swap false true m = refl
-    or-swap false false m = refl
-
--- the codes of a slot's set, joined with those of a condition alone, are those of the extended set
-pub extend-is : (rs xs : List Requirement) → Sorted rs → AllNarrow rs → AllNarrow xs → joinCodes (map codeOf rs) (map codeOf (extend [] xs)) ≡ map codeOf (extend rs xs)
-unfolding member
-extend-is rs xs so na nx =
-    sym (join-codes rs (extend [] xs) na (extend-narrow xs [] nx tt))
-    ∙ ap (map codeOf)
-    (ext (joinReqs rs (extend [] xs)) (extend rs xs) (join-sorted rs (extend [] xs) (extend-sorted xs [] tt)) (extend-sorted xs rs so)
-    (λ q. join-member q rs (extend [] xs) ∙ ap (λ t. member q rs || t) (extend-member q xs []) ∙ swap (member q rs) (member (negateReq q) xs) ∙ sym (extend-member q xs rs)))
-  where
-    swap : (a b : Bool) → a || (b || false) ≡ b || a
-    swap true true = refl
-    swap true false = refl
-    swap false true = refl
-    swap false false = refl
 
 -- ---- the condition
 

@@ -1,7 +1,3 @@
-pub mod Entries
-pub mod Turns
-pub mod Search
-pub mod Reads
 pub mod Marks
 pub mod MarkLaws
 pub mod Chains

@@ -1,30 +1,31 @@
 -- The marks of a node and of a chain of conditions. Assumes nothing.
 use mathlib.Core.Path.{_≡_, refl, sym, ap, _∙_}
-use mathlib.Core.Bool.{Bool, true, false, not, cond, _||_}
+use mathlib.Core.Bool.{Bool, true, false, not, _||_}
 use mathlib.Core.Option.{Option, none, some}
 use mathlib.Core.List.{List}
-use Prim.Native.Nat.{ℕ, zero, suc, _+_, _*_, _-_, _/_, _%_, _≤_, _<_}
+use Prim.Native.Nat.{ℕ, _+_, _*_, _-_, _/_, _≤_, _<_}
 use native.Mathlib.Omega.{arith}
-use lib.ListN.{getD, set, length, length-set}
+use lib.ListN.{getD, set, length-set}
 use lib.Seq.{getD-set-same, getD-set-other}
-use lib.Dec.{leb, eqb}
+use lib.Dec.{eqb}
 use lib.IntN.{ℤ}
-use borrow.Author.Tests.{le-leb, lt-leb, leb-false, eq-eqb, ne-eqb, eqb-true, eqb-false}
-use Rattle.model.specs.Expr.{Expr, two, one, imm16, imm32, other, negate}
+use borrow.Author.Tests.{eq-eqb, ne-eqb, eqb-true, eqb-false}
+use Rattle.model.specs.Expr.{Expr, one}
 use Rattle.model.specs.Requirement.{Requirement, sameReq, negateReq, haveItem, missingItem, haveAtc, missingAtc, haveFlag, missingFlag}
 use Rattle.model.specs.Sheet.{Sheet}
 use Rattle.model.specs.Image.{kindOf}
-use Rattle.model.specs.Memory.{Nodes, nodesIn, codeAt, leftAt, rightAt, valueAt, nodeOf, tree}
-use Rattle.model.specs.Parse.{isJoin, isNot, signed, parseRequirement, join}
+use Rattle.model.specs.Memory.{Nodes, nodesIn, leftAt, rightAt, valueAt, nodeOf, tree}
+use Rattle.model.specs.Parse.{signed, parseRequirement}
 use Rattle.model.specs.Laws.Sets.{same-refl}
 use Rattle.model.specs.Laws.Runs.{sameReq-true}
 use Rattle.model.specs.declared.Kind.{Kind}
 use Rattle.model.specs.declared.Kind.the-variants.{Two, One, Imm16, Imm32, Other}
 use Rattle.shop.specs.Shapes.{codeOf, requirementOf}
 use Rattle.expr.specs.Tree.{treeBelow, below-in, below-out, tree-node}
-use Rattle.conditions.specs.Entries.{turned, isHave, entryReq, Subject, Valid, Stand, Leaf, Keys, Keyed}
-use Rattle.conditions.specs.Turns.{neg-neg, by-parity, req-even, req-odd, signed-req, turn-valid}
-use Rattle.conditions.specs.Marks.{joins, toggles, isReq, among, amongAll, Has, Stands, Gathers, ofNode, leafMark, cellOf, joinedTo, nodeIn, isElse, negatedIf, conditionTo, conditionOf, ofChain}
+use Rattle.expr.specs.Requirement.{negate-twice}
+use Rattle.keys.specs.Entries.{turned, isHave, entryReq, Valid, Leaf, Keys, Keyed}
+use Rattle.keys.specs.Turns.{by-parity, req-even, req-odd, signed-req, turn-valid}
+use Rattle.conditions.specs.Marks.{joins, toggles, isReq, among, Has, Stands, Gathers, ofNode, leafMark}
 
 true≢false : true ≡ false → ⊥
 true≢false e = let z : _≡_ {A = ℕ} 0 1 = cc in omega arith
@@ -67,7 +68,7 @@ module _ (ks : List ℕ) (m : ℕ) (keys : Keys ks m) where
       (λ b. let h = same-key j k v w (neg-same (sym (req-odd ks j a) ∙ e ∙ req-odd ks k b)) in omega arith))
     where
       neg-same : {r q : Requirement} → negateReq r ≡ negateReq q → r ≡ q
-      neg-same {r} {q} z = sym (neg-neg r) ∙ ap negateReq z ∙ neg-neg q
+      neg-same {r} {q} z = sym (negate-twice r) ∙ ap negateReq z ∙ negate-twice q
 
   pub test-entry : (j k : ℕ) → Valid m j → Valid m k → eqb j k ≡ sameReq (entryReq ks j) (entryReq ks k)
   test-entry j k v w = by (eqb j k) refl
@@ -84,10 +85,6 @@ module _ (ks : List ℕ) (m : ℕ) (keys : Keys ks m) where
 
 pub stands-same : (ks : List ℕ) (m : ℕ) (s : List Bool) (f g : Requirement → Bool) → ((q : Requirement) → f q ≡ g q) → Stands ks m s f → Stands ks m s g
 stands-same ks m s f g e a = record { long = a .long; marks = λ k v. a .marks k v ∙ e (entryReq ks k); all = λ q w. a .all q (e q ∙ w) }
-
-or-right : (a b : Bool) → a || b ≡ true → (a ≡ false) → b ≡ true
-or-right true b e f = absurd (true≢false f)
-or-right false b e f = e
 
 stands-set : (ks : List ℕ) (m : ℕ) (s : List Bool) (f : Requirement → Bool) (j : ℕ) → Keys ks m → m < 32768 → Valid m j → Stands ks m s f
     → Stands ks m (set s j true) (λ q. sameReq q (entryReq ks j) || f q)

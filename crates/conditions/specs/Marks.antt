@@ -3,7 +3,7 @@ use mathlib.Core.Path.{_≡_}
 use mathlib.Core.Bool.{Bool, true, false, not, cond, _||_}
 use mathlib.Core.Option.{Option, none, some}
 use mathlib.Core.List.{List}
-use Prim.Native.Nat.{ℕ, zero, suc, _+_, _*_, _-_, _/_, _%_, _≤_, _<_}
+use Prim.Native.Nat.{ℕ, zero, suc, _+_, _*_, _-_, _/_, _%_}
 use lib.ListN.{getD, set, length}
 use lib.Dec.{leb, eqb}
 use lib.IntN.{ℤ}
@@ -15,7 +15,7 @@ use Rattle.model.specs.Parse.{isJoin, isNot, signed, parseRequirement, join}
 use Rattle.model.specs.declared.Kind.{Kind}
 use Rattle.model.specs.declared.Kind.the-variants.{Two, One, Imm16, Imm32, Other}
 use Rattle.expr.specs.Tree.{treeBelow}
-use Rattle.conditions.specs.Entries.{turned, entryReq, Valid, Stand, Keyed}
+use Rattle.keys.specs.Entries.{turned, entryReq, Valid, Stand, Keyed}
 
 abbrev pub joins : Kind → Bool
 joins (Two o) = isJoin o

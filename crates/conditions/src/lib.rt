@@ -1,357 +1,26 @@
-// The requirements of a condition: a key for every subject that a node can stand for, marks, the contradiction filter, and a slot's set extended.
+// The requirements of a condition: marks on the entries of the key table, and the contradiction filter.
 ghost use mathlib.Core.Path.{_≡_};
-ghost use mathlib.Core.Bool.{false, cond};
-ghost use mathlib.Core.List.{List, [], map};
-ghost use Prim.Native.Nat.{ℕ, _+_, _*_, _-_, _<_, _≤_};
-ghost use lib.Dec.{ltb};
+ghost use mathlib.Core.Bool.{false};
+ghost use mathlib.Core.List.{List, []};
+ghost use Prim.Native.Nat.{ℕ, _*_, _<_, _≤_};
 ghost use lib.IntN.{ℤ};
-ghost use lib.ListN.{length, getD};
+ghost use Rattle.model.specs.Limits.{entryLimit};
 ghost use Rattle.model.specs.Sheet.{Sheet};
 ghost use Rattle.model.specs.Memory.{nodesIn};
-ghost use Rattle.model.specs.Requirement.{Requirement, extend};
-ghost use Rattle.model.specs.Parse.{value, isJoin, isNot, parseRequirements};
-ghost use Rattle.model.specs.Laws.Sets.{Sorted};
-ghost use Rattle.shop.specs.Shapes.{shift, codeOf};
+ghost use Rattle.model.specs.Parse.{isNot, parseRequirements};
 ghost use Rattle.shop.specs.Sets.{reqsOf};
-ghost use Rattle.shop.specs.Codes.{AllNarrow};
-ghost use Rattle.expr.specs.Tree.{treeBelow};
-ghost use Rattle.conditions.specs.Entries.{InRange, turned, entryCode, Valid, Subject, Leaf, Keys, Keyed};
-ghost use Rattle.conditions.specs.Search.{Table, Search, Placed};
-ghost use Rattle.conditions.specs.Reads.{sheetBy, Numbered, idCode, flagCode, readCode, subjectOf, zeroWord, comparedWord, Reading, readAt, comparedAt, Words, Worded};
+ghost use Rattle.keys.specs.Entries.{entryCode, Valid, Keys, Keyed};
 ghost use Rattle.conditions.specs.Marks.{joins, toggles, leafMark, Gathers, ofNode, ofChain, conditionOf};
-ghost use Rattle.conditions.specs.Sweep.{survives, sweepTo, joinCodes, asSet, Negated};
+ghost use Rattle.conditions.specs.Sweep.{survives, sweepTo, asSet, Negated};
 ghost use Rattle.conditions.specs.Filter.{noMarks};
+use keys::turn;
 use memory::index_of;
 use memory::kind_of;
 use model::Kind;
 use model::Op1;
-use model::Op2;
 use shop::Added;
-use shop::Reqs;
 use shop::insert;
 use shop::no_reqs;
-
-// Where a search ended: at a key, or at the free link where the code belongs.
-struct Found {
-    at: usize,
-    there: bool,
-}
-
-// A key, and how many there are.
-struct Key {
-    at: u16,
-    count: u16,
-}
-
-// A node's word, 0 or its entry, and how many keys there are.
-struct Word {
-    word: u16,
-    count: u16,
-}
-
-// ---- keys
-
-// The search goes by the bits of the code, lowest first: codes are below 2^35, so that it takes at most 36 steps whatever the script.
-fn find(keys: &[u64; 32768], kids: &[u16; 65536], m: usize, code: u64) -> Found
-    requires { ⌜ (m < 32768) × Table (now keys) (now kids) m ⌝ }
-    ensures { λ r. ⌜ Search (now (keys .entry)) (now (kids .entry)) m code r ⌝ }
-{
-    let mut at = 0;
-    let mut bits = code;
-    loop {
-        let link = 2 * at + (bits % 2) as usize;
-        let c = index_of(kids[link]);
-        if c == 0 {
-            return Found {
-                at: link,
-                there: false,
-            };
-        }
-        if keys[c] == code {
-            return Found { at: c, there: true };
-        }
-        at = c;
-        bits = bits / 2;
-    }
-}
-
-// The arrays' lengths, for the proofs.
-fn known_keys(a: &[u64; 32768]) -> usize
-    ensures { λ _. ⌜ length (now (a .entry)) ≡ 32768 ⌝ }
-{
-    let s: &[u64] = a;
-    s.len()
-}
-
-fn known_kids(a: &[u16; 65536]) -> usize
-    ensures { λ _. ⌜ length (now (a .entry)) ≡ 65536 ⌝ }
-{
-    let s: &[u16] = a;
-    s.len()
-}
-
-// The key of a code: a new one where it has none.
-fn key_of(keys: &mut [u64; 32768], kids: &mut [u16; 65536], m: u16, code: u64) -> Key
-    requires { ⌜ (m + 1 < 32768) × (Subject code × Table (now keys) (now kids) m) ⌝ }
-    ensures { λ r. ⌜ Placed (now (keys .entry)) m code (now (keys .exit)) (now (kids .exit)) r ⌝ }
-{
-    known_keys(keys);
-    known_kids(kids);
-    let f = find(keys, kids, index_of(m), code);
-    if f.there {
-        return Key {
-            at: f.at as u16,
-            count: m,
-        };
-    }
-    let at = f.at;
-    keys[index_of(m + 1)] = code;
-    kids[at] = m + 1;
-    Key {
-        at: m + 1,
-        count: m + 1,
-    }
-}
-
-// ---- words of nodes
-
-// A number of 32 bits, moved up by 2^31.
-fn shifted(x: i32) -> u64
-    ensures { λ r. ⌜ (r ≡ shift x) × InRange x ⌝ }
-{
-    let b = ints::to_bits(x) as u64;
-    if b < 2147483648 {
-        return b + 2147483648;
-    }
-    b - 2147483648
-}
-
-// The number of node i, which has to be an Imm below b; 2^32 where there is none.
-fn number_below(ws: &[u16; 98304], val: &[i32; 32768], b: usize, i: usize) -> u64
-    requires { ⌜ b ≤ 32768 ⌝ }
-    ensures { λ r. ⌜ ((n : ℕ) → Numbered r (value (treeBelow (nodesIn (now (ws .entry)) (now (val .entry)) n) b i))) ⌝ }
-{
-    if b <= i {
-        return 4294967296;
-    }
-    let k = kind_of(ws[3 * i]);
-    match k {
-        Kind::Two(_) => 4294967296,
-        Kind::One(_) => 4294967296,
-        Kind::Imm16 => shifted(val[i]),
-        Kind::Imm32 => shifted(val[i]),
-        Kind::Other => 4294967296,
-    }
-}
-
-// The code of an id below n, the first id's code being base.
-fn id_code(s: u64, n: u16, base: u64) -> u64
-    requires { ⌜ base < 8589934593 ⌝ }
-    ensures { λ r. ⌜ r ≡ idCode base n s ⌝ }
-{
-    if s < 2147483648 {
-        return 0;
-    }
-    if s - 2147483648 < n as u64 {
-        return base + s;
-    }
-    0
-}
-
-// The code of a flag.
-fn flag_code(s: u64) -> u64
-    ensures { λ r. ⌜ r ≡ flagCode s ⌝ }
-{
-    if s < 4294967296 {
-        return 17179869184 + s;
-    }
-    0
-}
-
-// The code of what an operator reads, s being its operand's number; 0 for nothing.
-fn read_code(o: Op1, s: u64, items: u16, atcs: u16) -> u64
-    ensures { λ r. ⌜ r ≡ readCode items atcs o s ⌝ }
-{
-    match o {
-        Op1::Not => 0,
-        Op1::Flag => flag_code(s),
-        Op1::Variable => 0,
-        Op1::Item => id_code(s, items, 0),
-        Op1::Atc => id_code(s, atcs, 8589934592),
-        Op1::Time => 0,
-    }
-}
-
-// The code of the subject that a node of kind k reads.
-fn subject(k: Kind, s: u64, items: u16, atcs: u16) -> u64
-    ensures { λ r. ⌜ r ≡ subjectOf items atcs k s ⌝ }
-{
-    match k {
-        Kind::Two(_) => 0,
-        Kind::One(o) => read_code(o, s, items, atcs),
-        Kind::Imm16 => 0,
-        Kind::Imm32 => 0,
-        Kind::Other => 0,
-    }
-}
-
-// The entry of the other sign, where it is asked for.
-fn turn(k: u16, neg: bool) -> u16
-    ensures { λ r. ⌜ r ≡ turned neg k ⌝ }
-{
-    if !neg {
-        return k;
-    }
-    if k % 2 == 0 {
-        return k + 1;
-    }
-    k - 1
-}
-
-// The word of a comparison with 0, x being its left side's word.
-fn zero_word(o: Op2, x: u16) -> u16
-    ensures { λ r. ⌜ r ≡ zeroWord o x ⌝ }
-{
-    match o {
-        Op2::Equal => turn(x, x != 0),
-        Op2::NotEqual => x,
-        Op2::Less => 0,
-        Op2::LessEqual => turn(x, x != 0),
-        Op2::Greater => x,
-        Op2::GreaterEqual => 0,
-        Op2::Add => 0,
-        Op2::Subtract => 0,
-        Op2::BitAnd => 0,
-        Op2::BitOr => 0,
-    }
-}
-
-// The word of a node of kind k that reads no subject: s is its right side's number, and only 0 counts there.
-fn compared(k: Kind, s: u64, x: u16) -> u16
-    ensures { λ r. ⌜ r ≡ comparedWord k s x ⌝ }
-{
-    if s != 2147483648 {
-        return 0;
-    }
-    match k {
-        Kind::Two(o) => zero_word(o, x),
-        Kind::One(_) => 0,
-        Kind::Imm16 => 0,
-        Kind::Imm32 => 0,
-        Kind::Other => 0,
-    }
-}
-
-// The word of node i as an operand of node b.
-fn word_below(lf: &[u16; 32768], b: usize, i: usize) -> u16
-    requires { ⌜ b ≤ 32768 ⌝ }
-    ensures { λ r. ⌜ r ≡ cond (ltb i b) (getD (now (lf .entry)) i 0) 0 ⌝ }
-{
-    if i < b {
-        return lf[i];
-    }
-    0
-}
-
-// The code of the subject that node i reads; 0 for nothing.
-fn read_at(ws: &[u16; 98304], val: &[i32; 32768], items: u16, atcs: u16, i: usize) -> u64
-    requires { ⌜ i < 32768 ⌝ }
-    ensures { λ r. ⌜ ((n : ℕ) → Reading r (readAt (sheetBy items atcs) (nodesIn (now (ws .entry)) (now (val .entry)) n) i)) ⌝ }
-{
-    let k = kind_of(ws[3 * i]);
-    let s = number_below(ws, val, i, index_of(ws[3 * i + 1]));
-    subject(k, s, items, atcs)
-}
-
-// The word of node i where it reads no subject, the words below it being written.
-fn compare_at(ws: &[u16; 98304], val: &[i32; 32768], lf: &[u16; 32768], i: usize) -> u16
-    requires { ⌜ i < 32768 ⌝ }
-    ensures { λ r. ⌜ ((h : Sheet) (ks : List ℕ) (m n : ℕ) → Words h (nodesIn (now (ws .entry)) (now (val .entry)) n) i ks (now (lf .entry)) m → Leaf ks m r (comparedAt h (nodesIn (now (ws .entry)) (now (val .entry)) n) i)) ⌝ }
-{
-    let k = kind_of(ws[3 * i]);
-    let x = word_below(lf, i, index_of(ws[3 * i + 1]));
-    let s = number_below(ws, val, i, index_of(ws[3 * i + 2]));
-    compared(k, s, x)
-}
-
-// The word of node i. Each node adds one key at most, and node 0 none.
-fn word_at(
-    ws: &[u16; 98304],
-    val: &[i32; 32768],
-    lf: &[u16; 32768],
-    keys: &mut [u64; 32768],
-    kids: &mut [u16; 65536],
-    items: u16,
-    atcs: u16,
-    m: u16,
-    i: usize,
-) -> Word
-    requires { ⌜ ((i < 32768) × (m ≤ i - 1)) × (Table (now keys) (now kids) m × Words (sheetBy items atcs) (nodesIn (now ws) (now val) 0) i (now keys) (now lf) m) ⌝ }
-    ensures { λ r. ⌜ Worded (sheetBy items atcs) (nodesIn (now (ws .entry)) (now (val .entry)) 0) i (now (keys .entry)) m (now (keys .exit)) (now (kids .exit)) r ⌝ }
-{
-    let code = read_at(ws, val, items, atcs, i);
-    if code == 0 {
-        return Word {
-            word: compare_at(ws, val, lf, i),
-            count: m,
-        };
-    }
-    let key = key_of(keys, kids, m, code);
-    Word {
-        word: 2 * key.at,
-        count: key.count,
-    }
-}
-
-fn known_words(a: &[u16; 32768]) -> usize
-    ensures { λ _. ⌜ length (now (a .entry)) ≡ 32768 ⌝ }
-{
-    let s: &[u16] = a;
-    s.len()
-}
-
-// The words of n nodes, from the lowest on, since operands lie below. No recursion here: what no block reaches may be of any depth.
-fn fill_words(
-    ws: &[u16; 98304],
-    val: &[i32; 32768],
-    lf: &mut [u16; 32768],
-    keys: &mut [u64; 32768],
-    kids: &mut [u16; 65536],
-    items: u16,
-    atcs: u16,
-    n: usize,
-) -> u16
-    requires { ⌜ (n ≤ 32768) × Table (now keys) (now kids) 0 ⌝ }
-    ensures { λ m. ⌜ ((c : ℕ) → Keyed (sheetBy items atcs) (nodesIn (now (ws .entry)) (now (val .entry)) c) n (now (keys .exit)) (now (lf .exit)) m) ⌝ }
-{
-    known_words(lf);
-    let mut m: u16 = 0;
-    let mut i = 0;
-    while i < n {
-        let w = word_at(ws, val, lf, keys, kids, items, atcs, m, i);
-        lf[i] = w.word;
-        m = w.count;
-        i += 1;
-    }
-    m
-}
-
-// The words of the script's n nodes and the keys that they speak of, items and atcs being known: how many keys.
-pub fn key_nodes(
-    ws: &[u16; 98304],
-    val: &[i32; 32768],
-    lf: &mut [u16; 32768],
-    keys: &mut [u64; 32768],
-    items: u16,
-    atcs: u16,
-    n: usize,
-) -> u16
-    requires { ⌜ n ≤ 32768 ⌝ }
-    ensures { λ m. ⌜ ((c : ℕ) → Keyed (sheetBy items atcs) (nodesIn (now (ws .entry)) (now (val .entry)) c) n (now (keys .exit)) (now (lf .exit)) m) ⌝ }
-{
-    let mut kids: [u16; 65536] = [0; 65536];
-    fill_words(ws, val, lf, keys, &mut kids, items, atcs, n)
-}
 
 // ---- marks
 
@@ -359,28 +28,11 @@ fn is_join(k: Kind) -> bool
     ensures { λ r. ⌜ r ≡ joins k ⌝ }
 {
     match k {
-        Kind::Two(o) => is_join_op(o),
+        Kind::Two(o) => expr::is_join(o),
         Kind::One(_) => false,
         Kind::Imm16 => false,
         Kind::Imm32 => false,
         Kind::Other => false,
-    }
-}
-
-fn is_join_op(o: Op2) -> bool
-    ensures { λ r. ⌜ r ≡ isJoin o ⌝ }
-{
-    match o {
-        Op2::Equal => false,
-        Op2::NotEqual => false,
-        Op2::Less => false,
-        Op2::LessEqual => false,
-        Op2::Greater => false,
-        Op2::GreaterEqual => false,
-        Op2::Add => false,
-        Op2::Subtract => false,
-        Op2::BitAnd => true,
-        Op2::BitOr => true,
     }
 }
 
@@ -544,41 +196,9 @@ pub fn parse_requirements(
 ) -> Added
     requires { ⌜ ((n ≤ 32768) × (first ≤ 8192)) × ((m < 32768) × Keys (now keys) m) ⌝ }
     ensures { λ r. ⌜ ((h : Sheet) (vs : List ℤ) (c : ℕ) → Keyed h (nodesIn (now (ws .entry)) vs c) n (now (keys .entry)) (now (lf .entry)) m → Negated (parseRequirements h (conditionOf (nodesIn (now (ws .entry)) vs c) n (now (cells .entry)) first)) r) ⌝ }
+    ensures { λ r. ⌜ r .reqs .len ≤ entryLimit ⌝ }
 {
     clear(seen);
     mark_chain(ws, lf, cells, seen, n, first);
     survivors(keys, m, seen)
-}
-
-// ---- a slot's set
-
-// The codes of s join those of t.
-fn join_codes(s: Reqs, t: Reqs) -> Added
-    requires { ⌜ s .len ≤ 32 ⌝ }
-    ensures { λ r. ⌜ ((a b : List ℕ) → s ≡ reqsOf a → t ≡ reqsOf b → length b ≤ 32 → r ≡ asSet (joinCodes a b)) ⌝ }
-{
-    let codes = s.codes;
-    let len = s.len as usize;
-    let mut at = t;
-    let mut i = 0;
-    while i < len {
-        let a = insert(at, codes[i]);
-        if !a.ok {
-            return refused();
-        }
-        at = a.reqs;
-        i += 1;
-    }
-    Added { ok: true, reqs: at }
-}
-
-// A slot's set extended by what parse_requirements gave; not ok where it would have a 33rd entry.
-pub fn extend(s: Reqs, t: Added) -> Added
-    requires { ⌜ s .len ≤ 32 ⌝ }
-    ensures { λ r. ⌜ ((rs xs : List Requirement) → Sorted rs → AllNarrow rs → s ≡ reqsOf (map codeOf rs) → Negated xs t → r ≡ asSet (map codeOf (extend rs xs))) ⌝ }
-{
-    if !t.ok {
-        return refused();
-    }
-    join_codes(s, t.reqs)
 }

@@ -20,7 +20,8 @@ use Rattle.model.specs.declared.Kind.the-variants.{Two, One, Imm16, Imm32, Othe
 use Rattle.model.specs.Image.{kindOf}
 use Rattle.model.specs.Memory.{Nodes, codeAt, tree}
 use Rattle.model.specs.Parse.{isSubtract, itemIndex, newLimit}
-use Rattle.scan.specs.Reads.{below, readsFirst, indexBy, index-two, index-imm16, index-imm32, index-other, limit-one, limit-imm16, limit-imm32, limit-other}
+use Rattle.expr.specs.Tree.{treeBelow}
+use Rattle.scan.specs.Reads.{readsFirst, indexBy, index-two, index-imm16, index-imm32, index-other, limit-one, limit-imm16, limit-imm32, limit-other}
 
 pub no-variable : (o : Op1) (x : Option ℤ) (l : ℤ) → OneOf (0 ∷ 1 ∷ 3 ∷ 4 ∷ 5 ∷ []) (tagOf op1.the-type o) → none ≡ readsFirst o x l
 no-variable Variable x l h = absurd (miss (0 ∷ 1 ∷ 3 ∷ 4 ∷ 5 ∷ []) 2 tt h)
@@ -50,7 +51,7 @@ no-subtract Add a b h = refl
 no-subtract BitAnd a b h = refl
 no-subtract BitOr a b h = refl
 
-pub no-one : (k : Kind) (ns : Nodes) (b i : ℕ) → i < b → k ≡ kindOf (codeAt ns i) → OneOf (0 ∷ 2 ∷ 3 ∷ 4 ∷ []) (tagOf kind.the-type k) → none ≡ itemIndex (below ns b i)
+pub no-one : (k : Kind) (ns : Nodes) (b i : ℕ) → i < b → k ≡ kindOf (codeAt ns i) → OneOf (0 ∷ 2 ∷ 3 ∷ 4 ∷ []) (tagOf kind.the-type k) → none ≡ itemIndex (treeBelow ns b i)
 no-one (Two o) ns b i lt e h = index-two ns b i lt (Two o) e o refl
 no-one (One o) ns b i lt e h = absurd (miss (0 ∷ 2 ∷ 3 ∷ 4 ∷ []) 1 tt h)
 no-one Imm16 ns b i lt e h = index-imm16 ns b i lt Imm16 e refl

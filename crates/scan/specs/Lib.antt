@@ -4,6 +4,7 @@ pub mod Reads
 pub mod Ready
 pub mod Accepted
 pub mod Block
+pub mod LastIf
 pub mod Extend
 pub mod Slots
 pub mod AllSlots

@@ -5,7 +5,7 @@ use mathlib.Core.Option.{Option, none, some}
 use Prim.Native.Nat.{ℕ, suc, _-_, _^_, _≤_, _<_}
 use native.Mathlib.Decide.{decLe}
 use native.Mathlib.Omega.{arith}
-use lib.Dec.{T, ltb}
+use lib.Dec.{T}
 use lib.IntN.{ℤ, pos, negsuc, natAbs}
 use lib.Signed.{mag, ltZ, nonNeg}
 use mir.Syntax.{w16, w32}
@@ -26,19 +26,16 @@ use Rattle.model.specs.Laws.ImageExpr.{code-kind}
 use lib.ListN.{List·getD-eq-default}
 use Rattle.model.specs.Memory.{Nodes, codeAt, leftAt, rightAt, valueAt, nodeOf, operand, tree}
 use Rattle.model.specs.Parse.{Place, temp, elsewhere, itemVar, countVar, value, place, placeOf, ifFirst, written, itemIndex, isSubtract, limitIn, newLimit}
-use Rattle.memory.specs.NodeLaws.{tree-node}
-use Rattle.scan.specs.declared.Number.{Number}
-use Rattle.scan.specs.declared.Number.the-variants.{Absent, Imm}
+use Rattle.expr.specs.Tree.{treeBelow, tree-node, below-two, below-one, below-imm16, below-imm32, below-other}
+use Rattle.expr.specs.Requirement.{numberOf}
+use Rattle.expr.specs.declared.MaybeNumber.{MaybeNumber}
+use Rattle.expr.specs.declared.MaybeNumber.the-variants.{Is}
 use Rattle.scan.specs.declared.Short.{Short}
 use Rattle.scan.specs.declared.Short.the-variants.{Unread, Wrote}
 use Rattle.scan.specs.declared.Target.{Target}
 use Rattle.scan.specs.declared.Target.the-variants.{First, Unused, ItemOf, CountOf}
 
 -- ---- what the code's values stand for
-
-abbrev pub numberIs : Number → Option ℤ
-numberIs Absent = none
-numberIs (Imm z) = some z
 
 abbrev pub shortIs : Short → Option ℤ
 shortIs Unread = none
@@ -52,28 +49,15 @@ targetIs (CountOf i) = countVar i
 
 -- ---- a node by the kind that was found
 
--- node i as an operand of node b: Other where it does not lie below
-unfoldable pub below : Nodes → ℕ → ℕ → Expr
-below ns b i = operand (ltb i b) (tree ns i)
-
-pub below-in : (ns : Nodes) (b i : ℕ) → i < b → below ns b i ≡ tree ns i
-unfolding below
-below-in ns b i h = rw (lt-ltb i b h)
-
-pub below-out : (ns : Nodes) (b i : ℕ) → b ≤ i → below ns b i ≡ other
-unfolding below
-below-out ns b i h = rw (le-ltb i b h)
-
 module _ (ns : Nodes) (i : ℕ) (k : Kind) (found : k ≡ kindOf (codeAt ns i)) where
-  tree-kind : (j : Kind) → k ≡ j → tree ns i ≡ nodeOf j (below ns i (leftAt ns i)) (below ns i (rightAt ns i)) (valueAt ns i)
-  unfolding below
+  tree-kind : (j : Kind) → k ≡ j → tree ns i ≡ nodeOf j (treeBelow ns i (leftAt ns i)) (treeBelow ns i (rightAt ns i)) (valueAt ns i)
   tree-kind j e = tree-node ns i ∙ rw (← found, e)
 
-  pub tree-two : (o : Op2) → k ≡ Two o → tree ns i ≡ two o (below ns i (leftAt ns i)) (below ns i (rightAt ns i))
+  pub tree-two : (o : Op2) → k ≡ Two o → tree ns i ≡ two o (treeBelow ns i (leftAt ns i)) (treeBelow ns i (rightAt ns i))
   unfolding nodeOf
   tree-two o e = tree-kind (Two o) e
 
-  pub tree-one : (o : Op1) → k ≡ One o → tree ns i ≡ one o (below ns i (leftAt ns i))
+  pub tree-one : (o : Op1) → k ≡ One o → tree ns i ≡ one o (treeBelow ns i (leftAt ns i))
   unfolding nodeOf
   tree-one o e = tree-kind (One o) e
 
@@ -125,55 +109,23 @@ index-one Variable a = refl
 index-one Atc a = refl
 index-one Time a = refl
 
--- ---- node i by the kind k that was found there, as an operand of node b
+-- ---- the Imm of node i as an operand of node b, where that is item[Imm]
 
 module _ (ns : Nodes) (b i : ℕ) (lt : i < b) (k : Kind) (found : k ≡ kindOf (codeAt ns i)) where
-  below-two : (o : Op2) → k ≡ Two o → below ns b i ≡ two o (below ns i (leftAt ns i)) (below ns i (rightAt ns i))
-  below-two o e = below-in ns b i lt ∙ tree-two ns i k found o e
+  pub index-of-one : (o : Op1) → k ≡ One o → indexBy o (value (treeBelow ns i (leftAt ns i))) ≡ itemIndex (treeBelow ns b i)
+  index-of-one o e = sym (ap itemIndex (below-one ns b i lt k found o e) ∙ index-one o (treeBelow ns i (leftAt ns i)))
 
-  below-one : (o : Op1) → k ≡ One o → below ns b i ≡ one o (below ns i (leftAt ns i))
-  below-one o e = below-in ns b i lt ∙ tree-one ns i k found o e
+  pub index-two : (o : Op2) → k ≡ Two o → none ≡ itemIndex (treeBelow ns b i)
+  index-two o e = sym (ap itemIndex (below-two ns b i lt k found o e))
 
-  below-imm16 : k ≡ Imm16 → below ns b i ≡ imm16 (valueAt ns i)
-  below-imm16 e = below-in ns b i lt ∙ tree-imm16 ns i k found e
+  pub index-imm16 : k ≡ Imm16 → none ≡ itemIndex (treeBelow ns b i)
+  index-imm16 e = sym (ap itemIndex (below-imm16 ns b i lt k found e))
 
-  below-imm32 : k ≡ Imm32 → below ns b i ≡ imm32 (valueAt ns i)
-  below-imm32 e = below-in ns b i lt ∙ tree-imm32 ns i k found e
+  pub index-imm32 : k ≡ Imm32 → none ≡ itemIndex (treeBelow ns b i)
+  index-imm32 e = sym (ap itemIndex (below-imm32 ns b i lt k found e))
 
-  below-other : k ≡ Other → below ns b i ≡ other
-  below-other e = below-in ns b i lt ∙ tree-other ns i k found e
-
-  -- its number
-  pub value-two : (o : Op2) → k ≡ Two o → none ≡ value (below ns b i)
-  value-two o e = sym (ap value (below-two o e))
-
-  pub value-one : (o : Op1) → k ≡ One o → none ≡ value (below ns b i)
-  value-one o e = sym (ap value (below-one o e))
-
-  pub value-imm16 : k ≡ Imm16 → some (valueAt ns i) ≡ value (below ns b i)
-  value-imm16 e = sym (ap value (below-imm16 e))
-
-  pub value-imm32 : k ≡ Imm32 → some (valueAt ns i) ≡ value (below ns b i)
-  value-imm32 e = sym (ap value (below-imm32 e))
-
-  pub value-other : k ≡ Other → none ≡ value (below ns b i)
-  value-other e = sym (ap value (below-other e))
-
-  -- its Imm, where it is item[Imm]
-  pub index-of-one : (o : Op1) → k ≡ One o → indexBy o (value (below ns i (leftAt ns i))) ≡ itemIndex (below ns b i)
-  index-of-one o e = sym (ap itemIndex (below-one o e) ∙ index-one o (below ns i (leftAt ns i)))
-
-  pub index-two : (o : Op2) → k ≡ Two o → none ≡ itemIndex (below ns b i)
-  index-two o e = sym (ap itemIndex (below-two o e))
-
-  pub index-imm16 : k ≡ Imm16 → none ≡ itemIndex (below ns b i)
-  index-imm16 e = sym (ap itemIndex (below-imm16 e))
-
-  pub index-imm32 : k ≡ Imm32 → none ≡ itemIndex (below ns b i)
-  index-imm32 e = sym (ap itemIndex (below-imm32 e))
-
-  pub index-other : k ≡ Other → none ≡ itemIndex (below ns b i)
-  index-other e = sym (ap itemIndex (below-other e))
+  pub index-other : k ≡ Other → none ≡ itemIndex (treeBelow ns b i)
+  index-other e = sym (ap itemIndex (below-other ns b i lt k found e))
 
 -- what is no code is Other
 past : (n : ℕ) → 19 ≤ n → kindOf n ≡ Other
@@ -195,8 +147,8 @@ module _ (ns : Nodes) (v : ℕ) (l : ℤ) (k : Kind) (found : k ≡ kindOf (code
   pub wrote-two : (o : Op2) → k ≡ Two o → none ≡ written (tree ns v) l
   wrote-two o e = sym (ap (λ t. written t l) (tree-two ns v k found o e))
 
-  pub wrote-one : (o : Op1) → k ≡ One o → readsFirst o (value (below ns v (leftAt ns v))) l ≡ written (tree ns v) l
-  wrote-one o e = sym (ap (λ t. written t l) (tree-one ns v k found o e) ∙ written-one o (below ns v (leftAt ns v)) l)
+  pub wrote-one : (o : Op1) → k ≡ One o → readsFirst o (value (treeBelow ns v (leftAt ns v))) l ≡ written (tree ns v) l
+  wrote-one o e = sym (ap (λ t. written t l) (tree-one ns v k found o e) ∙ written-one o (treeBelow ns v (leftAt ns v)) l)
 
   -- a number of 16 bits is not changed by the cut
   pub wrote-imm16 : k ≡ Imm16 → inRange w16 (valueAt ns v) ≡ true → some (cut16 (valueAt ns v)) ≡ written (tree ns v) l
@@ -213,7 +165,7 @@ module _ (ns : Nodes) (v : ℕ) (l : ℤ) (k : Kind) (found : k ≡ kindOf (code
   code-imm16 e = imm16-code (codeAt ns v) (sym found ∙ e)
 
   -- the limit after it was written to variable 0
-  pub limit-two : (o : Op2) → k ≡ Two o → cond (isSubtract o) (limitIn (value (below ns v (leftAt ns v))) (itemIndex (below ns v (rightAt ns v))) l) l ≡ newLimit (tree ns v) l
+  pub limit-two : (o : Op2) → k ≡ Two o → cond (isSubtract o) (limitIn (value (treeBelow ns v (leftAt ns v))) (itemIndex (treeBelow ns v (rightAt ns v))) l) l ≡ newLimit (tree ns v) l
   limit-two o e = sym (ap (λ t. newLimit t l) (tree-two ns v k found o e))
 
   pub limit-one : (o : Op1) → k ≡ One o → l ≡ newLimit (tree ns v) l
@@ -264,8 +216,8 @@ module _ (n : ℕ) where
   place-high h = rw (ne-eqb n 0 (λ e. omega arith), le-ltb n 600 (omega arith), le-ltb n 620 (omega arith), le-ltb n 640 h)
 
 -- the place of a number that the code holds in bits
-pub target-is : {p : Place} (x : Number) (z : ℤ) → x ≡ Imm z → SFits w32 z → ltZ (toZ w32 (ofZ w32 z)) (pos 0) ≡ false → p ≡ placeOf (natAbs (toZ w32 (ofZ w32 z))) → p ≡ place (numberIs x)
-target-is x z e f t q = q ∙ ap (λ y. placeOf (natAbs y)) (toZ-ofZ f) ∙ target-natural z (rw (toZ-ofZ f) at t) ∙ sym (ap (λ y. place (numberIs y)) e)
+pub target-is : {p : Place} (x : MaybeNumber) (z : ℤ) → x ≡ Is z → SFits w32 z → ltZ (toZ w32 (ofZ w32 z)) (pos 0) ≡ false → p ≡ placeOf (natAbs (toZ w32 (ofZ w32 z))) → p ≡ place (numberOf x)
+target-is x z e f t q = q ∙ ap (λ y. placeOf (natAbs y)) (toZ-ofZ f) ∙ target-natural z (rw (toZ-ofZ f) at t) ∙ sym (ap (λ y. place (numberOf y)) e)
 
 -- a slot's place is below the number of slots
 pub target-low : (x : Option ℤ) (i : ℕ) → itemVar i ≡ place x → i < slotCount

@@ -16,12 +16,17 @@ ghost use Rattle.model.specs.Expr.{Expr};
 ghost use Rattle.model.specs.Memory.{Nodes, nodesIn, codedIn, tree, commandIn, commandsIn};
 ghost use Rattle.model.specs.Parse.{value, place, isSubtract, limitIn, itemIndex, newLimit, written, putAt, evaluateSet, scanOne, scan, fillItem, newCount};
 ghost use Rattle.shop.specs.Shapes.{itemOf};
+ghost use Rattle.expr.specs.Tree.{treeBelow};
+ghost use Rattle.expr.specs.Requirement.{numberOf};
 ghost use Rattle.scan.specs.Table.{itemsOf, countsOf};
-ghost use Rattle.scan.specs.Reads.{below, numberIs, shortIs, targetIs, readsFirst, indexBy};
+ghost use Rattle.scan.specs.Reads.{shortIs, targetIs, readsFirst, indexBy};
 ghost use Rattle.scan.specs.Ready.{ReadyValue, ReadySet, ReadyCommand, Ready};
 ghost use Rattle.scan.specs.Block.{scanOf, freshScan};
+ghost use Rattle.scan.specs.LastIf.{lastAt, lastIf};
 ghost use Rattle.scan.specs.Slots.{GoodSlot, GoodShop, Hid, Hides, Stands, FilledBy, Became};
 ghost use Rattle.scan.specs.AllSlots.{SlotsUpdated};
+use expr::MaybeNumber;
+use expr::number_below;
 use memory::kind_of;
 use model::ItemId;
 use model::Kind;
@@ -46,12 +51,6 @@ pub struct Scanned {
     pub table: VarTable,
     pub limit: i16,
     pub last_if: u16,
-}
-
-// The number of an Imm.
-pub enum Number {
-    Absent,
-    Imm(i32),
 }
 
 // What a Set writes, where that can be read.
@@ -161,25 +160,6 @@ fn next_touched(t: VarTable, at: usize) -> usize
 
 // ---- expressions
 
-// The number of node i as an operand of node b: what does not lie below b is Other.
-fn number_below(ws: &[u16; 98304], val: &[i32; 32768], b: u16, i: u16) -> Number
-    requires { ⌜ b ≤ nodeLimit ⌝ }
-    ensures { λ r. ⌜ ((n : ℕ) → numberIs r ≡ value (below (nodesIn (now (ws .entry)) (now (val .entry)) n) b i)) ⌝ }
-{
-    if b <= i {
-        return Number::Absent;
-    }
-    let at = i as usize;
-    let k = kind_of(ws[3 * at]);
-    match k {
-        Kind::Two(_) => Number::Absent,
-        Kind::One(_) => Number::Absent,
-        Kind::Imm16 => Number::Imm(val[at]),
-        Kind::Imm32 => Number::Imm(val[at]),
-        Kind::Other => Number::Absent,
-    }
-}
-
 // Values written and limits are cut to 16 bits, two's complement.
 fn cut(x: i32) -> i16
     ensures { λ r. ⌜ r ≡ cut16 x ⌝ }
@@ -188,10 +168,10 @@ fn cut(x: i32) -> i16
 }
 
 // Target numbers are not cut.
-fn target_of(x: Number) -> Target
-    ensures { λ r. ⌜ targetIs r ≡ place (numberIs x) ⌝ }
+fn target_of(x: MaybeNumber) -> Target
+    ensures { λ r. ⌜ targetIs r ≡ place (numberOf x) ⌝ }
 {
-    let Number::Imm(z) = x else {
+    let MaybeNumber::Is(z) = x else {
         return Target::Unused;
     };
     if z < 0 {
@@ -214,13 +194,13 @@ fn target_of(x: Number) -> Target
 }
 
 // var[0] reads as the current limit.
-fn first_of(o: Op1, x: Number, limit: i16) -> Short
-    ensures { λ r. ⌜ shortIs r ≡ readsFirst o (numberIs x) limit ⌝ }
+fn first_of(o: Op1, x: MaybeNumber, limit: i16) -> Short
+    ensures { λ r. ⌜ shortIs r ≡ readsFirst o (numberOf x) limit ⌝ }
 {
     let Op1::Variable = o else {
         return Short::Unread;
     };
-    let Number::Imm(z) = x else {
+    let MaybeNumber::Is(z) = x else {
         return Short::Unread;
     };
     if z == 0 {
@@ -246,39 +226,43 @@ fn written_by(ws: &[u16; 98304], val: &[i32; 32768], v: u16, limit: i16) -> Shor
 }
 
 // Of a subtraction's right side only item[Imm] counts.
-fn index_by(o: Op1, x: Number) -> Number
-    ensures { λ r. ⌜ numberIs r ≡ indexBy o (numberIs x) ⌝ }
+fn index_by(o: Op1, x: MaybeNumber) -> MaybeNumber
+    ensures { λ r. ⌜ numberOf r ≡ indexBy o (numberOf x) ⌝ }
 {
-    if let Op1::Item = o { x } else { Number::Absent }
+    if let Op1::Item = o {
+        x
+    } else {
+        MaybeNumber::Nothing
+    }
 }
 
 // The Imm in node i, an operand of node b, where that is item[Imm].
-fn index_below(ws: &[u16; 98304], val: &[i32; 32768], b: u16, i: u16) -> Number
+fn index_below(ws: &[u16; 98304], val: &[i32; 32768], b: u16, i: u16) -> MaybeNumber
     requires { ⌜ b ≤ nodeLimit ⌝ }
-    ensures { λ r. ⌜ ((n : ℕ) → numberIs r ≡ itemIndex (below (nodesIn (now (ws .entry)) (now (val .entry)) n) b i)) ⌝ }
+    ensures { λ r. ⌜ ((n : ℕ) → numberOf r ≡ itemIndex (treeBelow (nodesIn (now (ws .entry)) (now (val .entry)) n) b i)) ⌝ }
 {
     if b <= i {
-        return Number::Absent;
+        return MaybeNumber::Nothing;
     }
     let at = i as usize;
     let k = kind_of(ws[3 * at]);
     let Kind::One(o) = k else {
-        return Number::Absent;
+        return MaybeNumber::Nothing;
     };
     index_by(o, number_below(ws, val, i, ws[3 * at + 1]))
 }
 
 // The limit that a subtraction sets, cut to 16 bits.
-fn limit_by(o: Op2, x: Number, index: Number, limit: i16) -> i16
-    ensures { λ r. ⌜ r ≡ cond (isSubtract o) (limitIn (numberIs x) (numberIs index) limit) limit ⌝ }
+fn limit_by(o: Op2, x: MaybeNumber, index: MaybeNumber, limit: i16) -> i16
+    ensures { λ r. ⌜ r ≡ cond (isSubtract o) (limitIn (numberOf x) (numberOf index) limit) limit ⌝ }
 {
     let Op2::Subtract = o else {
         return limit;
     };
-    let Number::Imm(_) = index else {
+    let MaybeNumber::Is(_) = index else {
         return limit;
     };
-    let Number::Imm(z) = x else {
+    let MaybeNumber::Is(z) = x else {
         return limit;
     };
     cut(z)
@@ -305,6 +289,7 @@ fn limit_after(ws: &[u16; 98304], val: &[i32; 32768], v: u16, limit: i16) -> i16
 fn evaluate_set(ws: &[u16; 98304], val: &[i32; 32768], t: u16, v: u16, s: Scanned) -> Scanned
     requires { ⌜ ReadySet (now ws) (now val) t v ⌝ }
     ensures { λ r. ⌜ ((n : ℕ) (c : Option Expr) → scanOf (nodesIn (now (ws .entry)) (now (val .entry)) n) c r ≡ evaluateSet (place (value (tree (nodesIn (now (ws .entry)) (now (val .entry)) n) t))) (tree (nodesIn (now (ws .entry)) (now (val .entry)) n) v) (scanOf (nodesIn (now (ws .entry)) (now (val .entry)) n) c s)) ⌝ }
+    ensures { λ r. ⌜ r .«last_if» ≡ s .«last_if» ⌝ }
 {
     let target = target_of(number_below(ws, val, 32768, t));
     let table = s.table;
@@ -332,6 +317,7 @@ fn evaluate_set(ws: &[u16; 98304], val: &[i32; 32768], t: u16, v: u16, s: Scanne
 fn scan_one(ws: &[u16; 98304], val: &[i32; 32768], cw: &[u16; 65536], c: u16, s: Scanned) -> Scanned
     requires { ⌜ ReadyCommand (now ws) (now val) (now cw) c ⌝ }
     ensures { λ r. ⌜ ((n m : ℕ) (e : Option Expr) → scanOf (nodesIn (now (ws .entry)) (now (val .entry)) n) e r ≡ scanOne e (commandIn (codedIn (now (ws .entry)) (now (val .entry)) (now (cw .entry)) n m) c) (scanOf (nodesIn (now (ws .entry)) (now (val .entry)) n) e s)) ⌝ }
+    ensures { λ r. ⌜ r .«last_if» ≡ lastAt (now (cw .entry)) c (s .«last_if») ⌝ }
 {
     let i = c as usize;
     let code = cw[4 * i];
@@ -356,6 +342,7 @@ fn scan_one(ws: &[u16; 98304], val: &[i32; 32768], cw: &[u16; 65536], c: u16, s:
 // Before any command.
 fn nothing_yet(limit: i16) -> Scanned
     ensures { λ r. ⌜ ((ns : Nodes) (e : Option Expr) → scanOf ns e r ≡ freshScan limit) ⌝ }
+    ensures { λ r. ⌜ r .«last_if» ≡ 0 ⌝ }
 {
     let table = VarTable {
         item_mask: 0,
@@ -381,6 +368,7 @@ pub fn scan_block(
 ) -> Scanned
     requires { ⌜ Ready (now ws) (now val) (now cw) held first ⌝ }
     ensures { λ r. ⌜ ((n m : ℕ) (e : Option Expr) → scanOf (nodesIn (now (ws .entry)) (now (val .entry)) n) e r ≡ scan e (commandsIn (codedIn (now (ws .entry)) (now (val .entry)) (now (cw .entry)) n m) held first) (freshScan limit)) ⌝ }
+    ensures { λ r. ⌜ r .«last_if» ≡ lastIf (now (cw .entry)) held first ⌝ }
 {
     let mut s = nothing_yet(limit);
     let mut left = held;

@@ -22,16 +22,17 @@ use Rattle.shop.specs.declared.Shop.{Shop}
 use Rattle.shop.specs.declared.Added.{Added}
 use Rattle.scan.specs.Ready.{Ready}
 use Rattle.scan.specs.Accepted.{commands-ready}
-use Rattle.scan.specs.Block.{scanOf, freshScan}
+use Rattle.scan.specs.Block.{scanOf, freshScan, onNextOf, onElseOf}
 use Rattle.scan.specs.Slots.{GoodShop, Stands}
 use Rattle.scan.specs.AllSlots.{slotsThen, SlotsUpdated}
 use Rattle.scan.specs.declared.VarTable.{VarTable}
 use Rattle.scan.specs.declared.Scanned.{Scanned}
 use Rattle.scan.specs.declared.Updated.{Updated}
-use Rattle.conditions.specs.Entries.{Keyed}
+use Rattle.keys.specs.Entries.{Keyed}
 use Rattle.conditions.specs.Marks.{conditionOf}
 use Rattle.visit.specs.State.{stateOf, conditionIn, scanIn, stateAfter, Open, KeyedIn, Entered}
-use Rattle.visit.specs.LastIf.{lastIf, Rooted, last-low, Conditions, last-conditions, block-rooted}
+use Rattle.scan.specs.LastIf.{lastIf}
+use Rattle.visit.specs.LastIf.{Rooted, last-low, block-rooted}
 use Rattle.visit.specs.Hiding.{Hidden}
 use Rattle.visit.specs.Ways.{Joined}
 use Rattle.visit.specs.declared.Walk.{Walk}
@@ -89,11 +90,6 @@ module _ {m : Memory} {marks : List Bool} {w : Walk} {b c : ℕ} (o : Open m mar
   rooted : Rooted (m .coded .nodes .count) (m .coded .words) (blockWord m b 2) (blockWord m b 1)
   rooted = let a = o .accepted in block-rooted m (a .blocks) (a .rest) (a .is) b (o .block) (o .code)
 
-  pub open-rooted : (n f : ℕ) → n ≡ blockWord m b 2 → f ≡ blockWord m b 1 → Rooted nodeLimit (m .coded .words) n f
-  open-rooted n f e d =
-      let most = open-nodes in
-      rw (e, d) record { low = rooted .low; root = λ k l u q. let x = rooted .root k l u q in omega arith }
-
 -- the requirements of the condition, the counts being as the call has them
 pub hidden-at : (h : Sheet) (m : Memory) (cells : List ℕ) (c : ℕ) (keys leaves : List ℕ) (k : ℕ) (t : VarTable) (a : Added) → KeyedIn h m keys leaves k → (n d : ℕ) → n ≡ m .coded .nodes .count → d ≡ c
     → (Keyed h (m .coded .nodes) n keys leaves k → Hidden h (parseRequirements h (conditionOf (m .coded .nodes) n cells d)) t a) → Hidden h (parseRequirements h (conditionIn m cells c)) t a
@@ -138,15 +134,17 @@ module _ (h : Sheet) (m : Memory) (marks : List Bool) (cells : List ℕ) (w : Wa
     unfolding visited
     state-then z = made (moved .slots z ∙ slots-then) (take-set-lt (m .count) marks b true (o .block)) limit-then answer-then
 
-    module _ (cells′ : List ℕ) (y : Ways) (q : ℕ) (found : q ≡ lastIf (m .coded .words) held first) (j : Joined cells (w .cells) c q cells′ y) (cs : n ≡ y .cells) where
-      last-is : q ≡ lastIf (m .coded .words) (blockWord m b 2) (blockWord m b 1)
-      last-is = rw (many, from) at found
+    module _ (cells′ : List ℕ) (y : Ways) (found : s .«last_if» ≡ lastIf (m .coded .words) held first) (j : Joined cells (w .cells) c (s .«last_if») cells′ y) (cs : n ≡ y .cells) where
+      root-low : (x : ℕ) → s .«last_if» ≡ suc x → x < m .coded .nodes .count
+      root-low x e = last-low (m .coded .nodes .count) (m .coded .words) (blockWord m b 2) (blockWord m b 1) (rooted o) x (sym (rw (many, from) at found) ∙ e)
 
-      root-low : (x : ℕ) → q ≡ suc x → x < m .coded .nodes .count
-      root-low x e = last-low (m .coded .nodes .count) (m .coded .words) (blockWord m b 2) (blockWord m b 1) (rooted o) x (sym last-is ∙ e)
+      next-is : onNextOf (m .coded .nodes) under (s .«last_if») ≡ scanIn m marks cells w b c .onNext
+      unfolding scanOf
+      next-is = ap (λ (k : Scan). k .onNext) scan-is
 
-      joined : Conditions (m .coded .nodes) under q (scanIn m marks cells w b c)
-      joined = rw last-is (last-conditions (m .coded) under (w .limit) (blockWord m b 2) (blockWord m b 1))
+      else-is : onElseOf (m .coded .nodes) under (s .«last_if») ≡ scanIn m marks cells w b c .onElse
+      unfolding scanOf
+      else-is = ap (λ (k : Scan). k .onElse) scan-is
 
       pub entered : (i x z : ℕ) → i ≡ b → x ≡ blockWord m b 3 → z ≡ blockWord m b 4
           → Entered h m marks cells w b c (set marks i true) cells′ (record { walk = r; next = x; then = y .then; other = z; otherwise = y .otherwise })
@@ -156,8 +154,8 @@ module _ (h : Sheet) (m : Memory) (marks : List Bool) (cells : List ℕ) (w : Wa
             answer = answer-then;
             state = state-then;
             good = moved .good;
-            onNext = j .onNext (m .coded .nodes) (m .coded .nodes .count) root-low ∙ sym (joined .onNext);
-            onElse = j .onElse (m .coded .nodes) (m .coded .nodes .count) root-low ∙ sym (joined .onElse);
+            onNext = j .onNext (m .coded .nodes) (m .coded .nodes .count) root-low ∙ next-is;
+            onElse = j .onElse (m .coded .nodes) (m .coded .nodes .count) root-low ∙ else-is;
             next = e;
             other = f;
             marked = refl;

@@ -10,7 +10,7 @@ use lib.Dec.{leb}
 use lib.IntN.{ℤ, pos, negsuc}
 use lib.Signed.{ltZ}
 use lib.ListN.{length, getD, length-map}
-use borrow.Author.Tests.{leb-true, le-ltb}
+use borrow.Author.Tests.{le-ltb}
 use Rattle.model.specs.Limits.{slotCount, entryLimit}
 use Rattle.model.specs.Sheet.{Sheet}
 use Rattle.model.specs.Requirement.{Requirement, extend}
@@ -123,14 +123,6 @@ module _ (rs : List Requirement) (a : Added) (n : Negated rs a) where
       by false p e =
           let f : a .ok ≡ false = ap (λ (x : Added). x .ok) e in
           record { narrow = n .narrow; ok = told false p f; is = λ y. let z : _≡_ {A = ℕ} 0 1 = cc in absurd (omega arith) }
-
-  pub negated-few : a .reqs .len ≤ entryLimit
-  unfolding asSet reqsOf
-  negated-few = by (leb (length codes) entryLimit) refl (n .is)
-    where
-      by : (t : Bool) → leb (length codes) entryLimit ≡ t → Is t → a .reqs .len ≤ entryLimit
-      by true p e = let l : a .reqs .len ≡ length codes = ap (λ (x : Added). x .reqs .len) e in let m = leb-true (length codes) entryLimit p in omega arith
-      by false p e = let l : a .reqs .len ≡ 0 = ap (λ (x : Added). x .reqs .len) e in omega arith
 
 pub negated-hidden : (h : Sheet) (rs : List Requirement) (t : VarTable) (a : Added) → Negated rs a → Hidden h rs t a
 negated-hidden h rs t a n = record { reqs = rs; stands = negated-stands rs a n; same = λ xs. refl }

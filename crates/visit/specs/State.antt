@@ -1,13 +1,13 @@
 -- What a parse has so far as the code keeps it, and what a visit of one block leaves of it. Assumes nothing: these are definitions.
 use mathlib.Core.Path.{_≡_}
-use mathlib.Core.Bool.{Bool, true, false}
+use mathlib.Core.Bool.{Bool, true}
 use mathlib.Core.Option.{Option}
 use mathlib.Core.List.{List}
 use Prim.Native.Nat.{ℕ, _+_, _*_, _≤_, _<_}
-use lib.ListN.{length, set, take}
+use lib.ListN.{set, take}
 use Rattle.model.specs.Limits.{blockLimit}
 use Rattle.model.specs.Expr.{Expr}
-use Rattle.model.specs.Sheet.{Sheet, itemCount}
+use Rattle.model.specs.Sheet.{Sheet}
 use Rattle.model.specs.Script.{Block, Command}
 use Rattle.model.specs.Reading.{got}
 use Rattle.model.specs.Memory.{Memory, commandsIn, blockWord}
@@ -15,7 +15,7 @@ use Rattle.model.specs.Record.{judgedRecord}
 use Rattle.model.specs.Parse.{State, Scan, scanned, visited}
 use Rattle.shop.specs.Shapes.{slotsOf}
 use Rattle.scan.specs.Slots.{GoodShop}
-use Rattle.conditions.specs.Entries.{Keyed, Keys}
+use Rattle.keys.specs.Entries.{Keyed}
 use Rattle.conditions.specs.Marks.{conditionOf}
 use Rattle.conditions.specs.Cells.{SameCells}
 use Rattle.visit.specs.declared.Walk.{Walk}

@@ -5,17 +5,16 @@ ghost use Prim.Native.Nat.{ℕ, _+_, _*_, _≤_, _<_};
 ghost use lib.IntN.{ℤ};
 ghost use mathlib.Core.List.{List};
 ghost use lib.ListN.{length, getD};
-ghost use Rattle.model.specs.Limits.{slotCount, entryLimit, blockLimit, nodeLimit};
+ghost use Rattle.model.specs.Limits.{slotCount, entryLimit, blockLimit};
 ghost use Rattle.model.specs.Sheet.{Sheet, itemCount};
 ghost use Rattle.model.specs.Memory.{memoryIn, nodesIn};
 ghost use Rattle.model.specs.Parse.{parseRequirements};
 ghost use Rattle.scan.specs.Reads.{shortIs};
 ghost use Rattle.scan.specs.Slots.{GoodShop};
-ghost use Rattle.conditions.specs.Entries.{Keys, Keyed};
+ghost use Rattle.keys.specs.Entries.{Keys, Keyed};
 ghost use Rattle.conditions.specs.Marks.{conditionOf};
 ghost use Rattle.conditions.specs.Cells.{withCell};
 ghost use Rattle.visit.specs.State.{Open, KeyedIn, Entered};
-ghost use Rattle.visit.specs.LastIf.{lastIf, Rooted};
 ghost use Rattle.visit.specs.Hiding.{hidesBy, Shown, Hidden, noneHidden};
 ghost use Rattle.visit.specs.Ways.{Joined};
 ghost use Rattle.visit.specs.Entering.{Moves};
@@ -58,23 +57,6 @@ struct Ways {
 }
 
 // ---- the conditions after a block
-
-// The last If of held commands from first on: 0 for none, or 1 + its root. Most often it is the last command.
-// What scan_block says of it is a tree, and a cell wants a root that lies below the kept count.
-fn last_if(cw: &[u16; 65536], first: u16, held: u16) -> u16
-    requires { ⌜ Rooted nodeLimit (now cw) held first ⌝ }
-    ensures { λ r. ⌜ r ≡ lastIf (now (cw .entry)) held first ⌝ }
-{
-    let mut left = held;
-    while 0 < left {
-        let i = index_of(first + (left - 1));
-        if cw[4 * i] == 3 {
-            return cw[4 * i + 1] + 1;
-        }
-        left -= 1;
-    }
-    0
-}
 
 // Cell n holds the condition c and the root i of the If that it is joined with.
 fn add_cell(cells: &mut [u16; 8192], n: u16, c: u16, i: u16)
@@ -156,7 +138,6 @@ fn none_hidden() -> Added
 }
 
 // The negated requirements of the condition c as a set. They are collected only where the block hides a slot: elsewhere none will do.
-// A set has no more than 32 entries; the test stands for a promise that parse_requirements gives for a sheet only, and here none is at hand.
 fn hidden_of(
     ws: &[u16; 98304],
     lf: &[u16; 32768],
@@ -174,11 +155,7 @@ fn hidden_of(
     if !hides(t) {
         return none_hidden();
     }
-    let a = parse_requirements(ws, lf, cells, keys, seen, keyed, n, c);
-    if 32 < a.reqs.len {
-        return none_hidden();
-    }
-    a
+    parse_requirements(ws, lf, cells, keys, seen, keyed, n, c)
 }
 
 // The walk with the slots that the block leaves, or the refusal 11: a slot's 33rd requirement.
@@ -245,7 +222,7 @@ pub fn visit(
     let t = s.table;
     let n = index_of(k.nodes);
     let hidden = hidden_of(ws, lf, cells, keys, seen, keyed, n, index_of(c), t);
-    let ways = join(cells, w.cells, c, last_if(cw, first, held));
+    let ways = join(cells, w.cells, c, s.last_if);
     Visited {
         walk: moved(shop, items, s, hidden, ways.cells),
         next: block_word(bw, b, 3),

@@ -16,10 +16,10 @@ use Rattle.model.specs.Parse.{State, start, parse}
 use Rattle.memory.specs.Transfer.{blocks-counted}
 use Rattle.shop.specs.Shapes.{slotOf, slotsOf, noShop, entries}
 use Rattle.scan.specs.Slots.{good-start}
-use Rattle.conditions.specs.Entries.{Keyed}
-use Rattle.conditions.specs.Reads.{sheetBy}
+use Rattle.keys.specs.Entries.{Keyed}
+use Rattle.keys.specs.Reads.{sheetBy}
 use Rattle.conditions.specs.Marks.{conditionTo, conditionOf}
-use Rattle.conditions.specs.Cells.{keyed-for}
+use Rattle.keys.specs.Sheets.{keyed-for}
 use Rattle.visit.specs.declared.Walk.{Walk}
 use Rattle.visit.specs.State.{Accepted, stateOf, conditionIn, KeyedIn}
 use Rattle.walk.specs.Dfs.{entry}

@@ -9,7 +9,7 @@ ghost use Rattle.model.specs.Refusal.{parseNotCode};
 ghost use Rattle.visit.specs.State.{Accepted, KeyedIn};
 ghost use Rattle.walk.specs.Dfs.{entry, to};
 ghost use Rattle.walk.specs.Walks.{Walked, Keying, Ready, Came, startWalk, isCodeAt, topOf, ways, Pushed, walksIn};
-use conditions::key_nodes;
+use keys::key_nodes;
 use memory::Counts;
 use memory::index_of;
 use shop::empty_shop;

@@ -1,5 +1,5 @@
 -- `conditions::mark` meets its contract: a node's marks are those of its operands, joined or toggled, or its own word's; the bound falls. Assumes nothing.
-use mathlib.Core.Path.{_≡_, refl, sym, ap, _∙_}
+use mathlib.Core.Path.{sym, _∙_}
 use denote.Ref.{now}
 use native.Mathlib.Omega.{arith}
 use Rattle.conditions.specs.MarkLaws.{gathers-out, gathers-join, gathers-not, gathers-leaf}

@@ -1,11 +1,8 @@
 -- `conditions::entry_code` meets its contract: a key is small enough that its Missing code fits. Assumes nothing.
-use mathlib.Core.Path.{_≡_, refl, sym, ap, _∙_}
-use mathlib.Core.Logic.{⊎-elim}
-use Prim.Native.Nat.{ℕ, _+_, _*_, _-_, _<_, _≤_}
+use Prim.Native.Nat.{_-_}
 use denote.Ref.{now}
 use native.Mathlib.Omega.{arith}
-use borrow.Author.Tests.{not-true, not-false}
-use Rattle.conditions.proofs.Sweeps.{refused-set, stays-not, stays, key-small, entry-have, entry-missing, Sweeping, sweeping-start, sweeping-end, sweeping-pass, sweeping-on, sweeping-many, entry-at}
+use Rattle.conditions.proofs.Sweeps.{key-small, entry-have, entry-missing}
 use borrow.Author.Needs.{needs}
 use Rattle.conditions.proofs.entry_code.Statement.{statement}
 use Rattle.conditions.proofs.entry_code.Tie as tie

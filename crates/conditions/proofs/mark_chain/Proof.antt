@@ -1,8 +1,7 @@
 -- `conditions::mark_chain` meets its contract: what is marked from here on completes what is marked from the start on; the condition's number falls. Assumes nothing.
-use mathlib.Core.Path.{_≡_, refl, sym, ap, _∙_}
 use mathlib.Core.Bool.{Bool}
 use mathlib.Core.List.{List}
-use Prim.Native.Nat.{ℕ, _≤_}
+use Prim.Native.Nat.{_≤_}
 use denote.Ref.{now}
 use native.Mathlib.Omega.{arith}
 use Rattle.conditions.specs.Marks.{Gathers, ofChain}

@@ -1,6 +1,4 @@
 -- `conditions::mark_leaf` meets its contract: a word marks its entry, turned where the sign asks for it. Assumes nothing.
-use mathlib.Core.Path.{_≡_, refl, sym, ap, _∙_}
-use native.Mathlib.Omega.{arith}
 use Rattle.conditions.specs.MarkLaws.{leaf-none, leaf-some}
 use borrow.Author.Needs.{needs}
 use Rattle.conditions.proofs.mark_leaf.Statement.{statement}

@@ -1,17 +1,8 @@
 -- `conditions::parse_requirements` meets its contract: the sweep over a cleared array's marks is the filter over the whole condition. Assumes nothing.
-use mathlib.Core.Path.{_≡_, refl, sym, ap, _∙_}
-use mathlib.Core.List.{List, [], map}
-use Prim.Native.Nat.{ℕ, _+_, _*_, _-_, _<_, _≤_}
+use Prim.Native.Nat.{_-_}
 use denote.Ref.{now}
-use native.Mathlib.Omega.{arith}
-use lib.ListN.{length}
-use borrow.Author.Tests.{not-true, not-false}
-use Rattle.model.specs.Requirement.{extend}
-use Rattle.shop.specs.Shapes.{codeOf}
-use Rattle.shop.specs.Sets.{reqsOf}
-use Rattle.conditions.specs.Sweep.{asSet, joinCodes}
-use Rattle.conditions.specs.Filter.{negated-condition, extend-is}
-use Rattle.conditions.proofs.Sweeps.{Joining, joining-start, joining-end, joining-on, joining-many, join-many, set-of}
+use Rattle.conditions.specs.Filter.{negated-condition}
+use Rattle.conditions.proofs.Sweeps.{set-most}
 use borrow.Author.Needs.{needs}
 use Rattle.conditions.proofs.parse_requirements.Statement.{statement}
 use Rattle.conditions.proofs.parse_requirements.Tie as tie
@@ -26,7 +17,7 @@ survivors-requires : tie.Need-survivors-requires
 survivors-requires c κs = search needs
 
 returns : tie.Need-returns
-returns c = negated-condition (now (c .before .before .before .before .before .before .args .ws)) (now (c .before .before .before .before .before .before .args .lf)) (now (c .before .before .before .before .before .before .args .cells)) (c .before .before .before .before .before .before .args .n) (c .before .before .before .before .before .before .args .first) _ _ (now (c .before .before .before .before .before .before .args .keys)) (c .before .before .before .before .before .before .args .m) _ (c .before .before .before .before .clear .ensures) (c .before .before .mark-chain .ensures) (c .survivors .ensures)
+returns c = (negated-condition (now (c .before .before .before .before .before .before .args .ws)) (now (c .before .before .before .before .before .before .args .lf)) (now (c .before .before .before .before .before .before .args .cells)) (c .before .before .before .before .before .before .args .n) (c .before .before .before .before .before .before .args .first) _ _ (now (c .before .before .before .before .before .before .args .keys)) (c .before .before .before .before .before .before .args .m) _ (c .before .before .before .before .clear .ensures) (c .before .before .mark-chain .ensures) (c .survivors .ensures), set-most _ _ (c .survivors .ensures))
 
 pub parse-requirements-spec : {M : Type 1} → statement M
 parse-requirements-spec =

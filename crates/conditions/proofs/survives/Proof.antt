@@ -1,11 +1,6 @@
 -- `conditions::survives` meets its contract: an entry stays where it is marked and its companion is not. Assumes nothing.
-use mathlib.Core.Path.{_≡_, refl, sym, ap, _∙_}
-use mathlib.Core.Logic.{⊎-elim}
-use Prim.Native.Nat.{ℕ, _+_, _*_, _-_, _<_, _≤_}
-use denote.Ref.{now}
-use native.Mathlib.Omega.{arith}
-use borrow.Author.Tests.{not-true, not-false}
-use Rattle.conditions.proofs.Sweeps.{refused-set, stays-not, stays, key-small, entry-have, entry-missing, Sweeping, sweeping-start, sweeping-end, sweeping-pass, sweeping-on, sweeping-many, entry-at}
+use Prim.Native.Nat.{_-_}
+use Rattle.conditions.proofs.Sweeps.{stays-not, stays}
 use borrow.Author.Needs.{needs}
 use Rattle.conditions.proofs.survives.Statement.{statement}
 use Rattle.conditions.proofs.survives.Tie as tie

@@ -1,11 +1,9 @@
 -- `conditions::survivors` meets its contract: the negations of the entries so far that stay are the set; the measure is how many entries are left. Assumes nothing.
-use mathlib.Core.Path.{_≡_, refl, sym, ap, _∙_}
 use mathlib.Core.Logic.{⊎-elim}
-use Prim.Native.Nat.{ℕ, _+_, _*_, _-_, _<_, _≤_}
-use denote.Ref.{now}
+use Prim.Native.Nat.{_*_, _-_}
 use native.Mathlib.Omega.{arith}
 use borrow.Author.Tests.{not-true, not-false}
-use Rattle.conditions.proofs.Sweeps.{refused-set, stays-not, stays, key-small, entry-have, entry-missing, Sweeping, sweeping-start, sweeping-end, sweeping-pass, sweeping-on, sweeping-many, entry-at}
+use Rattle.conditions.proofs.Sweeps.{Sweeping, sweeping-start, sweeping-end, sweeping-pass, sweeping-on, sweeping-many, entry-at}
 use borrow.Author.Needs.{needs}
 use Rattle.conditions.proofs.survivors.Statement.{statement}
 use Rattle.conditions.proofs.survivors.Tie as tie

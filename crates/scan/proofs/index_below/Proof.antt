@@ -1,7 +1,8 @@
 -- `index_below` meets its contract: the index goes by the kind that was found. Assumes nothing.
 use Rattle.model.specs.Memory.{nodesIn}
 use Rattle.model.specs.Parse.{itemIndex}
-use Rattle.scan.specs.Reads.{below-out, index-of-one, indexBy}
+use Rattle.expr.specs.Tree.{below-out}
+use Rattle.scan.specs.Reads.{index-of-one, indexBy}
 use Rattle.scan.proofs.NoneOf.{no-one}
 use mathlib.Core.Path.{ap, sym, _∙_}
 use borrow.Author.Needs.{needs}

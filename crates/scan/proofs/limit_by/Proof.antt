@@ -2,7 +2,8 @@
 use mir.Syntax.{w16, w32}
 use mir.Val.{SFits}
 use mir.Facts.{toZ-ofZ}
-use Rattle.scan.specs.Reads.{numberIs, limit-unindexed}
+use Rattle.expr.specs.Requirement.{numberOf}
+use Rattle.scan.specs.Reads.{limit-unindexed}
 use Rattle.scan.proofs.NoneOf.{no-subtract}
 use borrow.Author.Needs.{needs}
 use Rattle.scan.proofs.limit_by.Statement.{statement}
@@ -21,7 +22,7 @@ enum-told-3 : tie.Need-enum-told-3
 enum-told-3 c = search needs
 
 returns-2 : tie.Need-returns-2
-returns-2 c = rw (toZ-ofZ (c .before .before .before .before .fits .limit), c .before .before .enum-told .given .1, c .enum-told3 .given .1) (limit-unindexed (numberIs (c .before .before .before .before .args .x)) (c .before .before .before .before .args .limit))
+returns-2 c = rw (toZ-ofZ (c .before .before .before .before .fits .limit), c .before .before .enum-told .given .1, c .enum-told3 .given .1) (limit-unindexed (numberOf (c .before .before .before .before .args .x)) (c .before .before .before .before .args .limit))
 
 enum-known-x : tie.Need-enum-known-x
 enum-known-x c = search needs

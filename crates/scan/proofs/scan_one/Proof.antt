@@ -2,6 +2,8 @@
 use mir.Syntax.{w16}
 use mir.Facts.{toZ-ofZ}
 use Rattle.scan.specs.Block.{met-if, met-other, met-set-other, met-set}
+use Rattle.scan.specs.LastIf.{last-met, last-kept}
+use mathlib.Core.Path.{_∙_}
 use native.Mathlib.Omega.{arith}
 use borrow.Author.Needs.{needs}
 use Rattle.scan.proofs.scan_one.Statement.{statement}
@@ -32,10 +34,10 @@ add-t19 : tie.Need-add-t19
 add-t19 c = let h = c .before .before .before .before .pre .tests (c .if1 .taken) in omega arith
 
 returns : tie.Need-returns
-returns c = λ n m e. let b = toZ-ofZ {w = w16} {z = c .before .before .before .before .before .args .s .limit} (record { sfits = c .struct-told .given .1 .0 .1 }) in met-if (c .before .before .before .before .before .args .ws .now) (c .before .before .before .before .before .args .val .now) (c .before .before .before .before .before .args .cw .now) n m e (c .before .before .before .before .before .args .c) (c .before .before .before .before .before .args .s) (c .before .if1 .taken) _ b
+returns c = (λ n m e. let b = toZ-ofZ {w = w16} {z = c .before .before .before .before .before .args .s .limit} (record { sfits = c .struct-told .given .1 .0 .1 }) in met-if (c .before .before .before .before .before .args .ws .now) (c .before .before .before .before .before .args .val .now) (c .before .before .before .before .before .args .cw .now) n m e (c .before .before .before .before .before .args .c) (c .before .before .before .before .before .args .s) (c .before .if1 .taken) _ b, last-met (c .before .before .before .before .before .args .cw .now) (c .before .before .before .before .before .args .c) (c .before .before .before .before .before .args .s .«last_if») (c .before .if1 .taken))
 
 returns-2 : tie.Need-returns-2
-returns-2 c = λ n m e. met-other (c .before .before .before .before .before .args .ws .now) (c .before .before .before .before .before .args .val .now) (c .before .before .before .before .before .args .cw .now) n m e (c .before .before .before .before .before .args .c) (c .before .before .before .before .before .args .s) (c .before .if1 .left) (c .if2 .taken)
+returns-2 c = (λ n m e. met-other (c .before .before .before .before .before .args .ws .now) (c .before .before .before .before .before .args .val .now) (c .before .before .before .before .before .args .cw .now) n m e (c .before .before .before .before .before .args .c) (c .before .before .before .before .before .args .s) (c .before .if1 .left) (c .if2 .taken), last-kept (c .before .before .before .before .before .args .cw .now) (c .before .before .before .before .before .args .c) (c .before .before .before .before .before .args .s .«last_if») (c .before .if1 .left))
 
 mul-if3 : tie.Need-mul-if3
 mul-if3 c = search needs
@@ -50,7 +52,7 @@ element-copy-out-if3 : tie.Need-element-copy-out-if3
 element-copy-out-if3 c = search needs
 
 returns-3 : tie.Need-returns-3
-returns-3 c = λ n m e. met-set-other (c .before .before .before .before .before .before .before .args .ws .now) (c .before .before .before .before .before .before .before .args .val .now) (c .before .before .before .before .before .before .before .args .cw .now) n m e (c .before .before .before .before .before .before .before .args .c) (c .before .before .before .before .before .before .before .args .s) (c .before .before .if2 .left) (c .if3 .taken)
+returns-3 c = (λ n m e. met-set-other (c .before .before .before .before .before .before .before .args .ws .now) (c .before .before .before .before .before .before .before .args .val .now) (c .before .before .before .before .before .before .before .args .cw .now) n m e (c .before .before .before .before .before .before .before .args .c) (c .before .before .before .before .before .before .before .args .s) (c .before .before .if2 .left) (c .if3 .taken), last-kept (c .before .before .before .before .before .before .before .args .cw .now) (c .before .before .before .before .before .before .before .args .c) (c .before .before .before .before .before .before .before .args .s .«last_if») (c .before .before .before .if1 .left))
 
 mul-evaluate-set : tie.Need-mul-evaluate-set
 mul-evaluate-set c = search needs
@@ -68,7 +70,7 @@ evaluate-set-requires : tie.Need-evaluate-set-requires
 evaluate-set-requires c κs = c .before .before .before .before .before .before .before .before .pre .sets (c .before .before .before .if2 .left) (c .before .if3 .left)
 
 returns-4 : tie.Need-returns-4
-returns-4 c = λ n m e. met-set (c .before .before .before .before .before .before .before .before .before .args .ws .now) (c .before .before .before .before .before .before .before .before .before .args .val .now) (c .before .before .before .before .before .before .before .before .before .args .cw .now) n m e (c .before .before .before .before .before .before .before .before .before .args .c) (c .before .before .before .before .before .before .before .before .before .args .s) (c .before .before .before .before .if2 .left) (c .before .before .if3 .left) _ (c .evaluate-set .ensures n e)
+returns-4 c = (λ n m e. met-set (c .before .before .before .before .before .before .before .before .before .args .ws .now) (c .before .before .before .before .before .before .before .before .before .args .val .now) (c .before .before .before .before .before .before .before .before .before .args .cw .now) n m e (c .before .before .before .before .before .before .before .before .before .args .c) (c .before .before .before .before .before .before .before .before .before .args .s) (c .before .before .before .before .if2 .left) (c .before .before .if3 .left) _ (c .evaluate-set .ensures .0 n e), c .evaluate-set .ensures .1 ∙ last-kept (c .before .before .before .before .before .before .before .before .before .args .cw .now) (c .before .before .before .before .before .before .before .before .before .args .c) (c .before .before .before .before .before .before .before .before .before .args .s .«last_if») (c .before .before .before .before .before .if1 .left))
 
 pub scan-one-spec : {M : Type 1} → statement M
 scan-one-spec =

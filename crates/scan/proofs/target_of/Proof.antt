@@ -3,7 +3,8 @@ use mir.Syntax.{w32}
 use mir.Val.{SFits}
 use mir.Facts.{toZ-ofZ, fits-natAbs}
 use Rattle.model.specs.Parse.{place}
-use Rattle.scan.specs.Reads.{numberIs, target-negative, not-negative, target-is, place-first, place-low, place-item, place-count, place-high}
+use Rattle.expr.specs.Requirement.{numberOf}
+use Rattle.scan.specs.Reads.{target-negative, not-negative, target-is, place-first, place-low, place-item, place-count, place-high}
 use mathlib.Core.Path.{ap, sym, _∙_}
 use borrow.Author.Needs.{needs}
 use Rattle.scan.proofs.target_of.Statement.{statement}
@@ -19,7 +20,7 @@ returns : tie.Need-returns
 returns c = search needs
 
 returns-2 : tie.Need-returns-2
-returns-2 c = let f : SFits w32 (c .before .before .x .given .0 .0) = record { sfits = c .before .known-told .given .0 .1 } in target-negative (c .before .before .x .given .0 .0) (rw (toZ-ofZ f) at (c .if1 .taken)) ∙ sym (ap (λ y. place (numberIs y)) (c .before .before .x .given .1))
+returns-2 c = let f : SFits w32 (c .before .before .x .given .0 .0) = record { sfits = c .before .known-told .given .0 .1 } in target-negative (c .before .before .x .given .0 .0) (rw (toZ-ofZ f) at (c .if1 .taken)) ∙ sym (ap (λ y. place (numberOf y)) (c .before .before .x .given .1))
 
 cast-n : tie.Need-cast-n
 cast-n c = let f : SFits w32 (c .before .before .x .given .0 .0) = record { sfits = c .before .known-told .given .0 .1 } in rw (toZ-ofZ f) (not-negative (c .before .before .x .given .0 .0) (rw (toZ-ofZ f) at (c .if1 .left)), fits-natAbs {w = w32} tt f)

@@ -1,7 +1,7 @@
 -- `hidden_of` meets its contract: no requirements where the block hides nothing, else what parse_requirements gives. Assumes nothing.
 use borrow.Author.Tests.{not-true}
 use Rattle.shop.specs.declared.Added.{Added}
-use Rattle.visit.specs.Hiding.{shown-hidden, negated-few, negated-hidden}
+use Rattle.visit.specs.Hiding.{shown-hidden, negated-hidden}
 use mathlib.Core.Path.{ap}
 use native.Mathlib.Omega.{arith}
 use borrow.Author.Needs.{needs}
@@ -20,14 +20,8 @@ returns c = (let e = ap (λ (a : Added). a .reqs .len) (c .none-hidden .ensures)
 parse-requirements-requires : tie.Need-parse-requirements-requires
 parse-requirements-requires c κs = search needs
 
-none-hidden-requires-2 : tie.Need-none-hidden-requires-2
-none-hidden-requires-2 c κs = search needs
-
 returns-2 : tie.Need-returns-2
-returns-2 c = (let e = ap (λ (a : Added). a .reqs .len) (c .none-hidden2 .ensures) in omega arith, λ h vs k kd. let l = negated-few _ (c .before .before .before .parse-requirements .result) (c .before .before .before .parse-requirements .ensures h vs k kd) in absurd (omega (arith, c .before .if2 .taken)))
-
-returns-3 : tie.Need-returns-3
-returns-3 c = (omega (arith, c .if2 .left), λ h vs k kd. negated-hidden h _ _ _ (c .before .before .parse-requirements .ensures h vs k kd))
+returns-2 c = (c .parse-requirements .ensures .1, λ h vs k kd. negated-hidden h _ _ _ (c .parse-requirements .ensures .0 h vs k kd))
 
 pub hidden-of-spec : {M : Type 1} → statement M
 hidden-of-spec =
@@ -37,6 +31,4 @@ hidden-of-spec =
     none-hidden-requires
     returns
     parse-requirements-requires
-    none-hidden-requires-2
-    returns-2
-    returns-3)
+    returns-2)

@@ -1,0 +1,5 @@
+pub mod Entries
+pub mod Turns
+pub mod Search
+pub mod Reads
+pub mod Sheets
