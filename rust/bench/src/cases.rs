@@ -67,9 +67,14 @@ fn compiled(name: &'static str, times: usize) -> Case {
     }
 }
 
-/// A script with one shop, and one that is nearly full of them.
-pub fn all() -> [Case; 2] {
-    [compiled("one shop", 1), compiled("thirty shops", 30)]
+/// A script of one empty block, then with one shop, with ten, and with all but one of those that it has room for.
+pub fn all() -> [Case; 4] {
+    [
+        compiled("one block", 0),
+        compiled("one shop", 1),
+        compiled("ten shops", 10),
+        compiled("43 shops", 43),
+    ]
 }
 
 /// A save in which some of everything is held.

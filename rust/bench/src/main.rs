@@ -3,7 +3,9 @@
 
 mod cases;
 mod clock;
+mod program;
 mod shops;
+mod worst;
 
 use cases::Case;
 use clock::{row, time};
@@ -31,7 +33,11 @@ fn main() {
         write(&case);
         run(&case);
         shops::all(&case);
+        program::case(&case);
     }
+    println!("-- hiding blocks under one large condition");
+    worst::all();
+    program::worst();
 }
 
 fn read(case: &Case) {

@@ -3,9 +3,8 @@
 use crate::cases::{self, Case};
 use crate::clock::{row, time};
 use compare::{convert, meaning};
-use locustkeno::{Script, Shop};
+use locustkeno::Shop;
 use oracle::calls::{self, Original};
-use oracle::plain::{Block, Code};
 use std::hint::black_box;
 
 /// All three, on one script.
@@ -32,30 +31,25 @@ fn parse(case: &Case) {
     );
 }
 
-/// Into a script of one block, whatever the case's script is.
+/// Into the case's script, which has room for one shop more.
 fn compile(case: &Case) {
     let sheet = convert::sheet(&case.sheet);
     let shop = Shop::with_slots(case.slots.iter().map(convert::slot));
-    let one = Script::read(&[1, 1, 0, 0, 0]).expect("it is an image");
     let ours = time(
         20,
-        || one.clone(),
+        || case.script.clone(),
         |script| script.compile(&sheet, 0, &shop).expect("it has room"),
     );
-    let first = Block::Code(Code::default());
-    let one = oracle::plain::Script {
-        blocks: vec![first],
-    };
     let slots = calls::original_slots(&case.slots);
     let theirs = time(
         20,
-        || Original::new(&one),
+        || Original::new(&case.plain),
         |script| script.compile(0, &slots),
     );
     row(
         "compile",
         case.name,
-        &[("library", ours), ("original", theirs)],
+        &[("library, judged first", ours), ("original", theirs)],
     );
 }
 

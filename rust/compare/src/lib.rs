@@ -8,6 +8,7 @@ pub mod judge;
 pub mod meaning;
 pub mod runs;
 pub mod saves;
+pub mod shared;
 pub mod shops;
 pub mod small;
 pub mod tally;
@@ -26,11 +27,22 @@ pub fn all(seed: u64, count: usize, longest: usize, small: bool) -> Tally {
     images::random(&mut tally, &mut random, count);
     runs::random(&mut tally, &mut random, count);
     runs::records(&mut tally, &mut random, count);
+    shared::limits(&mut tally, &mut random);
+    shared::random(&mut tally, &mut random, count);
     runs::compiled(&mut tally, &mut random, count);
     shops::all(&mut tally, &mut random, count);
     if small {
         runs::small(&mut tally, &mut random);
         shops::small(&mut tally);
     }
+    tally
+}
+
+/// Parses and lists of compiles alone, ten parses for each list.
+pub fn shops(seed: u64, count: usize) -> Tally {
+    let mut tally = Tally::default();
+    let mut random = Random::new(seed);
+    shops::parses(&mut tally, &mut random, 10 * count);
+    shops::lists(&mut tally, &mut random, count);
     tally
 }

@@ -2,27 +2,37 @@
 //!
 //! `compare SEED COUNT [LONGEST [small]]` makes COUNT cases of each kind from SEED, and reads every
 //! image of at most LONGEST bytes of a small alphabet; with `small` it takes every script of two
-//! small blocks too. It ends with 1 where something differs.
+//! small blocks too. `compare SEED COUNT shops` makes COUNT lists of compiles and ten times as many
+//! parses, and nothing else. It ends with 1 where something differs.
 
 use compare::all;
+use compare::tally::Tally;
 use oracle::calls;
 use std::process::ExitCode;
 use std::{env, error::Error};
 
+const USAGE: &str = "usage: compare SEED COUNT [LONGEST [small]], or compare SEED COUNT shops";
+
 fn main() -> Result<ExitCode, Box<dyn Error>> {
     let arguments: Vec<String> = env::args().skip(1).collect();
-    let (seed, count, longest, small) = match &arguments[..] {
-        [seed, count] => (seed, count, "3", false),
-        [seed, count, longest] => (seed, count, &longest[..], false),
-        [seed, count, longest, word] if word == "small" => (seed, count, &longest[..], true),
-        _ => return Err("usage: compare SEED COUNT [LONGEST [small]]".into()),
+    let (seed, count, rest) = match &arguments[..] {
+        [seed, count, rest @ ..] => (seed.parse()?, count.parse()?, rest),
+        _ => return Err(USAGE.into()),
     };
-    let (seed, count, longest) = (seed.parse()?, count.parse()?, longest.parse()?);
-    let tally = calls::on_large_stack(|| all(seed, count, longest, small))
-        .map_err(|panicked| panicked.0)?;
-    print!(
-        "seed {seed}, {count} of each kind, images of up to {longest} bytes\n{}",
-        tally.report()
-    );
+    let rest: Vec<&str> = rest.iter().map(String::as_str).collect();
+    let (longest, small) = match rest[..] {
+        [] => (3, false),
+        ["shops"] => return said(seed, || compare::shops(seed, count)),
+        [longest] => (longest.parse()?, false),
+        [longest, "small"] => (longest.parse()?, true),
+        _ => return Err(USAGE.into()),
+    };
+    said(seed, || all(seed, count, longest, small))
+}
+
+/// Compares, and says what was compared.
+fn said(seed: u64, compared: impl FnOnce() -> Tally + Send) -> Result<ExitCode, Box<dyn Error>> {
+    let tally = calls::on_large_stack(compared).map_err(|panicked| panicked.0)?;
+    print!("seed {seed}\n{}", tally.report());
     Ok(ExitCode::from(u8::from(tally.differences > 0)))
 }

@@ -1,0 +1,100 @@
+//! The slowest inputs of the parser that were found: hiding blocks under one large condition.
+//!
+//! Each hiding block asks for the requirements of the whole condition that leads to it, and every
+//! requirement there contradicts another one, so that none is left and the parse goes on. An If in
+//! each hiding block joins the condition on to the next one. Few blocks under a large condition and
+//! many under a small one are both quick; what lies between is tried in steps.
+
+use crate::clock::{row, time};
+use compare::convert;
+use locustkeno::Script;
+use oracle::image;
+use oracle::plain::{self, Binary, Block, Code, Command, Expr, Sheet, Target, Unary};
+use oracle::slots::{self, Input};
+use std::hint::black_box;
+
+pub fn sheet() -> Sheet {
+    Sheet {
+        atc_of: vec![None; 3],
+        atcs: 0,
+        timers: [0, 1, 2],
+    }
+}
+
+fn flag(number: usize) -> Expr {
+    Expr::unary(Unary::Flag, Expr::Imm16(number as i16))
+}
+
+/// `first` to `last` flags, each with its contradiction, joined as evenly as it goes.
+fn pairs(first: usize, last: usize) -> Expr {
+    let (left, right) = if first == last {
+        (flag(first), Expr::unary(Unary::Not, flag(first)))
+    } else {
+        let middle = first.midpoint(last);
+        (pairs(first, middle), pairs(middle + 1, last))
+    };
+    Expr::binary(Binary::BitAnd, left, right)
+}
+
+fn block(commands: Vec<Command>, next: Option<usize>) -> Block {
+    Block::Code(Code {
+        commands,
+        next,
+        else_block: None,
+    })
+}
+
+/// A large condition over `flags` flags, and `hiding` blocks under it.
+fn script(flags: usize, hiding: usize) -> plain::Script {
+    let mut blocks = vec![block(vec![Command::If(pairs(1, flags), 0)], Some(1))];
+    for k in 1..=hiding {
+        let hides = Command::Set(Target::Variable(Expr::Imm16(620)), Expr::Imm16(0));
+        let next = (k < hiding).then_some(k + 1);
+        blocks.push(block(vec![hides, Command::If(Expr::Other, 0)], next));
+    }
+    plain::Script { blocks }
+}
+
+/// How many flags a script with so many hiding blocks has room for: seven nodes each, and three for
+/// a hiding block.
+fn room(hiding: usize) -> usize {
+    (image::NODES - 3 * hiding) / 7
+}
+
+/// As many flags as a script with so many hiding blocks has room for.
+pub fn by_nodes(hiding: usize) -> plain::Script {
+    script(room(hiding), hiding)
+}
+
+/// As many flags as an input of `slots` with so many hiding blocks has room for.
+pub fn by_bytes(hiding: usize) -> Vec<u8> {
+    let input = |flags| {
+        slots::write(&Input {
+            sheet: sheet(),
+            setup: 0,
+            script: script(flags, hiding),
+        })
+    };
+    let (mut fits, mut over) = (1, room(hiding) + 1);
+    while fits + 1 < over {
+        let flags = fits.midpoint(over);
+        if input(flags).len() <= slots::INPUT {
+            fits = flags;
+        } else {
+            over = flags;
+        }
+    }
+    input(fits)
+}
+
+/// Parses at the limits of a script.
+pub fn all() {
+    let sheet = convert::sheet(&sheet());
+    for hiding in [500, 1_000, 2_000, 3_000, 3_500, 4_000, 4_095] {
+        let plain = by_nodes(hiding);
+        let script = Script::read(&image::write(&plain)).expect("it is within the limits");
+        let ours = time(1, || (), |()| drop(black_box(script.parse(&sheet, 0))));
+        let name = format!("{hiding} hide");
+        row("parse", &name, &[("library", ours)]);
+    }
+}
