@@ -74,7 +74,7 @@ fn mark_leaf(seen: &mut [bool; 65536], x: u16, neg: bool)
 // Node i, below b: And and Or both join, Not toggles.
 fn mark(
     ws: &[u16; 98304],
-    lf: &[u16; 32768],
+    lf: &[u16; 98304],
     seen: &mut [bool; 65536],
     b: usize,
     i: usize,
@@ -103,7 +103,7 @@ fn mark(
 // 2 * j + 1 and, negated, for else as 2 * j + 2. A condition lies above the one that it was joined to.
 fn mark_chain(
     ws: &[u16; 98304],
-    lf: &[u16; 32768],
+    lf: &[u16; 98304],
     cells: &[u16; 8192],
     seen: &mut [bool; 65536],
     n: usize,
@@ -186,7 +186,7 @@ fn clear(seen: &mut [bool; 65536])
 // The negations of the requirements of the condition first, as a set: contradicting pairs drop in the whole condition, and not in its parts.
 pub fn parse_requirements(
     ws: &[u16; 98304],
-    lf: &[u16; 32768],
+    lf: &[u16; 98304],
     cells: &[u16; 8192],
     keys: &[u64; 32768],
     seen: &mut [bool; 65536],

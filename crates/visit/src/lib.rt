@@ -140,7 +140,7 @@ fn none_hidden() -> Added
 // The negated requirements of the condition c as a set. They are collected only where the block hides a slot: elsewhere none will do.
 fn hidden_of(
     ws: &[u16; 98304],
-    lf: &[u16; 32768],
+    lf: &[u16; 98304],
     cells: &[u16; 8192],
     keys: &[u64; 32768],
     seen: &mut [bool; 65536],
@@ -198,7 +198,7 @@ pub fn visit(
     val: &[i32; 32768],
     cw: &[u16; 65536],
     bw: &[u16; 20480],
-    lf: &[u16; 32768],
+    lf: &[u16; 98304],
     keys: &[u64; 32768],
     seen: &mut [bool; 65536],
     marks: &mut [bool; 4096],
