@@ -11,9 +11,10 @@ ghost use Rattle.model.specs.Memory.{memoryIn, nodesIn};
 ghost use Rattle.model.specs.Parse.{parseRequirements};
 ghost use Rattle.scan.specs.Reads.{shortIs};
 ghost use Rattle.scan.specs.Slots.{GoodShop};
-ghost use Rattle.keys.specs.Entries.{Keys, Keyed};
+ghost use Rattle.keys.specs.Entries.{Keys};
 ghost use Rattle.conditions.specs.Marks.{conditionOf};
 ghost use Rattle.conditions.specs.Cells.{withCell};
+ghost use Rattle.conditions.specs.Lists.{Listed};
 ghost use Rattle.visit.specs.State.{Open, KeyedIn, Entered};
 ghost use Rattle.visit.specs.Hiding.{hidesBy, Shown, Hidden, noneHidden};
 ghost use Rattle.visit.specs.Ways.{Joined};
@@ -150,7 +151,7 @@ fn hidden_of(
     t: VarTable,
 ) -> Added
     requires { ⌜ ((n ≤ 32768) × (c ≤ 8192)) × ((keyed < 32768) × Keys (now keys) keyed) ⌝ }
-    ensures { λ r. ⌜ (r .reqs .len ≤ entryLimit) × ((h : Sheet) (vs : List ℤ) (k : ℕ) → Keyed h (nodesIn (now (ws .entry)) vs k) n (now (keys .entry)) (now (lf .entry)) keyed → Hidden h (parseRequirements h (conditionOf (nodesIn (now (ws .entry)) vs k) n (now (cells .entry)) c)) t r) ⌝ }
+    ensures { λ r. ⌜ (r .reqs .len ≤ entryLimit) × ((h : Sheet) (vs : List ℤ) (k : ℕ) → Listed h (nodesIn (now (ws .entry)) vs k) n (now (keys .entry)) (now (lf .entry)) keyed → Hidden h (parseRequirements h (conditionOf (nodesIn (now (ws .entry)) vs k) n (now (cells .entry)) c)) t r) ⌝ }
 {
     if !hides(t) {
         return none_hidden();

@@ -27,548 +27,105 @@ append-at t = and 2 append-kinds.ps (is 2 append-kinds.ps μ-append t) append.Pr
 abbrev append-below : ℕ → In 2 append-kinds.ps
 append-below t = and 2 append-kinds.ps (falls 2 append-kinds.ps _<_ μ-append t) append.Pre
 
--- src/lib.rt:143:9
-append-returns : (t : ℕ) → append-lts.Need-returns (
-  kind-of-reads.Asked,
-  kind-of-reads.Learnt,
-  is-join-reads.Asked,
-  is-join-reads.Learnt,
-  index-of-reads.Asked,
-  index-of-reads.Learnt,
-  append-below t,
-  append.Post,
-  is-not-reads.Asked,
-  is-not-reads.Learnt,
-  append-leaf-reads.Asked,
-  append-leaf-reads.Learnt,
-) (append-at t) append.Post
+-- what the calls ask and give, at the measure t
+abbrev append-claims : ℕ → append-lts.Claims
+append-claims t = (kind-of-reads.Asked, kind-of-reads.Learnt, is-join-reads.Asked, is-join-reads.Learnt, index-of-reads.Asked, index-of-reads.Learnt, append-below t, append.Post, is-not-reads.Asked, is-not-reads.Learnt, append-leaf-reads.Asked, append-leaf-reads.Learnt)
+
+append-returns : (t : ℕ) → append-lts.Need-returns (append-claims t) (append-at t) append.Post
 append-returns t c = appends-out (now (c .before .args .ws)) (now (c .before .args .lf)) (c .before .args .b) (c .before .args .i) (c .before .args .neg) (c .before .args .at) (c .before .pre .1 .1) (c .if1 .taken)
 
--- src/lib.rt:145:24
-append-mul-kind-of : (t : ℕ) → append-lts.Need-mul-kind-of (
-  kind-of-reads.Asked,
-  kind-of-reads.Learnt,
-  is-join-reads.Asked,
-  is-join-reads.Learnt,
-  index-of-reads.Asked,
-  index-of-reads.Learnt,
-  append-below t,
-  append.Post,
-  is-not-reads.Asked,
-  is-not-reads.Learnt,
-  append-leaf-reads.Asked,
-  append-leaf-reads.Learnt,
-) (append-at t) append.Post
+append-mul-kind-of : (t : ℕ) → append-lts.Need-mul-kind-of (append-claims t) (append-at t) append.Post
 append-mul-kind-of t c = search needs
 
--- src/lib.rt:145:21
-append-mul-kind-of-2 : (t : ℕ) → append-lts.Need-mul-kind-of-2 (
-  kind-of-reads.Asked,
-  kind-of-reads.Learnt,
-  is-join-reads.Asked,
-  is-join-reads.Learnt,
-  index-of-reads.Asked,
-  index-of-reads.Learnt,
-  append-below t,
-  append.Post,
-  is-not-reads.Asked,
-  is-not-reads.Learnt,
-  append-leaf-reads.Asked,
-  append-leaf-reads.Learnt,
-) (append-at t) append.Post
+append-mul-kind-of-2 : (t : ℕ) → append-lts.Need-mul-kind-of-2 (append-claims t) (append-at t) append.Post
 append-mul-kind-of-2 t c = search needs
 
--- src/lib.rt:145:21
-append-element-copy-out-kind-of : (t : ℕ) → append-lts.Need-element-copy-out-kind-of (
-  kind-of-reads.Asked,
-  kind-of-reads.Learnt,
-  is-join-reads.Asked,
-  is-join-reads.Learnt,
-  index-of-reads.Asked,
-  index-of-reads.Learnt,
-  append-below t,
-  append.Post,
-  is-not-reads.Asked,
-  is-not-reads.Learnt,
-  append-leaf-reads.Asked,
-  append-leaf-reads.Learnt,
-) (append-at t) append.Post
+append-element-copy-out-kind-of : (t : ℕ) → append-lts.Need-element-copy-out-kind-of (append-claims t) (append-at t) append.Post
 append-element-copy-out-kind-of t c = search needs
 
--- src/lib.rt:145:9
-append-kind-of-requires : (t : ℕ) → append-lts.Need-kind-of-requires (
-  kind-of-reads.Asked,
-  kind-of-reads.Learnt,
-  is-join-reads.Asked,
-  is-join-reads.Learnt,
-  index-of-reads.Asked,
-  index-of-reads.Learnt,
-  append-below t,
-  append.Post,
-  is-not-reads.Asked,
-  is-not-reads.Learnt,
-  append-leaf-reads.Asked,
-  append-leaf-reads.Learnt,
-) (append-at t) append.Post
+append-kind-of-requires : (t : ℕ) → append-lts.Need-kind-of-requires (append-claims t) (append-at t) append.Post
 append-kind-of-requires t c κs = search needs
 
--- src/lib.rt:146:8
-append-is-join-requires : (t : ℕ) → append-lts.Need-is-join-requires (
-  kind-of-reads.Asked,
-  kind-of-reads.Learnt,
-  is-join-reads.Asked,
-  is-join-reads.Learnt,
-  index-of-reads.Asked,
-  index-of-reads.Learnt,
-  append-below t,
-  append.Post,
-  is-not-reads.Asked,
-  is-not-reads.Learnt,
-  append-leaf-reads.Asked,
-  append-leaf-reads.Learnt,
-) (append-at t) append.Post
+append-is-join-requires : (t : ℕ) → append-lts.Need-is-join-requires (append-claims t) (append-at t) append.Post
 append-is-join-requires t c κs = search needs
 
--- src/lib.rt:147:49
-append-mul-index-of : (t : ℕ) → append-lts.Need-mul-index-of (
-  kind-of-reads.Asked,
-  kind-of-reads.Learnt,
-  is-join-reads.Asked,
-  is-join-reads.Learnt,
-  index-of-reads.Asked,
-  index-of-reads.Learnt,
-  append-below t,
-  append.Post,
-  is-not-reads.Asked,
-  is-not-reads.Learnt,
-  append-leaf-reads.Asked,
-  append-leaf-reads.Learnt,
-) (append-at t) append.Post
+append-mul-index-of : (t : ℕ) → append-lts.Need-mul-index-of (append-claims t) (append-at t) append.Post
 append-mul-index-of t c = search needs
 
--- src/lib.rt:147:49
-append-add-index-of : (t : ℕ) → append-lts.Need-add-index-of (
-  kind-of-reads.Asked,
-  kind-of-reads.Learnt,
-  is-join-reads.Asked,
-  is-join-reads.Learnt,
-  index-of-reads.Asked,
-  index-of-reads.Learnt,
-  append-below t,
-  append.Post,
-  is-not-reads.Asked,
-  is-not-reads.Learnt,
-  append-leaf-reads.Asked,
-  append-leaf-reads.Learnt,
-) (append-at t) append.Post
+append-add-index-of : (t : ℕ) → append-lts.Need-add-index-of (append-claims t) (append-at t) append.Post
 append-add-index-of t c = search needs
 
--- src/lib.rt:147:46
-append-mul-index-of-2 : (t : ℕ) → append-lts.Need-mul-index-of-2 (
-  kind-of-reads.Asked,
-  kind-of-reads.Learnt,
-  is-join-reads.Asked,
-  is-join-reads.Learnt,
-  index-of-reads.Asked,
-  index-of-reads.Learnt,
-  append-below t,
-  append.Post,
-  is-not-reads.Asked,
-  is-not-reads.Learnt,
-  append-leaf-reads.Asked,
-  append-leaf-reads.Learnt,
-) (append-at t) append.Post
+append-mul-index-of-2 : (t : ℕ) → append-lts.Need-mul-index-of-2 (append-claims t) (append-at t) append.Post
 append-mul-index-of-2 t c = search needs
 
--- src/lib.rt:147:46
-append-element-copy-out-index-of : (t : ℕ) → append-lts.Need-element-copy-out-index-of (
-  kind-of-reads.Asked,
-  kind-of-reads.Learnt,
-  is-join-reads.Asked,
-  is-join-reads.Learnt,
-  index-of-reads.Asked,
-  index-of-reads.Learnt,
-  append-below t,
-  append.Post,
-  is-not-reads.Asked,
-  is-not-reads.Learnt,
-  append-leaf-reads.Asked,
-  append-leaf-reads.Learnt,
-) (append-at t) append.Post
+append-element-copy-out-index-of : (t : ℕ) → append-lts.Need-element-copy-out-index-of (append-claims t) (append-at t) append.Post
 append-element-copy-out-index-of t c = search needs
 
--- src/lib.rt:147:37
-append-index-of-requires : (t : ℕ) → append-lts.Need-index-of-requires (
-  kind-of-reads.Asked,
-  kind-of-reads.Learnt,
-  is-join-reads.Asked,
-  is-join-reads.Learnt,
-  index-of-reads.Asked,
-  index-of-reads.Learnt,
-  append-below t,
-  append.Post,
-  is-not-reads.Asked,
-  is-not-reads.Learnt,
-  append-leaf-reads.Asked,
-  append-leaf-reads.Learnt,
-) (append-at t) append.Post
+append-index-of-requires : (t : ℕ) → append-lts.Need-index-of-requires (append-claims t) (append-at t) append.Post
 append-index-of-requires t c κs = search needs
 
--- src/lib.rt:147:13
-append-append-requires : (t : ℕ) → append-lts.Need-append-requires (
-  kind-of-reads.Asked,
-  kind-of-reads.Learnt,
-  is-join-reads.Asked,
-  is-join-reads.Learnt,
-  index-of-reads.Asked,
-  index-of-reads.Learnt,
-  append-below t,
-  append.Post,
-  is-not-reads.Asked,
-  is-not-reads.Learnt,
-  append-leaf-reads.Asked,
-  append-leaf-reads.Learnt,
-) (append-at t) append.Post
+append-append-requires : (t : ℕ) → append-lts.Need-append-requires (append-claims t) (append-at t) append.Post
 append-append-requires t c κs = (omega (arith, c .before .before .before .before .before .before .before .before .pre .0, c .before .before .before .before .before .before .before .if1 .left), (omega (arith, c .before .before .before .before .before .before .before .before .pre .1 .0, c .before .before .before .before .before .before .before .if1 .left), c .before .before .before .before .before .before .before .before .pre .1 .1))
 
--- src/lib.rt:148:46
-append-mul-index-of-3 : (t : ℕ) → append-lts.Need-mul-index-of-3 (
-  kind-of-reads.Asked,
-  kind-of-reads.Learnt,
-  is-join-reads.Asked,
-  is-join-reads.Learnt,
-  index-of-reads.Asked,
-  index-of-reads.Learnt,
-  append-below t,
-  append.Post,
-  is-not-reads.Asked,
-  is-not-reads.Learnt,
-  append-leaf-reads.Asked,
-  append-leaf-reads.Learnt,
-) (append-at t) append.Post
+append-mul-index-of-3 : (t : ℕ) → append-lts.Need-mul-index-of-3 (append-claims t) (append-at t) append.Post
 append-mul-index-of-3 t c = search needs
 
--- src/lib.rt:148:46
-append-add-index-of-2 : (t : ℕ) → append-lts.Need-add-index-of-2 (
-  kind-of-reads.Asked,
-  kind-of-reads.Learnt,
-  is-join-reads.Asked,
-  is-join-reads.Learnt,
-  index-of-reads.Asked,
-  index-of-reads.Learnt,
-  append-below t,
-  append.Post,
-  is-not-reads.Asked,
-  is-not-reads.Learnt,
-  append-leaf-reads.Asked,
-  append-leaf-reads.Learnt,
-) (append-at t) append.Post
+append-add-index-of-2 : (t : ℕ) → append-lts.Need-add-index-of-2 (append-claims t) (append-at t) append.Post
 append-add-index-of-2 t c = search needs
 
--- src/lib.rt:148:43
-append-mul-index-of-4 : (t : ℕ) → append-lts.Need-mul-index-of-4 (
-  kind-of-reads.Asked,
-  kind-of-reads.Learnt,
-  is-join-reads.Asked,
-  is-join-reads.Learnt,
-  index-of-reads.Asked,
-  index-of-reads.Learnt,
-  append-below t,
-  append.Post,
-  is-not-reads.Asked,
-  is-not-reads.Learnt,
-  append-leaf-reads.Asked,
-  append-leaf-reads.Learnt,
-) (append-at t) append.Post
+append-mul-index-of-4 : (t : ℕ) → append-lts.Need-mul-index-of-4 (append-claims t) (append-at t) append.Post
 append-mul-index-of-4 t c = search needs
 
--- src/lib.rt:148:43
-append-element-copy-out-index-of-2 : (t : ℕ) → append-lts.Need-element-copy-out-index-of-2 (
-  kind-of-reads.Asked,
-  kind-of-reads.Learnt,
-  is-join-reads.Asked,
-  is-join-reads.Learnt,
-  index-of-reads.Asked,
-  index-of-reads.Learnt,
-  append-below t,
-  append.Post,
-  is-not-reads.Asked,
-  is-not-reads.Learnt,
-  append-leaf-reads.Asked,
-  append-leaf-reads.Learnt,
-) (append-at t) append.Post
+append-element-copy-out-index-of-2 : (t : ℕ) → append-lts.Need-element-copy-out-index-of-2 (append-claims t) (append-at t) append.Post
 append-element-copy-out-index-of-2 t c = search needs
 
--- src/lib.rt:148:34
-append-index-of-requires-2 : (t : ℕ) → append-lts.Need-index-of-requires-2 (
-  kind-of-reads.Asked,
-  kind-of-reads.Learnt,
-  is-join-reads.Asked,
-  is-join-reads.Learnt,
-  index-of-reads.Asked,
-  index-of-reads.Learnt,
-  append-below t,
-  append.Post,
-  is-not-reads.Asked,
-  is-not-reads.Learnt,
-  append-leaf-reads.Asked,
-  append-leaf-reads.Learnt,
-) (append-at t) append.Post
+append-index-of-requires-2 : (t : ℕ) → append-lts.Need-index-of-requires-2 (append-claims t) (append-at t) append.Post
 append-index-of-requires-2 t c κs = search needs
 
--- src/lib.rt:148:9
-append-append-requires-2 : (t : ℕ) → append-lts.Need-append-requires-2 (
-  kind-of-reads.Asked,
-  kind-of-reads.Learnt,
-  is-join-reads.Asked,
-  is-join-reads.Learnt,
-  index-of-reads.Asked,
-  index-of-reads.Learnt,
-  append-below t,
-  append.Post,
-  is-not-reads.Asked,
-  is-not-reads.Learnt,
-  append-leaf-reads.Asked,
-  append-leaf-reads.Learnt,
-) (append-at t) append.Post
+append-append-requires-2 : (t : ℕ) → append-lts.Need-append-requires-2 (append-claims t) (append-at t) append.Post
 append-append-requires-2 t c κs = (omega (arith, c .before .before .before .before .before .before .before .before .before .before .before .before .pre .0, c .before .before .before .before .before .before .before .before .before .before .before .if1 .left), (omega (arith, c .before .before .before .before .before .before .before .before .before .before .before .before .pre .1 .0, c .before .before .before .before .before .before .before .before .before .before .before .if1 .left), c .before .before .before .append .ensures .grown .most))
 
--- src/lib.rt:148:9
-append-returns-2 : (t : ℕ) → append-lts.Need-returns-2 (
-  kind-of-reads.Asked,
-  kind-of-reads.Learnt,
-  is-join-reads.Asked,
-  is-join-reads.Learnt,
-  index-of-reads.Asked,
-  index-of-reads.Learnt,
-  append-below t,
-  append.Post,
-  is-not-reads.Asked,
-  is-not-reads.Learnt,
-  append-leaf-reads.Asked,
-  append-leaf-reads.Learnt,
-) (append-at t) append.Post
+append-returns-2 : (t : ℕ) → append-lts.Need-returns-2 (append-claims t) (append-at t) append.Post
 append-returns-2 t c = appends-join (now (c .before .before .before .before .before .before .before .before .before .before .before .before .before .args .ws)) (now (c .before .before .before .before .before .before .before .before .before .before .before .before .before .args .lf)) (c .before .before .before .before .before .before .before .before .before .before .before .before .before .args .b) (c .before .before .before .before .before .before .before .before .before .before .before .before .before .args .i) (c .before .before .before .before .before .before .before .before .before .before .before .before .before .args .neg) (c .before .before .before .before .before .before .before .before .before .before .before .before .before .args .at) _ (c .before .before .before .before .before .before .before .before .before .before .before .before .if1 .left) (c .before .before .before .before .before .before .before .before .before .before .before .before .before .pre .1 .0) (c .before .before .before .before .before .before .before .before .before .before .kind-of .ensures) _ _ _ _ _ _ (sym (c .before .before .before .before .before .before .before .before .before .is-join .ensures) ∙ c .before .before .before .before .before .before .before .before .if2 .taken) (c .before .before .before .before .before .index-of .ensures) (c .before .index-of2 .ensures) (c .before .before .before .before .append .ensures) (c .append2 .ensures)
 
--- src/lib.rt:150:8
-append-is-not-requires : (t : ℕ) → append-lts.Need-is-not-requires (
-  kind-of-reads.Asked,
-  kind-of-reads.Learnt,
-  is-join-reads.Asked,
-  is-join-reads.Learnt,
-  index-of-reads.Asked,
-  index-of-reads.Learnt,
-  append-below t,
-  append.Post,
-  is-not-reads.Asked,
-  is-not-reads.Learnt,
-  append-leaf-reads.Asked,
-  append-leaf-reads.Learnt,
-) (append-at t) append.Post
+append-is-not-requires : (t : ℕ) → append-lts.Need-is-not-requires (append-claims t) (append-at t) append.Post
 append-is-not-requires t c κs = search needs
 
--- src/lib.rt:151:46
-append-mul-index-of-5 : (t : ℕ) → append-lts.Need-mul-index-of-5 (
-  kind-of-reads.Asked,
-  kind-of-reads.Learnt,
-  is-join-reads.Asked,
-  is-join-reads.Learnt,
-  index-of-reads.Asked,
-  index-of-reads.Learnt,
-  append-below t,
-  append.Post,
-  is-not-reads.Asked,
-  is-not-reads.Learnt,
-  append-leaf-reads.Asked,
-  append-leaf-reads.Learnt,
-) (append-at t) append.Post
+append-mul-index-of-5 : (t : ℕ) → append-lts.Need-mul-index-of-5 (append-claims t) (append-at t) append.Post
 append-mul-index-of-5 t c = search needs
 
--- src/lib.rt:151:46
-append-add-index-of-3 : (t : ℕ) → append-lts.Need-add-index-of-3 (
-  kind-of-reads.Asked,
-  kind-of-reads.Learnt,
-  is-join-reads.Asked,
-  is-join-reads.Learnt,
-  index-of-reads.Asked,
-  index-of-reads.Learnt,
-  append-below t,
-  append.Post,
-  is-not-reads.Asked,
-  is-not-reads.Learnt,
-  append-leaf-reads.Asked,
-  append-leaf-reads.Learnt,
-) (append-at t) append.Post
+append-add-index-of-3 : (t : ℕ) → append-lts.Need-add-index-of-3 (append-claims t) (append-at t) append.Post
 append-add-index-of-3 t c = search needs
 
--- src/lib.rt:151:43
-append-mul-index-of-6 : (t : ℕ) → append-lts.Need-mul-index-of-6 (
-  kind-of-reads.Asked,
-  kind-of-reads.Learnt,
-  is-join-reads.Asked,
-  is-join-reads.Learnt,
-  index-of-reads.Asked,
-  index-of-reads.Learnt,
-  append-below t,
-  append.Post,
-  is-not-reads.Asked,
-  is-not-reads.Learnt,
-  append-leaf-reads.Asked,
-  append-leaf-reads.Learnt,
-) (append-at t) append.Post
+append-mul-index-of-6 : (t : ℕ) → append-lts.Need-mul-index-of-6 (append-claims t) (append-at t) append.Post
 append-mul-index-of-6 t c = search needs
 
--- src/lib.rt:151:43
-append-element-copy-out-index-of-3 : (t : ℕ) → append-lts.Need-element-copy-out-index-of-3 (
-  kind-of-reads.Asked,
-  kind-of-reads.Learnt,
-  is-join-reads.Asked,
-  is-join-reads.Learnt,
-  index-of-reads.Asked,
-  index-of-reads.Learnt,
-  append-below t,
-  append.Post,
-  is-not-reads.Asked,
-  is-not-reads.Learnt,
-  append-leaf-reads.Asked,
-  append-leaf-reads.Learnt,
-) (append-at t) append.Post
+append-element-copy-out-index-of-3 : (t : ℕ) → append-lts.Need-element-copy-out-index-of-3 (append-claims t) (append-at t) append.Post
 append-element-copy-out-index-of-3 t c = search needs
 
--- src/lib.rt:151:34
-append-index-of-requires-3 : (t : ℕ) → append-lts.Need-index-of-requires-3 (
-  kind-of-reads.Asked,
-  kind-of-reads.Learnt,
-  is-join-reads.Asked,
-  is-join-reads.Learnt,
-  index-of-reads.Asked,
-  index-of-reads.Learnt,
-  append-below t,
-  append.Post,
-  is-not-reads.Asked,
-  is-not-reads.Learnt,
-  append-leaf-reads.Asked,
-  append-leaf-reads.Learnt,
-) (append-at t) append.Post
+append-index-of-requires-3 : (t : ℕ) → append-lts.Need-index-of-requires-3 (append-claims t) (append-at t) append.Post
 append-index-of-requires-3 t c κs = search needs
 
--- src/lib.rt:151:9
-append-append-requires-3 : (t : ℕ) → append-lts.Need-append-requires-3 (
-  kind-of-reads.Asked,
-  kind-of-reads.Learnt,
-  is-join-reads.Asked,
-  is-join-reads.Learnt,
-  index-of-reads.Asked,
-  index-of-reads.Learnt,
-  append-below t,
-  append.Post,
-  is-not-reads.Asked,
-  is-not-reads.Learnt,
-  append-leaf-reads.Asked,
-  append-leaf-reads.Learnt,
-) (append-at t) append.Post
+append-append-requires-3 : (t : ℕ) → append-lts.Need-append-requires-3 (append-claims t) (append-at t) append.Post
 append-append-requires-3 t c κs = (omega (arith, c .before .before .before .before .before .before .before .before .before .before .pre .0, c .before .before .before .before .before .before .before .before .before .if1 .left), (omega (arith, c .before .before .before .before .before .before .before .before .before .before .pre .1 .0, c .before .before .before .before .before .before .before .before .before .if1 .left), c .before .before .before .before .before .before .before .before .before .before .pre .1 .1))
 
--- src/lib.rt:151:9
-append-returns-3 : (t : ℕ) → append-lts.Need-returns-3 (
-  kind-of-reads.Asked,
-  kind-of-reads.Learnt,
-  is-join-reads.Asked,
-  is-join-reads.Learnt,
-  index-of-reads.Asked,
-  index-of-reads.Learnt,
-  append-below t,
-  append.Post,
-  is-not-reads.Asked,
-  is-not-reads.Learnt,
-  append-leaf-reads.Asked,
-  append-leaf-reads.Learnt,
-) (append-at t) append.Post
+append-returns-3 : (t : ℕ) → append-lts.Need-returns-3 (append-claims t) (append-at t) append.Post
 append-returns-3 t c = appends-not (now (c .before .before .before .before .before .before .before .before .before .before .before .args .ws)) (now (c .before .before .before .before .before .before .before .before .before .before .before .args .lf)) (c .before .before .before .before .before .before .before .before .before .before .before .args .b) (c .before .before .before .before .before .before .before .before .before .before .before .args .i) (c .before .before .before .before .before .before .before .before .before .before .before .args .neg) (c .before .before .before .before .before .before .before .before .before .before .before .args .at) _ (c .before .before .before .before .before .before .before .before .before .before .if1 .left) (c .before .before .before .before .before .before .before .before .before .before .before .pre .1 .0) (c .before .before .before .before .before .before .before .before .kind-of .ensures) _ _ _ (sym (c .before .before .before .before .before .is-not .ensures) ∙ c .before .before .before .before .if3 .taken) (c .before .index-of3 .ensures) (c .append3 .ensures)
 
--- src/lib.rt:153:13
-append-mul-x : (t : ℕ) → append-lts.Need-mul-x (
-  kind-of-reads.Asked,
-  kind-of-reads.Learnt,
-  is-join-reads.Asked,
-  is-join-reads.Learnt,
-  index-of-reads.Asked,
-  index-of-reads.Learnt,
-  append-below t,
-  append.Post,
-  is-not-reads.Asked,
-  is-not-reads.Learnt,
-  append-leaf-reads.Asked,
-  append-leaf-reads.Learnt,
-) (append-at t) append.Post
+append-mul-x : (t : ℕ) → append-lts.Need-mul-x (append-claims t) (append-at t) append.Post
 append-mul-x t c = search needs
 
--- src/lib.rt:153:13
-append-element-copy-out-x : (t : ℕ) → append-lts.Need-element-copy-out-x (
-  kind-of-reads.Asked,
-  kind-of-reads.Learnt,
-  is-join-reads.Asked,
-  is-join-reads.Learnt,
-  index-of-reads.Asked,
-  index-of-reads.Learnt,
-  append-below t,
-  append.Post,
-  is-not-reads.Asked,
-  is-not-reads.Learnt,
-  append-leaf-reads.Asked,
-  append-leaf-reads.Learnt,
-) (append-at t) append.Post
+append-element-copy-out-x : (t : ℕ) → append-lts.Need-element-copy-out-x (append-claims t) (append-at t) append.Post
 append-element-copy-out-x t c = search needs
 
--- src/lib.rt:154:5
-append-append-leaf-requires : (t : ℕ) → append-lts.Need-append-leaf-requires (
-  kind-of-reads.Asked,
-  kind-of-reads.Learnt,
-  is-join-reads.Asked,
-  is-join-reads.Learnt,
-  index-of-reads.Asked,
-  index-of-reads.Learnt,
-  append-below t,
-  append.Post,
-  is-not-reads.Asked,
-  is-not-reads.Learnt,
-  append-leaf-reads.Asked,
-  append-leaf-reads.Learnt,
-) (append-at t) append.Post
+append-append-leaf-requires : (t : ℕ) → append-lts.Need-append-leaf-requires (append-claims t) (append-at t) append.Post
 append-append-leaf-requires t c κs = search needs
 
--- src/lib.rt:131:1
-append-returns-4 : (t : ℕ) → append-lts.Need-returns-4 (
-  kind-of-reads.Asked,
-  kind-of-reads.Learnt,
-  is-join-reads.Asked,
-  is-join-reads.Learnt,
-  index-of-reads.Asked,
-  index-of-reads.Learnt,
-  append-below t,
-  append.Post,
-  is-not-reads.Asked,
-  is-not-reads.Learnt,
-  append-leaf-reads.Asked,
-  append-leaf-reads.Learnt,
-) (append-at t) append.Post
+append-returns-4 : (t : ℕ) → append-lts.Need-returns-4 (append-claims t) (append-at t) append.Post
 append-returns-4 t c = appends-leaf (now (c .before .before .before .before .before .before .before .before .before .before .args .ws)) (now (c .before .before .before .before .before .before .before .before .before .before .args .lf)) (c .before .before .before .before .before .before .before .before .before .before .args .b) (c .before .before .before .before .before .before .before .before .before .before .args .i) (c .before .before .before .before .before .before .before .before .before .before .args .neg) (c .before .before .before .before .before .before .before .before .before .before .args .at) _ (c .before .before .before .before .before .before .before .before .before .if1 .left) (c .before .before .before .before .before .before .before .before .before .before .pre .1 .0) (c .before .before .before .before .before .before .before .kind-of .ensures) _ _ (sym (c .before .before .before .before .before .before .is-join .ensures) ∙ c .before .before .before .before .before .if2 .left) (sym (c .before .before .before .before .is-not .ensures) ∙ c .before .before .before .if3 .left) (c .append-leaf .ensures)
 
 pub +append-spec : {M : Type 1} → statement M
-+append-spec = close μ-append λ t. append-lts.spec (
-  kind-of-reads.Asked,
-  kind-of-reads.Learnt,
-  is-join-reads.Asked,
-  is-join-reads.Learnt,
-  index-of-reads.Asked,
-  index-of-reads.Learnt,
-  append-below t,
-  append.Post,
-  is-not-reads.Asked,
-  is-not-reads.Learnt,
-  append-leaf-reads.Asked,
-  append-leaf-reads.Learnt,
-)
++append-spec = close μ-append λ t. append-lts.spec (append-claims t)
     (append-at t)
     append.Post
     (append-returns t)

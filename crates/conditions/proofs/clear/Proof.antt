@@ -8,10 +8,6 @@ use native.Mathlib.Omega.{arith}
 use borrow.Author.Needs.{needs}
 use Rattle.conditions.proofs.clear.Statement.{statement}
 use Rattle.conditions.proofs.clear.Tie as tie
-use Rattle.conditions.proofs.clear.Reads as reads
-use Rattle.conditions.proofs.clear.Lts as lts
-use Rattle.conditions.proofs.known_marks.Reads as known-marks-reads
-use Rattle.memory.proofs.index_of.Reads as index-of-reads
 
 abbrev Inv-loop : tie.InvT-loop
 Inv-loop seen₀ m to k₀ seen k = ((2 ≤ k) × (k ≤ to)) × ((length seen ≡ 65536) × Unmarked k seen)
@@ -19,43 +15,33 @@ Inv-loop seen₀ m to k₀ seen k = ((2 ≤ k) × (k ≤ to)) × ((length seen �
 abbrev μ-loop : tie.MeasureT-loop
 μ-loop seen₀ m to k₀ seen k = to - k
 
--- src/lib.rt:402:5
 known-marks-requires : tie.Need-known-marks-requires Inv-loop μ-loop
 known-marks-requires c κs = search needs
 
--- src/lib.rt:403:18
 index-of-requires : tie.Need-index-of-requires Inv-loop μ-loop
 index-of-requires c κs = search needs
 
--- src/lib.rt:403:14
 mul-to : tie.Need-mul-to Inv-loop μ-loop
 mul-to c = search needs
 
--- src/lib.rt:403:14
 add-to : tie.Need-add-to Inv-loop μ-loop
 add-to c = search needs
 
--- src/lib.rt:405:5
 loop-holds : tie.Need-loop-holds Inv-loop μ-loop
 loop-holds c = ((omega arith, omega arith), (c .before .known-marks .ensures, λ j l u. absurd (omega arith)))
 
--- src/lib.rt:406:9
 element-write-seen : tie.Need-element-write-seen Inv-loop μ-loop
 element-write-seen c = search needs
 
--- src/lib.rt:407:9
 add-k : tie.Need-add-k Inv-loop μ-loop
 add-k c = search needs
 
--- src/lib.rt:405:5
 loop-less : tie.Need-loop-less Inv-loop μ-loop
 loop-less c = omega (arith, c .loop-test .taken)
 
--- src/lib.rt:405:5
 loop-again : tie.Need-loop-again Inv-loop μ-loop
 loop-again c = ((omega (arith, c .before .loop .inv .0 .0), omega (arith, c .loop-test .taken)), (length-set (c .before .loop .seen) (c .before .loop .k) false ∙ c .before .loop .inv .1 .0, unmarked-on (c .before .loop .seen) (c .before .loop .k) (omega (arith, c .loop-test .taken, c .before .loop .inv .1 .0, c .before .before .index-of .ensures, c .before .before .before .before .before .pre)) (c .before .loop .inv .1 .1)))
 
--- src/lib.rt:398:1
 returns : tie.Need-returns Inv-loop μ-loop
 returns c = unmarked-done _ (c .before .loop .k) _ (omega (arith, c .loop-test .left, c .before .before .index-of .ensures)) (c .before .loop .inv .1 .0) (c .before .loop .inv .1 .1)
 

@@ -8,9 +8,6 @@ use Prim.Native.Nat.{_+_, _-_, _≤_}
 use borrow.Author.Needs.{needs}
 use Rattle.conditions.proofs.clear_starts.Statement.{statement}
 use Rattle.conditions.proofs.clear_starts.Tie as tie
-use Rattle.conditions.proofs.clear_starts.Reads as reads
-use Rattle.conditions.proofs.clear_starts.Lts as lts
-use Rattle.conditions.proofs.known_lists.Reads as known-lists-reads
 
 abbrev Inv-loop : tie.InvT-loop
 Inv-loop lf₀ n i₀ lf i = ((i ≤ n) × (n ≤ 32768)) × ((length lf ≡ 98304) × Unlisted lf₀ i lf)
@@ -18,39 +15,30 @@ Inv-loop lf₀ n i₀ lf i = ((i ≤ n) × (n ≤ 32768)) × ((length lf ≡ 983
 abbrev μ-loop : tie.MeasureT-loop
 μ-loop lf₀ n i₀ lf i = n - i
 
--- src/lib.rt:225:5
 known-lists-requires : tie.Need-known-lists-requires Inv-loop μ-loop
 known-lists-requires c κs = search needs
 
--- src/lib.rt:227:5
 loop-holds : tie.Need-loop-holds Inv-loop μ-loop
 loop-holds c = ((omega arith, c .before .before .pre), (c .known-lists .ensures, unlisted-start _))
 
--- src/lib.rt:228:12
 add-lf : tie.Need-add-lf Inv-loop μ-loop
 add-lf c = search needs
 
--- src/lib.rt:228:9
 mul-lf : tie.Need-mul-lf Inv-loop μ-loop
 mul-lf c = search needs
 
--- src/lib.rt:228:9
 element-write-lf : tie.Need-element-write-lf Inv-loop μ-loop
 element-write-lf c = search needs
 
--- src/lib.rt:229:9
 add-i : tie.Need-add-i Inv-loop μ-loop
 add-i c = search needs
 
--- src/lib.rt:227:5
 loop-less : tie.Need-loop-less Inv-loop μ-loop
 loop-less c = omega (arith, c .loop-test .taken)
 
--- src/lib.rt:227:5
 loop-again : tie.Need-loop-again Inv-loop μ-loop
 loop-again c = ((omega (arith, c .loop-test .taken), c .before .loop .inv .0 .1), (length-set (c .before .loop .lf) (32768 + c .before .loop .i) 0 ∙ c .before .loop .inv .1 .0, unlisted-on _ _ _ (c .before .loop .inv .1 .0) (omega (arith, c .loop-test .taken, c .before .loop .inv .0 .1)) (c .before .loop .inv .1 .1)))
 
--- src/lib.rt:221:1
 returns : tie.Need-returns Inv-loop μ-loop
 returns c = unlisted-done _ (c .before .loop .i) _ _ (c .loop-test .left) (c .before .loop .inv .1 .1)
 

@@ -4,84 +4,61 @@ use mathlib.Core.Path.{refl}
 use borrow.Author.Needs.{needs}
 use Rattle.conditions.proofs.flatten_root.Statement.{statement}
 use Rattle.conditions.proofs.flatten_root.Tie as tie
-use Rattle.conditions.proofs.flatten_root.Reads as reads
-use Rattle.conditions.proofs.flatten_root.Lts as lts
-use Rattle.conditions.proofs.append.Reads as append-reads
-use Rattle.conditions.proofs.known_lists.Reads as known-lists-reads
 
--- src/lib.rt:164:9
 returns : tie.Need-returns
 returns c = search needs
 
--- src/lib.rt:166:11
 add-if2 : tie.Need-add-if2
 add-if2 c = search needs
 
--- src/lib.rt:166:8
 mul-if2 : tie.Need-mul-if2
 mul-if2 c = search needs
 
--- src/lib.rt:166:8
 element-copy-out-if2 : tie.Need-element-copy-out-if2
 element-copy-out-if2 c = search needs
 
--- src/lib.rt:167:9
 returns-2 : tie.Need-returns-2
 returns-2 c = search needs
 
--- src/lib.rt:170:9
 returns-3 : tie.Need-returns-3
 returns-3 c = search needs
 
--- src/lib.rt:172:41
 add-append : tie.Need-add-append
 add-append c = search needs
 
--- src/lib.rt:172:9
 append-requires : tie.Need-append-requires
 append-requires c κs = search needs
 
--- src/lib.rt:174:9
 returns-4 : tie.Need-returns-4
 returns-4 c = flattens-full _ _ _ _ _ _ _ _ (c .before .before .before .before .before .before .before .pre) refl (c .before .append .ensures)
 
--- src/lib.rt:176:5
 known-lists-requires : tie.Need-known-lists-requires
 known-lists-requires c κs = search needs
 
--- src/lib.rt:177:22
 cast-lf : tie.Need-cast-lf
 cast-lf c = search needs
 
--- src/lib.rt:177:8
 add-lf : tie.Need-add-lf
 add-lf c = search needs
 
--- src/lib.rt:177:5
 mul-lf : tie.Need-mul-lf
 mul-lf c = search needs
 
--- src/lib.rt:177:5
 element-write-lf : tie.Need-element-write-lf
 element-write-lf c = search needs
 
--- src/lib.rt:178:21
 cast-lf-2 : tie.Need-cast-lf-2
 cast-lf-2 c = search needs
 
--- src/lib.rt:178:8
 add-lf-2 : tie.Need-add-lf-2
 add-lf-2 c = search needs
 
--- src/lib.rt:178:5
 mul-lf-2 : tie.Need-mul-lf-2
 mul-lf-2 c = search needs
 
--- src/lib.rt:178:5
 element-write-lf-2 : tie.Need-element-write-lf-2
 element-write-lf-2 c = search needs
 
--- src/lib.rt:159:1
 returns-5 : tie.Need-returns-5
 returns-5 c = flattens-list _ _ _ _ _ _ _ _ (c .before .before .before .before .before .before .before .before .before .pre) refl (c .before .before .before .append .ensures) (c .known-lists .ensures) (c .before .before .before .before .before .before .before .before .if1 .left) (c .before .before .before .before .before .if3 .left) (c .before .before .if4 .left)
 

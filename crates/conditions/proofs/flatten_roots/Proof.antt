@@ -6,10 +6,6 @@ use denote.Ref.{now}
 use borrow.Author.Needs.{needs}
 use Rattle.conditions.proofs.flatten_roots.Statement.{statement}
 use Rattle.conditions.proofs.flatten_roots.Tie as tie
-use Rattle.conditions.proofs.flatten_roots.Reads as reads
-use Rattle.conditions.proofs.flatten_roots.Lts as lts
-use Rattle.conditions.proofs.clear_starts.Reads as clear-starts-reads
-use Rattle.conditions.proofs.flatten_block.Reads as flatten-block-reads
 
 abbrev Inv-loop : tie.InvT-loop
 Inv-loop ws cw bw lf₀ n blocks at₀ b₀ lf at b = (b ≤ blocks) × Flat ws n lf₀ lf at
@@ -17,31 +13,24 @@ Inv-loop ws cw bw lf₀ n blocks at₀ b₀ lf at b = (b ≤ blocks) × Flat ws 
 abbrev μ-loop : tie.MeasureT-loop
 μ-loop ws cw bw lf₀ n blocks at₀ b₀ lf at b = blocks - b
 
--- src/lib.rt:245:5
 clear-starts-requires : tie.Need-clear-starts-requires Inv-loop μ-loop
 clear-starts-requires c κs = search needs
 
--- src/lib.rt:248:5
 loop-holds : tie.Need-loop-holds Inv-loop μ-loop
 loop-holds c = (omega arith, flat-start _ _ _ _ _ (c .clear-starts .ensures))
 
--- src/lib.rt:249:9
 flatten-block-requires : tie.Need-flatten-block-requires Inv-loop μ-loop
 flatten-block-requires c κs = search needs
 
--- src/lib.rt:250:9
 add-b : tie.Need-add-b Inv-loop μ-loop
 add-b c = search needs
 
--- src/lib.rt:248:5
 loop-less : tie.Need-loop-less Inv-loop μ-loop
 loop-less c = omega (arith, c .before .before .loop-test .taken)
 
--- src/lib.rt:248:5
 loop-again : tie.Need-loop-again Inv-loop μ-loop
 loop-again c = (omega (arith, c .before .before .loop-test .taken), flat-on _ _ _ _ _ _ _ (c .before .before .before .loop .inv .1) (c .flatten-block .ensures))
 
--- src/lib.rt:234:1
 returns : tie.Need-returns Inv-loop μ-loop
 returns c = flat-done (now (c .before .before .before .before .args .ws)) (now (c .before .before .before .before .args .lf)) (c .before .before .before .before .args .n) _ (c .before .loop .lf) (c .before .loop .at) (c .before .before .before .before .pre .0) (c .before .before .clear-starts .ensures) (c .before .loop .inv .1)
 

@@ -8,59 +8,43 @@ use denote.Ref.{now}
 use borrow.Author.Needs.{needs}
 use Rattle.conditions.proofs.has_list.Statement.{statement}
 use Rattle.conditions.proofs.has_list.Tie as tie
-use Rattle.conditions.proofs.has_list.Reads as reads
-use Rattle.conditions.proofs.has_list.Lts as lts
-use Rattle.memory.proofs.index_of.Reads as index-of-reads
 
--- src/lib.rt:262:9
 returns : tie.Need-returns
 returns c = λ t. let z : _≡_ {A = ℕ} 0 1 = cc in absurd (omega arith)
 
--- src/lib.rt:264:25
 add-index-of : tie.Need-add-index-of
 add-index-of c = search needs
 
--- src/lib.rt:264:22
 mul-index-of : tie.Need-mul-index-of
 mul-index-of c = search needs
 
--- src/lib.rt:264:22
 element-copy-out-index-of : tie.Need-element-copy-out-index-of
 element-copy-out-index-of c = search needs
 
--- src/lib.rt:264:9
 index-of-requires : tie.Need-index-of-requires
 index-of-requires c κs = search needs
 
--- src/lib.rt:266:9
 returns-2 : tie.Need-returns-2
 returns-2 c = λ t. let z : _≡_ {A = ℕ} 0 1 = cc in absurd (omega arith)
 
--- src/lib.rt:269:9
 returns-3 : tie.Need-returns-3
 returns-3 c = λ t. let z : _≡_ {A = ℕ} 0 1 = cc in absurd (omega arith)
 
--- src/lib.rt:271:25
 add-index-of-2 : tie.Need-add-index-of-2
 add-index-of-2 c = search needs
 
--- src/lib.rt:271:22
 mul-index-of-2 : tie.Need-mul-index-of-2
 mul-index-of-2 c = search needs
 
--- src/lib.rt:271:22
 element-copy-out-index-of-2 : tie.Need-element-copy-out-index-of-2
 element-copy-out-index-of-2 c = search needs
 
--- src/lib.rt:271:9
 index-of-requires-2 : tie.Need-index-of-requires-2
 index-of-requires-2 c κs = search needs
 
--- src/lib.rt:273:9
 returns-4 : tie.Need-returns-4
 returns-4 c = λ t. let z : _≡_ {A = ℕ} 0 1 = cc in absurd (omega arith)
 
--- src/lib.rt:257:1
 returns-5 : tie.Need-returns-5
 returns-5 c = λ t. list-there (now (c .before .before .before .before .before .before .before .before .args .lf)) _ _ _ _ (c .before .before .before .before .before .before .before .if1 .left) (c .before .before .before .before .before .index-of .ensures) (c .before .index-of2 .ensures) (c .before .before .before .before .if2 .left) (c .if4 .left) (leb-true _ _ t)
 

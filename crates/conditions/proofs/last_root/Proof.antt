@@ -4,9 +4,6 @@ use native.Mathlib.Omega.{arith}
 use borrow.Author.Needs.{needs}
 use Rattle.conditions.proofs.last_root.Statement.{statement}
 use Rattle.conditions.proofs.last_root.Tie as tie
-use Rattle.conditions.proofs.last_root.Reads as reads
-use Rattle.conditions.proofs.last_root.Lts as lts
-use Rattle.memory.proofs.index_of.Reads as index-of-reads
 
 abbrev Inv-loop : tie.InvT-loop
 Inv-loop cw first held c₀ c = c ≤ 16384
@@ -14,63 +11,48 @@ Inv-loop cw first held c₀ c = c ≤ 16384
 abbrev μ-loop : tie.MeasureT-loop
 μ-loop cw first held c₀ c = c
 
--- src/lib.rt:186:17
 add-c : tie.Need-add-c Inv-loop μ-loop
 add-c c = search needs
 
--- src/lib.rt:187:5
 loop-holds : tie.Need-loop-holds Inv-loop μ-loop
 loop-holds c = c .pre
 
--- src/lib.rt:188:9
 sub-c : tie.Need-sub-c Inv-loop μ-loop
 sub-c c = search needs
 
--- src/lib.rt:189:15
 mul-if1 : tie.Need-mul-if1 Inv-loop μ-loop
 mul-if1 c = search needs
 
--- src/lib.rt:189:12
 mul-if1-2 : tie.Need-mul-if1-2 Inv-loop μ-loop
 mul-if1-2 c = search needs
 
--- src/lib.rt:189:12
 element-copy-out-if1 : tie.Need-element-copy-out-if1 Inv-loop μ-loop
 element-copy-out-if1 c = search needs
 
--- src/lib.rt:190:32
 mul-index-of : tie.Need-mul-index-of Inv-loop μ-loop
 mul-index-of c = search needs
 
--- src/lib.rt:190:32
 add-index-of : tie.Need-add-index-of Inv-loop μ-loop
 add-index-of c = search needs
 
--- src/lib.rt:190:29
 mul-index-of-2 : tie.Need-mul-index-of-2 Inv-loop μ-loop
 mul-index-of-2 c = search needs
 
--- src/lib.rt:190:29
 element-copy-out-index-of : tie.Need-element-copy-out-index-of Inv-loop μ-loop
 element-copy-out-index-of c = search needs
 
--- src/lib.rt:190:13
 index-of-requires : tie.Need-index-of-requires Inv-loop μ-loop
 index-of-requires c κs = search needs
 
--- src/lib.rt:190:13
 returns : tie.Need-returns Inv-loop μ-loop
 returns c = search needs
 
--- src/lib.rt:187:5
 loop-less : tie.Need-loop-less Inv-loop μ-loop
 loop-less c = omega (arith, c .before .before .loop-test .taken)
 
--- src/lib.rt:187:5
 loop-again : tie.Need-loop-again Inv-loop μ-loop
 loop-again c = omega (arith, c .before .before .before .loop .inv)
 
--- src/lib.rt:183:1
 returns-2 : tie.Need-returns-2 Inv-loop μ-loop
 returns-2 c = search needs
 

@@ -8,10 +8,6 @@ use mathlib.Core.Path.{_≡_}
 use borrow.Author.Needs.{needs}
 use Rattle.conditions.proofs.mark_list.Statement.{statement}
 use Rattle.conditions.proofs.mark_list.Tie as tie
-use Rattle.conditions.proofs.mark_list.Reads as reads
-use Rattle.conditions.proofs.mark_list.Lts as lts
-use Rattle.keys.proofs.turn.Reads as turn-reads
-use Rattle.memory.proofs.index_of.Reads as index-of-reads
 
 abbrev Inv-loop : tie.InvT-loop
 Inv-loop lf seen₀ from to neg j₀ seen j = ((from ≤ j) × (j ≤ to)) × (seen ≡ markedBy lf neg from (j - from) seen₀)
@@ -19,43 +15,33 @@ Inv-loop lf seen₀ from to neg j₀ seen j = ((from ≤ j) × (j ≤ to)) × (s
 abbrev μ-loop : tie.MeasureT-loop
 μ-loop lf seen₀ from to neg j₀ seen j = to - j
 
--- src/lib.rt:283:5
 loop-holds : tie.Need-loop-holds Inv-loop μ-loop
 loop-holds c = ((omega arith, c .pre .0), marked-none (now (c .args .lf)) (c .args .neg) (c .args .from) (now (c .args .seen)))
 
--- src/lib.rt:284:31
 mul-turn : tie.Need-mul-turn Inv-loop μ-loop
 mul-turn c = search needs
 
--- src/lib.rt:284:31
 element-copy-out-turn : tie.Need-element-copy-out-turn Inv-loop μ-loop
 element-copy-out-turn c = search needs
 
--- src/lib.rt:284:26
 turn-requires : tie.Need-turn-requires Inv-loop μ-loop
 turn-requires c κs = search needs
 
--- src/lib.rt:284:13
 index-of-requires : tie.Need-index-of-requires Inv-loop μ-loop
 index-of-requires c κs = search needs
 
--- src/lib.rt:285:9
 element-write-seen : tie.Need-element-write-seen Inv-loop μ-loop
 element-write-seen c = search needs
 
--- src/lib.rt:286:9
 add-j : tie.Need-add-j Inv-loop μ-loop
 add-j c = search needs
 
--- src/lib.rt:283:5
 loop-less : tie.Need-loop-less Inv-loop μ-loop
 loop-less c = omega (arith, c .before .before .before .loop-test .taken)
 
--- src/lib.rt:283:5
 loop-again : tie.Need-loop-again Inv-loop μ-loop
 loop-again c = ((omega (arith, c .before .before .before .before .loop .inv .0 .0), omega (arith, c .before .before .before .loop-test .taken)), marked-on (now (c .before .before .before .before .before .args .lf)) (c .before .before .before .before .before .args .neg) (c .before .before .before .before .before .args .from) (c .before .before .before .before .loop .j) (now (c .before .before .before .before .before .args .seen)) (c .before .before .before .before .loop .seen) _ _ (c .before .before .before .before .loop .inv .0 .0) (c .before .before .before .before .loop .inv .1) (c .before .turn .ensures) (c .index-of .ensures))
 
--- src/lib.rt:278:1
 returns : tie.Need-returns Inv-loop μ-loop
 returns c = let z : c .before .before .args .to ≡ c .before .loop .j = omega (arith, c .loop-test .left, c .before .loop .inv .0 .1) in rw z (c .before .loop .inv .1)
 

@@ -8,70 +8,49 @@ use denote.Ref.{now}
 use borrow.Author.Needs.{needs}
 use Rattle.conditions.proofs.mark_root.Statement.{statement}
 use Rattle.conditions.proofs.mark_root.Tie as tie
-use Rattle.conditions.proofs.mark_root.Reads as reads
-use Rattle.conditions.proofs.mark_root.Lts as lts
-use Rattle.conditions.proofs.has_list.Reads as has-list-reads
-use Rattle.conditions.proofs.mark.Reads as mark-reads
-use Rattle.conditions.proofs.mark_list.Reads as mark-list-reads
-use Rattle.memory.proofs.index_of.Reads as index-of-reads
 
--- src/lib.rt:302:9
 has-list-requires : tie.Need-has-list-requires
 has-list-requires c κs = search needs
 
--- src/lib.rt:303:9
 mark-requires : tie.Need-mark-requires
 mark-requires c κs = search needs
 
--- src/lib.rt:304:9
 returns : tie.Need-returns
 returns c = search needs
 
--- src/lib.rt:306:25
 add-index-of : tie.Need-add-index-of
 add-index-of c = let x = c .before .has-list .ensures (not-false _ (c .if1 .left)) in omega (arith, x .0 .0, c .before .before .pre)
 
--- src/lib.rt:306:22
 mul-index-of : tie.Need-mul-index-of
 mul-index-of c = let x = c .before .has-list .ensures (not-false _ (c .if1 .left)) in omega (arith, x .0 .0, c .before .before .pre)
 
--- src/lib.rt:306:22
 element-copy-out-index-of : tie.Need-element-copy-out-index-of
 element-copy-out-index-of c = let x = c .before .has-list .ensures (not-false _ (c .if1 .left)) in omega (arith, x .0 .0, c .before .before .pre)
 
--- src/lib.rt:306:9
 index-of-requires : tie.Need-index-of-requires
 index-of-requires c κs = search needs
 
--- src/lib.rt:307:25
 add-index-of-2 : tie.Need-add-index-of-2
 add-index-of-2 c = let x = c .before .before .before .has-list .ensures (not-false _ (c .before .before .if1 .left)) in omega (arith, x .1 .0, x .1 .1, c .index-of .ensures)
 
--- src/lib.rt:307:22
 mul-index-of-2 : tie.Need-mul-index-of-2
 mul-index-of-2 c = let x = c .before .before .before .has-list .ensures (not-false _ (c .before .before .if1 .left)) in omega (arith, x .1 .0, x .1 .1, c .index-of .ensures)
 
--- src/lib.rt:307:22
 element-copy-out-index-of-2 : tie.Need-element-copy-out-index-of-2
 element-copy-out-index-of-2 c = let x = c .before .before .before .has-list .ensures (not-false _ (c .before .before .if1 .left)) in omega (arith, x .1 .0, x .1 .1, c .index-of .ensures)
 
--- src/lib.rt:307:9
 index-of-requires-2 : tie.Need-index-of-requires-2
 index-of-requires-2 c κs = search needs
 
--- src/lib.rt:308:25
 add-mark-list : tie.Need-add-mark-list
 add-mark-list c = let x = c .before .before .before .before .before .before .has-list .ensures (not-false _ (c .before .before .before .before .before .if1 .left)) in omega (arith, x .1 .0, x .1 .1, c .before .before .before .index-of .ensures)
 
--- src/lib.rt:308:36
 add-mark-list-2 : tie.Need-add-mark-list-2
 add-mark-list-2 c = let x = c .before .before .before .before .before .before .has-list .ensures (not-false _ (c .before .before .before .before .before .if1 .left)) in let f = list-end (now (c .before .before .before .before .before .before .before .args .lf)) (c .before .before .before .before .before .before .before .args .i) _ _ (c .before .before .before .index-of .ensures) (c .before .index-of2 .ensures) in omega (arith, x .1 .1, f)
 
--- src/lib.rt:308:5
 mark-list-requires : tie.Need-mark-list-requires
 mark-list-requires c κs = let x = c .before .before .before .before .before .before .has-list .ensures (not-false _ (c .before .before .before .before .before .if1 .left)) in let f = list-end (now (c .before .before .before .before .before .before .before .args .lf)) (c .before .before .before .before .before .before .before .args .i) _ _ (c .before .before .before .index-of .ensures) (c .before .index-of2 .ensures) in (omega (arith, x .1 .0, f, c .before .before .before .index-of .ensures), omega (arith, x .1 .1, f))
 
--- src/lib.rt:291:1
 returns-2 : tie.Need-returns-2
 returns-2 c = let x = c .before .before .before .before .before .before .before .has-list .ensures (not-false _ (c .before .before .before .before .before .before .if1 .left)) in root-marked (now (c .before .before .before .before .before .before .before .before .args .ws)) (now (c .before .before .before .before .before .before .before .before .args .lf)) (c .before .before .before .before .before .before .before .before .args .n) (c .before .before .before .before .before .before .before .before .args .i) (c .before .before .before .before .before .before .before .before .args .neg) (now (c .before .before .before .before .before .before .before .before .args .seen)) _ _ _ (x .0 .0) (x .0 .1) (ap (λ k. 65537 + k) (c .before .before .before .before .index-of .ensures)) (ap (λ k. 65536 + k) (list-end (now (c .before .before .before .before .before .before .before .before .args .lf)) (c .before .before .before .before .before .before .before .before .args .i) _ _ (c .before .before .before .before .index-of .ensures) (c .before .before .index-of2 .ensures))) (c .mark-list .ensures)
 
