@@ -6,8 +6,10 @@ use Prim.Native.Nat.{ℕ, zero, suc, _+_, _*_, _-_, _/_, _%_, _≤_, _<_}
 use native.Mathlib.Numerals.{add-one}
 use native.Mathlib.Nat.{zero-add, suc-add, sub-add-cancel}
 use native.Mathlib.Omega.{arith}
+use native.Mathlib.Decide.{ℕ-discrete}
 use lib.Dec.{leb}
-use lib.ListN.{getD, length}
+use lib.ListN.{getD, set, length}
+use lib.Seq.{getD-set-same, getD-set-other}
 use lib.IntN.{ℤ, pos, negsuc}
 use lib.Signed.{mag}
 use borrow.Author.Tests.{le-leb, lt-leb, leb-true, leb-false}
@@ -22,6 +24,7 @@ use Rattle.shop.specs.declared.Added.{Added}
 use Rattle.keys.specs.Entries.{turned, entryCode, Valid, Keys}
 use Rattle.keys.specs.Turns.{turn-valid}
 use Rattle.conditions.specs.Sweep.{survives, sweepTo, asSet}
+use Rattle.conditions.specs.Filter.{Cleared}
 
 true≢false : true ≡ false → ⊥
 true≢false e = let z : _≡_ {A = ℕ} 0 1 = cc in omega arith
@@ -185,3 +188,19 @@ module _ (ks : List ℕ) (s : List Bool) (m : ℕ) where
 
     pub entry-at : (k : ℕ) → k ≡ turned true (j + 2) → Valid m k
     entry-at k e = rw e (turn-valid m (j + 2) true (record { low = omega arith; high = omega arith }))
+
+-- ---- the marks, cleared
+
+-- no entry below k is marked
+abbrev pub Unmarked : ℕ → List Bool → Type 0
+Unmarked k s = (j : ℕ) → 2 ≤ j → j < k → getD s j false ≡ false
+
+pub unmarked-on : (s : List Bool) (k : ℕ) → k < length s → Unmarked k s → Unmarked (k + 1) (set s k false)
+unmarked-on s k h f j l u = by (ℕ-discrete j k)
+  where
+    by : Dec (j ≡ k) → getD (set s k false) j false ≡ false
+    by (yes d) = rw d (getD-set-same s k false false h)
+    by (no d) = getD-set-other s k j false false d ∙ f j l (omega arith)
+
+pub unmarked-done : (m k : ℕ) (s : List Bool) → 2 * m + 2 ≤ k → length s ≡ 65536 → Unmarked k s → Cleared m s
+unmarked-done m k s l e f = record { long = e; none = λ j v. f j (v .low) (omega (arith, v .high)) }

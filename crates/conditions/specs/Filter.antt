@@ -6,10 +6,8 @@ use mathlib.Core.List.{List, [], _∷_, map}
 use Prim.Native.Nat.{ℕ, zero, suc, _+_, _*_, _-_, _/_, _≤_, _<_}
 use native.Mathlib.Omega.{arith}
 use native.Mathlib.Decide.{ℕ-discrete}
-use lib.ListN.{getD, replicate, length-replicate, getD-replicate, List·getD-eq-default}
-use lib.Dec.{ltb}
+use lib.ListN.{length, getD}
 use lib.IntN.{ℤ}
-use borrow.Author.Tests.{ltb-true, ltb-false}
 use Rattle.model.specs.Limits.{wide}
 use Rattle.model.specs.Expr.{Expr}
 use Rattle.model.specs.Requirement.{Requirement, haveItem, missingItem, haveAtc, missingAtc, haveFlag, missingFlag, sameReq, negateReq, insert, member, keep, settled, extend}
@@ -23,12 +21,13 @@ use Rattle.shop.specs.Sets.{insertCode}
 use Rattle.shop.specs.declared.Added.{Added}
 use Rattle.shop.specs.Codes.{Narrow, AllNarrow, insert-code, insert-narrow, code-narrow}
 use Rattle.expr.specs.Requirement.{negate-twice}
-use Rattle.keys.specs.Entries.{isHave, turned, entryCode, entryReq, Valid, Keys, Keyed}
+use Rattle.keys.specs.Entries.{isHave, turned, entryCode, entryReq, Valid, Keys}
 use Rattle.keys.specs.Turns.{by-parity, req-even, req-odd, turn-req, turn-valid}
 use Rattle.conditions.specs.Marks.{amongAll, Has, Stands, Gathers, conditionOf, ofChain}
 use Rattle.conditions.specs.MarkLaws.{stands-same}
 use Rattle.conditions.specs.Chains.{mem-gather}
 use Rattle.conditions.specs.Sweep.{survives, sweepTo, asSet, Negated}
+use Rattle.conditions.specs.Lists.{Lists, Listed}
 
 true≢false : true ≡ false → ⊥
 true≢false e = let z : _≡_ {A = ℕ} 0 1 = cc in omega arith
@@ -303,22 +302,19 @@ module _ (ks : List ℕ) (m : ℕ) (s : List Bool) (h : Sheet) (o : Option Expr)
 
 -- ---- the marks of a condition, from none
 
-abbrev pub noMarks : List Bool
-noMarks = replicate 65536 false
+-- no entry of m keys is marked
+pub record Cleared (m : ℕ) (s : List Bool) : Type 0 where
+  pub long : length s ≡ 65536
+  pub none : (k : ℕ) → Valid m k → getD s k false ≡ false
 
-no-mark : (k : ℕ) → getD noMarks k false ≡ false
-no-mark k = by (ltb k 65536) refl
-  where
-    by : (t : Bool) → ltb k 65536 ≡ t → getD noMarks k false ≡ false
-    by true e = getD-replicate 65536 k false false (ltb-true k 65536 e)
-    by false e = List·getD-eq-default noMarks false {n = k} (rw (length-replicate 65536 false) (ltb-false k 65536 e))
+stands-none : (ks : List ℕ) (m : ℕ) (s : List Bool) → Cleared m s → Stands ks m s (λ q. false)
+stands-none ks m s c = record { long = c .long; marks = λ k v. c .none k v; all = λ q e. absurd (true≢false (sym e)) }
 
-stands-none : (ks : List ℕ) (m : ℕ) → Stands ks m noMarks (λ q. false)
-stands-none ks m = record { long = length-replicate 65536 false; marks = λ k v. no-mark k; all = λ q e. absurd (true≢false (sym e)) }
-
-pub negated-condition : (ws ls cs : List ℕ) (n c : ℕ) (s t : List Bool) (ks : List ℕ) (m : ℕ) (r : Added) → s ≡ noMarks → Gathers ws ls n s t (ofChain n cs c) → r ≡ asSet (sweepTo ks t (2 * m) [])
-    → (h : Sheet) (vs : List ℤ) (k : ℕ) → Keyed h (nodesIn ws vs k) n ks ls m → Negated (parseRequirements h (conditionOf (nodesIn ws vs k) n cs c)) r
-negated-condition ws ls cs n c s t ks m r e g f h vs k kd =
-    let st = g h vs k ks m kd (λ q. false) (rw e (stands-none ks m)) in
+pub negated-condition : (ws ls cs : List ℕ) (n c : ℕ) (s t : List Bool) (ks : List ℕ) (m : ℕ) (r : Added) → Cleared m s
+    → ((top : ℕ) → Lists ws ls n top → Gathers ws ls n s t (ofChain n cs c)) → r ≡ asSet (sweepTo ks t (2 * m) [])
+    → (h : Sheet) (vs : List ℤ) (k : ℕ) → Listed h (nodesIn ws vs k) n ks ls m → Negated (parseRequirements h (conditionOf (nodesIn ws vs k) n cs c)) r
+negated-condition ws ls cs n c s t ks m r e g f h vs k ld =
+    let kd = ld .keyed in
+    let st = g (ld .top) (ld .lists) h vs k ks m kd (λ q. false) (stands-none ks m s e) in
     let o = conditionOf (nodesIn ws vs k) n cs c in
     record { is = f ∙ ap asSet (sweep-condition ks m t h o st (kd .keys)); narrow = parsed-narrow ks m t h o st }

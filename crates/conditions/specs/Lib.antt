@@ -4,3 +4,4 @@ pub mod Chains
 pub mod Sweep
 pub mod Filter
 pub mod Cells
+pub mod Lists

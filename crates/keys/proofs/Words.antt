@@ -295,11 +295,11 @@ pub record Filling (h : Sheet) (ns : Nodes) (n : ℕ) (ls ks kd : List ℕ) (m i
   pub low : i ≤ n
   pub most : n ≤ 32768
   pub few : m ≤ i - 1
-  pub long : length ls ≡ 32768
+  pub long : length ls ≡ 98304
   pub table : Table ks kd m
   pub words : Words h ns i ks ls m
 
-pub filling-start : (h : Sheet) (ns : Nodes) (n : ℕ) (ls ks kd : List ℕ) → n ≤ 32768 → length ls ≡ 32768 → Table ks kd 0 → Filling h ns n ls ks kd 0 0
+pub filling-start : (h : Sheet) (ns : Nodes) (n : ℕ) (ls ks kd : List ℕ) → n ≤ 32768 → length ls ≡ 98304 → Table ks kd 0 → Filling h ns n ls ks kd 0 0
 filling-start h ns n ls ks kd p q t = record { low = omega arith; most = p; few = omega arith; long = q; table = t; words = λ j u. absurd (omega arith) }
 
 pub filling-on : (h : Sheet) (ns : Nodes) (n : ℕ) (ls ks kd : List ℕ) (m i : ℕ) (ks' kd' : List ℕ) (r : Word) → Filling h ns n ls ks kd m i → i < n → Worded h ns i ks m ks' kd' r

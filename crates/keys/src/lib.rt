@@ -231,7 +231,7 @@ fn compared(k: Kind, s: u64, x: u16) -> u16
 }
 
 // The word of node i as an operand of node b.
-fn word_below(lf: &[u16; 32768], b: usize, i: usize) -> u16
+fn word_below(lf: &[u16; 98304], b: usize, i: usize) -> u16
     requires { ⌜ b ≤ 32768 ⌝ }
     ensures { λ r. ⌜ r ≡ cond (ltb i b) (getD (now (lf .entry)) i 0) 0 ⌝ }
 {
@@ -252,7 +252,7 @@ fn read_at(ws: &[u16; 98304], val: &[i32; 32768], items: u16, atcs: u16, i: usiz
 }
 
 // The word of node i where it reads no subject, the words below it being written.
-fn compare_at(ws: &[u16; 98304], val: &[i32; 32768], lf: &[u16; 32768], i: usize) -> u16
+fn compare_at(ws: &[u16; 98304], val: &[i32; 32768], lf: &[u16; 98304], i: usize) -> u16
     requires { ⌜ i < 32768 ⌝ }
     ensures { λ r. ⌜ ((h : Sheet) (ks : List ℕ) (m n : ℕ) → Words h (nodesIn (now (ws .entry)) (now (val .entry)) n) i ks (now (lf .entry)) m → Leaf ks m r (comparedAt h (nodesIn (now (ws .entry)) (now (val .entry)) n) i)) ⌝ }
 {
@@ -266,7 +266,7 @@ fn compare_at(ws: &[u16; 98304], val: &[i32; 32768], lf: &[u16; 32768], i: usize
 fn word_at(
     ws: &[u16; 98304],
     val: &[i32; 32768],
-    lf: &[u16; 32768],
+    lf: &[u16; 98304],
     keys: &mut [u64; 32768],
     kids: &mut [u16; 65536],
     items: u16,
@@ -291,8 +291,8 @@ fn word_at(
     }
 }
 
-fn known_words(a: &[u16; 32768]) -> usize
-    ensures { λ _. ⌜ length (now (a .entry)) ≡ 32768 ⌝ }
+fn known_words(a: &[u16; 98304]) -> usize
+    ensures { λ _. ⌜ length (now (a .entry)) ≡ 98304 ⌝ }
 {
     let s: &[u16] = a;
     s.len()
@@ -302,7 +302,7 @@ fn known_words(a: &[u16; 32768]) -> usize
 fn fill_words(
     ws: &[u16; 98304],
     val: &[i32; 32768],
-    lf: &mut [u16; 32768],
+    lf: &mut [u16; 98304],
     keys: &mut [u64; 32768],
     kids: &mut [u16; 65536],
     items: u16,
@@ -328,7 +328,7 @@ fn fill_words(
 pub fn key_nodes(
     ws: &[u16; 98304],
     val: &[i32; 32768],
-    lf: &mut [u16; 32768],
+    lf: &mut [u16; 98304],
     keys: &mut [u64; 32768],
     items: u16,
     atcs: u16,

@@ -28,7 +28,7 @@ use Rattle.scan.specs.AllSlots.{slotsThen, SlotsUpdated}
 use Rattle.scan.specs.declared.VarTable.{VarTable}
 use Rattle.scan.specs.declared.Scanned.{Scanned}
 use Rattle.scan.specs.declared.Updated.{Updated}
-use Rattle.keys.specs.Entries.{Keyed}
+use Rattle.conditions.specs.Lists.{Listed}
 use Rattle.conditions.specs.Marks.{conditionOf}
 use Rattle.visit.specs.State.{stateOf, conditionIn, scanIn, stateAfter, Open, KeyedIn, Entered}
 use Rattle.scan.specs.LastIf.{lastIf}
@@ -92,11 +92,11 @@ module _ {m : Memory} {marks : List Bool} {w : Walk} {b c : ℕ} (o : Open m mar
 
 -- the requirements of the condition, the counts being as the call has them
 pub hidden-at : (h : Sheet) (m : Memory) (cells : List ℕ) (c : ℕ) (keys leaves : List ℕ) (k : ℕ) (t : VarTable) (a : Added) → KeyedIn h m keys leaves k → (n d : ℕ) → n ≡ m .coded .nodes .count → d ≡ c
-    → (Keyed h (m .coded .nodes) n keys leaves k → Hidden h (parseRequirements h (conditionOf (m .coded .nodes) n cells d)) t a) → Hidden h (parseRequirements h (conditionIn m cells c)) t a
+    → (Listed h (m .coded .nodes) n keys leaves k → Hidden h (parseRequirements h (conditionOf (m .coded .nodes) n cells d)) t a) → Hidden h (parseRequirements h (conditionIn m cells c)) t a
 hidden-at h m cells c keys leaves k t a kd n d e f g =
     subst (λ x. Hidden h (parseRequirements h (conditionOf (m .coded .nodes) x cells c)) t a) e
     (subst (λ x. Hidden h (parseRequirements h (conditionOf (m .coded .nodes) n cells x)) t a) f
-    (g (subst (λ x. Keyed h (m .coded .nodes) x keys leaves k) (sym e) kd)))
+    (g (subst (λ x. Listed h (m .coded .nodes) x keys leaves k) (sym e) kd)))
 
 -- ---- the visit
 

@@ -15,9 +15,9 @@ use Rattle.model.specs.Record.{judgedRecord}
 use Rattle.model.specs.Parse.{State, Scan, scanned, visited}
 use Rattle.shop.specs.Shapes.{slotsOf}
 use Rattle.scan.specs.Slots.{GoodShop}
-use Rattle.keys.specs.Entries.{Keyed}
 use Rattle.conditions.specs.Marks.{conditionOf}
 use Rattle.conditions.specs.Cells.{SameCells}
+use Rattle.conditions.specs.Lists.{Listed}
 use Rattle.visit.specs.declared.Walk.{Walk}
 use Rattle.visit.specs.declared.Visited.{Visited}
 
@@ -55,9 +55,9 @@ pub record Open (m : Memory) (marks : List Bool) (w : Walk) (b c : ℕ) : Type 0
   pub low : c ≤ 2 * w .cells
   pub good : GoodShop (w .shop)
 
--- the keys of the record's requirements, as key_nodes leaves them
+-- the keys of the record's requirements and the lists of its roots, as key_nodes and flatten_roots leave them
 abbrev pub KeyedIn : Sheet → Memory → List ℕ → List ℕ → ℕ → Type 0
-KeyedIn h m keys leaves n = Keyed h (m .coded .nodes) (m .coded .nodes .count) keys leaves n
+KeyedIn h m keys leaves n = Listed h (m .coded .nodes) (m .coded .nodes .count) keys leaves n
 
 -- what it leaves; where it refuses only the answer counts
 pub record Entered (h : Sheet) (m : Memory) (marks : List Bool) (cells : List ℕ) (w : Walk) (b c : ℕ) (marks′ : List Bool) (cells′ : List ℕ) (r : Visited) : Type 0 where

@@ -11,9 +11,10 @@ ghost use Rattle.model.specs.Memory.{memoryIn, nodesIn};
 ghost use Rattle.model.specs.Parse.{parseRequirements};
 ghost use Rattle.scan.specs.Reads.{shortIs};
 ghost use Rattle.scan.specs.Slots.{GoodShop};
-ghost use Rattle.keys.specs.Entries.{Keys, Keyed};
+ghost use Rattle.keys.specs.Entries.{Keys};
 ghost use Rattle.conditions.specs.Marks.{conditionOf};
 ghost use Rattle.conditions.specs.Cells.{withCell};
+ghost use Rattle.conditions.specs.Lists.{Listed};
 ghost use Rattle.visit.specs.State.{Open, KeyedIn, Entered};
 ghost use Rattle.visit.specs.Hiding.{hidesBy, Shown, Hidden, noneHidden};
 ghost use Rattle.visit.specs.Ways.{Joined};
@@ -140,7 +141,7 @@ fn none_hidden() -> Added
 // The negated requirements of the condition c as a set. They are collected only where the block hides a slot: elsewhere none will do.
 fn hidden_of(
     ws: &[u16; 98304],
-    lf: &[u16; 32768],
+    lf: &[u16; 98304],
     cells: &[u16; 8192],
     keys: &[u64; 32768],
     seen: &mut [bool; 65536],
@@ -150,7 +151,7 @@ fn hidden_of(
     t: VarTable,
 ) -> Added
     requires { ⌜ ((n ≤ 32768) × (c ≤ 8192)) × ((keyed < 32768) × Keys (now keys) keyed) ⌝ }
-    ensures { λ r. ⌜ (r .reqs .len ≤ entryLimit) × ((h : Sheet) (vs : List ℤ) (k : ℕ) → Keyed h (nodesIn (now (ws .entry)) vs k) n (now (keys .entry)) (now (lf .entry)) keyed → Hidden h (parseRequirements h (conditionOf (nodesIn (now (ws .entry)) vs k) n (now (cells .entry)) c)) t r) ⌝ }
+    ensures { λ r. ⌜ (r .reqs .len ≤ entryLimit) × ((h : Sheet) (vs : List ℤ) (k : ℕ) → Listed h (nodesIn (now (ws .entry)) vs k) n (now (keys .entry)) (now (lf .entry)) keyed → Hidden h (parseRequirements h (conditionOf (nodesIn (now (ws .entry)) vs k) n (now (cells .entry)) c)) t r) ⌝ }
 {
     if !hides(t) {
         return none_hidden();
@@ -198,7 +199,7 @@ pub fn visit(
     val: &[i32; 32768],
     cw: &[u16; 65536],
     bw: &[u16; 20480],
-    lf: &[u16; 32768],
+    lf: &[u16; 98304],
     keys: &[u64; 32768],
     seen: &mut [bool; 65536],
     marks: &mut [bool; 4096],

@@ -5,7 +5,7 @@ use mathlib.Core.Option.{none}
 use mathlib.Core.List.{List, [], _∷_, map}
 use Prim.Native.Nat.{ℕ, zero, suc, _≤_}
 use native.Mathlib.Omega.{arith}
-use lib.IntN.{pos}
+use lib.IntN.{ℤ, pos}
 use lib.ListN.{length, getD, take, replicate, length-replicate}
 use Rattle.model.specs.Limits.{slotCount}
 use Rattle.model.specs.Sheet.{Sheet, itemCount}
@@ -17,6 +17,7 @@ use Rattle.memory.specs.Transfer.{blocks-counted}
 use Rattle.shop.specs.Shapes.{slotOf, slotsOf, noShop, entries}
 use Rattle.scan.specs.Slots.{good-start}
 use Rattle.keys.specs.Entries.{Keyed}
+use Rattle.conditions.specs.Lists.{Listed}
 use Rattle.keys.specs.Reads.{sheetBy}
 use Rattle.conditions.specs.Marks.{conditionTo, conditionOf}
 use Rattle.keys.specs.Sheets.{keyed-for}
@@ -89,13 +90,17 @@ module _ (m : Memory) (k : ℕ) (few : m .count ≤ k) (stack : List ℕ) (none-
 
 -- ---- keys: for every sheet of so many items and atcs
 
-module _ (items atcs : ℕ) (ns : Nodes) (keys leaves : List ℕ) (i n : ℕ) (e : i ≡ ns .count)
-    (q : (c : ℕ) → Keyed (sheetBy items atcs) (nodesIn (ns .words) (ns .values) c) i keys leaves n) where
-  pub by-counts : Keyed (sheetBy items atcs) ns (ns .count) keys leaves n
-  by-counts = subst (λ j. Keyed (sheetBy items atcs) ns j keys leaves n) e (q (ns .count))
+module _ (items atcs : ℕ) (ns : Nodes) (keys leaves lists : List ℕ) (i n : ℕ) (e : i ≡ ns .count)
+    (q : (c : ℕ) → Keyed (sheetBy items atcs) (nodesIn (ns .words) (ns .values) c) i keys leaves n)
+    (l : (h : Sheet) (vs : List ℤ) (c : ℕ) (ks : List ℕ) (m : ℕ) → Keyed h (nodesIn (ns .words) vs c) i ks leaves m → Listed h (nodesIn (ns .words) vs c) i ks lists m) where
+  listed : (h : Sheet) → Keyed h ns i keys leaves n → Listed h ns (ns .count) keys lists n
+  listed h k = subst (λ j. Listed h ns j keys lists n) e (l h (ns .values) (ns .count) keys n k)
 
-  pub keyed-in : (h : Sheet) → itemCount h ≡ items → h .atcCount ≡ atcs → Keyed h ns (ns .count) keys leaves n
-  keyed-in h p r = keyed-for h ns (ns .count) keys leaves n (rw (p, r) by-counts)
+  pub by-counts : Listed (sheetBy items atcs) ns (ns .count) keys lists n
+  by-counts = listed (sheetBy items atcs) (q (ns .count))
+
+  pub keyed-in : (h : Sheet) → itemCount h ≡ items → h .atcCount ≡ atcs → Listed h ns (ns .count) keys lists n
+  keyed-in h p r = listed h (keyed-for h ns i keys leaves n (rw (p, r) (q (ns .count))))
 
 pub keying : (items atcs : ℕ) (m : Memory) (keys leaves : List ℕ) (n : ℕ) → KeyedIn (sheetBy items atcs) m keys leaves n → Keying items m keys leaves n
 keying items atcs m keys leaves n q = record { sheet = sheetBy items atcs; count = length-replicate items none; keyed = q }

@@ -9,6 +9,7 @@ ghost use Rattle.model.specs.Refusal.{parseNotCode};
 ghost use Rattle.visit.specs.State.{Accepted, KeyedIn};
 ghost use Rattle.walk.specs.Dfs.{entry, to};
 ghost use Rattle.walk.specs.Walks.{Walked, Keying, Ready, Came, startWalk, isCodeAt, topOf, ways, Pushed, walksIn};
+use conditions::flatten_roots;
 use keys::key_nodes;
 use memory::Counts;
 use memory::index_of;
@@ -111,7 +112,7 @@ fn walk_all(
     val: &[i32; 32768],
     cw: &[u16; 65536],
     bw: &[u16; 20480],
-    lf: &[u16; 32768],
+    lf: &[u16; 98304],
     keys: &[u64; 32768],
     seen: &mut [bool; 65536],
     marks: &mut [bool; 4096],
@@ -170,7 +171,7 @@ fn walk_from(
     val: &[i32; 32768],
     cw: &[u16; 65536],
     bw: &[u16; 20480],
-    lf: &[u16; 32768],
+    lf: &[u16; 98304],
     keys: &[u64; 32768],
     k: Counts,
     keyed: u16,
@@ -218,8 +219,10 @@ pub fn walk(
     requires { ⌜ Accepted (memoryIn (now ws) (now val) (now cw) (now bw) (k .nodes) (k .commands) (k .blocks)) × (setup < k .blocks) ⌝ }
     ensures { λ r. ⌜ ((h : Sheet) → itemCount h ≡ items → h .atcCount ≡ atcs → Walked h (memoryIn (now (ws .entry)) (now (val .entry)) (now (cw .entry)) (now (bw .entry)) (k .nodes) (k .commands) (k .blocks)) setup r) ⌝ }
 {
-    let mut lf = [0u16; 32768];
+    let mut lf = [0u16; 98304];
     let mut keys = [0u64; 32768];
-    let keyed = key_nodes(ws, val, &mut lf, &mut keys, items, atcs, index_of(k.nodes));
+    let n = index_of(k.nodes);
+    let keyed = key_nodes(ws, val, &mut lf, &mut keys, items, atcs, n);
+    flatten_roots(ws, cw, bw, &mut lf, n, index_of(k.blocks));
     walk_from(ws, val, cw, bw, &lf, &keys, k, keyed, items, setup)
 }

@@ -1,7 +1,7 @@
--- The keys hold for every sheet of so many items and atcs. Assumes nothing.
-use native.Mathlib.Omega.{arith}
-use Rattle.walk.proofs.Turns.{few-nodes}
+-- The keys and the lists hold for every sheet of so many items and atcs. Assumes nothing.
+use Rattle.walk.proofs.Turns.{few-blocks, few-nodes}
 use Rattle.walk.proofs.Starts.{by-counts, keying, keyed-in}
+use native.Mathlib.Omega.{arith}
 use borrow.Author.Needs.{needs}
 use Rattle.walk.proofs.walk.Statement.{statement}
 use Rattle.walk.proofs.walk.Tie as tie
@@ -10,13 +10,27 @@ index-of-requires : tie.Need-index-of-requires
 index-of-requires c κs = search needs
 
 key-nodes-requires : tie.Need-key-nodes-requires
-key-nodes-requires c κs = let n = few-nodes _ (c .before .before .before .pre .0) in omega (arith, c .index-of .ensures)
+key-nodes-requires c κs = let n = few-nodes _ (c .before .before .before .pre .0) in omega (arith, c .before .before .index-of .ensures)
+
+index-of-requires-2 : tie.Need-index-of-requires-2
+index-of-requires-2 c κs = search needs
+
+flatten-roots-requires : tie.Need-flatten-roots-requires
+flatten-roots-requires c κs = let n = few-nodes _ (c .before .before .before .before .before .before .pre .0) in let b = few-blocks _ (c .before .before .before .before .before .before .pre .0) in (omega (arith, c .before .before .before .before .before .index-of .ensures), omega (arith, c .index-of2 .ensures))
 
 walk-from-requires : tie.Need-walk-from-requires
-walk-from-requires c κs = let a = c .before .before .before .before .before .before in (keying (a .args .items) (a .args .atcs) _ _ _ _ (by-counts (a .args .items) (a .args .atcs) _ _ _ _ _ (c .before .before .before .index-of .ensures) (c .before .before .key-nodes .ensures)), a .pre .0)
+walk-from-requires c κs = let a = c .before .before .before .before .before .before .before .before .before in (keying (a .args .items) (a .args .atcs) _ _ _ _ (by-counts (a .args .items) (a .args .atcs) _ _ _ _ _ _ (c .before .before .before .before .before .before .before .before .index-of .ensures) (c .before .before .before .before .before .key-nodes .ensures) (c .before .before .flatten-roots .ensures)), a .pre .0)
 
 returns : tie.Need-returns
-returns c = λ h e f. c .walk-from .ensures h e (keyed-in _ _ _ _ _ _ _ (c .before .before .before .before .index-of .ensures) (c .before .before .before .key-nodes .ensures) h e f)
+returns c = λ h e f. c .walk-from .ensures h e (keyed-in _ _ _ _ _ _ _ _ (c .before .before .before .before .before .before .before .before .before .index-of .ensures) (c .before .before .before .before .before .before .key-nodes .ensures) (c .before .before .before .flatten-roots .ensures) h e f)
 
 pub walk-spec : {M : Type 1} → statement M
-walk-spec = tie.close (tie.spec index-of-requires key-nodes-requires walk-from-requires returns)
+walk-spec =
+    tie.close
+    (tie.spec
+    index-of-requires
+    key-nodes-requires
+    index-of-requires-2
+    flatten-roots-requires
+    walk-from-requires
+    returns)

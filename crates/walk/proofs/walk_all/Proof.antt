@@ -75,7 +75,7 @@ visit-requires c κs =
     let y = c .before .before .before .before in
     let a = y .before .before .before .before .before .before .before .before .loop in
     let s = y .before .before .before .before .before .before .before .before .before .pre .0 in
-    ((s .keyed .most, s .keyed .keys), opens (a .inv .0) (y .before .before .before .before .top-unmarked .ensures) (y .before .before .before .if1 .left) refl refl (is-code _ _ (sym (y .before .is-code .ensures) ∙ not-false _ (y .if2 .left))))
+    ((s .keyed .keyed .most, s .keyed .keyed .keys), opens (a .inv .0) (y .before .before .before .before .top-unmarked .ensures) (y .before .before .before .if1 .left) refl refl (is-code _ _ (sym (y .before .is-code .ensures) ∙ not-false _ (y .if2 .left))))
 
 returns-3 : tie.Need-returns-3 Inv-loop μ-loop
 returns-3 c =

@@ -1,0 +1,49 @@
+-- `conditions::flatten_roots` meets its contract: each block leaves the lists that there were. Assumes nothing.
+use Prim.Native.Nat.{_-_, _≤_}
+use Rattle.conditions.proofs.Flattening.{Flat, flat-start, flat-on, flat-done}
+use native.Mathlib.Omega.{arith}
+use denote.Ref.{now}
+use borrow.Author.Needs.{needs}
+use Rattle.conditions.proofs.flatten_roots.Statement.{statement}
+use Rattle.conditions.proofs.flatten_roots.Tie as tie
+
+abbrev Inv-loop : tie.InvT-loop
+Inv-loop ws cw bw lf₀ n blocks at₀ b₀ lf at b = (b ≤ blocks) × Flat ws n lf₀ lf at
+
+abbrev μ-loop : tie.MeasureT-loop
+μ-loop ws cw bw lf₀ n blocks at₀ b₀ lf at b = blocks - b
+
+clear-starts-requires : tie.Need-clear-starts-requires Inv-loop μ-loop
+clear-starts-requires c κs = search needs
+
+loop-holds : tie.Need-loop-holds Inv-loop μ-loop
+loop-holds c = (omega arith, flat-start _ _ _ _ _ (c .clear-starts .ensures))
+
+flatten-block-requires : tie.Need-flatten-block-requires Inv-loop μ-loop
+flatten-block-requires c κs = search needs
+
+add-b : tie.Need-add-b Inv-loop μ-loop
+add-b c = search needs
+
+loop-less : tie.Need-loop-less Inv-loop μ-loop
+loop-less c = omega (arith, c .before .before .loop-test .taken)
+
+loop-again : tie.Need-loop-again Inv-loop μ-loop
+loop-again c = (omega (arith, c .before .before .loop-test .taken), flat-on _ _ _ _ _ _ _ (c .before .before .before .loop .inv .1) (c .flatten-block .ensures))
+
+returns : tie.Need-returns Inv-loop μ-loop
+returns c = flat-done (now (c .before .before .before .before .args .ws)) (now (c .before .before .before .before .args .lf)) (c .before .before .before .before .args .n) _ (c .before .loop .lf) (c .before .loop .at) (c .before .before .before .before .pre .0) (c .before .before .clear-starts .ensures) (c .before .loop .inv .1)
+
+pub flatten-roots-spec : {M : Type 1} → statement M
+flatten-roots-spec =
+    tie.close
+    (tie.spec
+    Inv-loop
+    μ-loop
+    clear-starts-requires
+    loop-holds
+    flatten-block-requires
+    add-b
+    loop-less
+    loop-again
+    returns)
