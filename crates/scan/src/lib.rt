@@ -16,6 +16,7 @@ ghost use Rattle.model.specs.Expr.{Expr};
 ghost use Rattle.model.specs.Memory.{Nodes, nodesIn, codedIn, tree, commandIn, commandsIn};
 ghost use Rattle.model.specs.Parse.{value, place, isSubtract, limitIn, itemIndex, newLimit, written, putAt, evaluateSet, scanOne, scan, fillItem, newCount};
 ghost use Rattle.shop.specs.Shapes.{itemOf};
+ghost use Rattle.shop_arrays.specs.Arrays.{arraysIn, shopFrom};
 ghost use Rattle.expr.specs.Tree.{treeBelow};
 ghost use Rattle.expr.specs.Requirement.{numberOf};
 ghost use Rattle.scan.specs.Table.{itemsOf, countsOf};
@@ -34,9 +35,10 @@ use model::Op1;
 use model::Op2;
 use shop::Added;
 use shop::Reqs;
-use shop::Shop;
 use shop::Slot;
 use shop::SlotItem;
+use shop_arrays::put_slot;
+use shop_arrays::slot_at;
 
 // The variables that a block wrote, each where the bit of its slot is set.
 pub struct VarTable {
@@ -71,12 +73,6 @@ pub enum Target {
 pub struct Changed {
     pub ok: bool,
     pub slot: Slot,
-}
-
-// The slots after a block; not ok, and the slots as they were, where one would have a 33rd requirement.
-pub struct Updated {
-    pub ok: bool,
-    pub shop: Shop,
 }
 
 // ---- the table
@@ -482,32 +478,33 @@ fn update_slot(slot: Slot, items: u16, item: Short, count: Short, hidden: Added)
     }
 }
 
-// The slots that the block wrote to, the lowest first. items is how many the sheet has.
-pub fn update_slots(shop: Shop, items: u16, t: VarTable, hidden: Added) -> Updated
-    requires { ⌜ (hidden .reqs .len ≤ entryLimit) × GoodShop shop ⌝ }
-    ensures { λ r. ⌜ SlotsUpdated shop items t hidden r ⌝ }
+// The slots that the block wrote to, the lowest first. known is how many items the sheet has. False where a slot would have a 33rd requirement.
+pub fn update_slots(
+    items: &mut [i32; 20],
+    limits: &mut [i16; 20],
+    codes: &mut [u64; 640],
+    lens: &mut [u8; 20],
+    known: u16,
+    t: VarTable,
+    hidden: Added,
+) -> bool
+    requires { ⌜ (hidden .reqs .len ≤ entryLimit) × GoodShop (shopFrom (arraysIn (now items) (now limits) (now codes) (now lens))) ⌝ }
+    ensures { λ r. ⌜ SlotsUpdated (shopFrom (arraysIn (now (items .entry)) (now (limits .entry)) (now (codes .entry)) (now (lens .entry)))) known t hidden r (shopFrom (arraysIn (now (items .exit)) (now (limits .exit)) (now (codes .exit)) (now (lens .exit)))) ⌝ }
 {
-    let mut out = shop;
     let mut at = 0;
     while at < 20 {
         let i = next_touched(t, at);
         if 20 <= i {
-            return Updated {
-                ok: true,
-                shop: out,
-            };
+            return true;
         }
-        let slot = out.slots[i];
-        let a = update_slot(slot, items, item_at(t, i), count_at(t, i), hidden);
+        let slot = slot_at(items, limits, codes, lens, i);
+        let a = update_slot(slot, known, item_at(t, i), count_at(t, i), hidden);
         if !a.ok {
-            return Updated { ok: false, shop };
+            return false;
         }
         let changed = a.slot;
-        out.slots[i] = changed;
+        put_slot(items, limits, codes, lens, i, changed);
         at = i + 1;
     }
-    Updated {
-        ok: true,
-        shop: out,
-    }
+    true
 }
