@@ -284,8 +284,7 @@ fn limit_after(ws: &[u16; 98304], val: &[i32; 32768], v: u16, limit: i16) -> i16
 // As evaluate_set: t and v are the roots of target and value.
 fn evaluate_set(ws: &[u16; 98304], val: &[i32; 32768], t: u16, v: u16, s: Scanned) -> Scanned
     requires { ⌜ ReadySet (now ws) (now val) t v ⌝ }
-    ensures { λ r. ⌜ ((n : ℕ) (c : Option Expr) → scanOf (nodesIn (now (ws .entry)) (now (val .entry)) n) c r ≡ evaluateSet (place (value (tree (nodesIn (now (ws .entry)) (now (val .entry)) n) t))) (tree (nodesIn (now (ws .entry)) (now (val .entry)) n) v) (scanOf (nodesIn (now (ws .entry)) (now (val .entry)) n) c s)) ⌝ }
-    ensures { λ r. ⌜ r .«last_if» ≡ s .«last_if» ⌝ }
+    ensures { λ r. ⌜ ((n : ℕ) (c : Option Expr) → scanOf (nodesIn (now (ws .entry)) (now (val .entry)) n) c r ≡ evaluateSet (place (value (tree (nodesIn (now (ws .entry)) (now (val .entry)) n) t))) (tree (nodesIn (now (ws .entry)) (now (val .entry)) n) v) (scanOf (nodesIn (now (ws .entry)) (now (val .entry)) n) c s)) × (r .«last_if» ≡ s .«last_if») ⌝ }
 {
     let target = target_of(number_below(ws, val, 32768, t));
     let table = s.table;
@@ -312,8 +311,7 @@ fn evaluate_set(ws: &[u16; 98304], val: &[i32; 32768], t: u16, v: u16, s: Scanne
 // Command c. A later If takes the place of an earlier one.
 fn scan_one(ws: &[u16; 98304], val: &[i32; 32768], cw: &[u16; 65536], c: u16, s: Scanned) -> Scanned
     requires { ⌜ ReadyCommand (now ws) (now val) (now cw) c ⌝ }
-    ensures { λ r. ⌜ ((n m : ℕ) (e : Option Expr) → scanOf (nodesIn (now (ws .entry)) (now (val .entry)) n) e r ≡ scanOne e (commandIn (codedIn (now (ws .entry)) (now (val .entry)) (now (cw .entry)) n m) c) (scanOf (nodesIn (now (ws .entry)) (now (val .entry)) n) e s)) ⌝ }
-    ensures { λ r. ⌜ r .«last_if» ≡ lastAt (now (cw .entry)) c (s .«last_if») ⌝ }
+    ensures { λ r. ⌜ ((n m : ℕ) (e : Option Expr) → scanOf (nodesIn (now (ws .entry)) (now (val .entry)) n) e r ≡ scanOne e (commandIn (codedIn (now (ws .entry)) (now (val .entry)) (now (cw .entry)) n m) c) (scanOf (nodesIn (now (ws .entry)) (now (val .entry)) n) e s)) × (r .«last_if» ≡ lastAt (now (cw .entry)) c (s .«last_if»)) ⌝ }
 {
     let i = c as usize;
     let code = cw[4 * i];
@@ -337,8 +335,7 @@ fn scan_one(ws: &[u16; 98304], val: &[i32; 32768], cw: &[u16; 65536], c: u16, s:
 
 // Before any command.
 fn nothing_yet(limit: i16) -> Scanned
-    ensures { λ r. ⌜ ((ns : Nodes) (e : Option Expr) → scanOf ns e r ≡ freshScan limit) ⌝ }
-    ensures { λ r. ⌜ r .«last_if» ≡ 0 ⌝ }
+    ensures { λ r. ⌜ ((ns : Nodes) (e : Option Expr) → scanOf ns e r ≡ freshScan limit) × (r .«last_if» ≡ 0) ⌝ }
 {
     let table = VarTable {
         item_mask: 0,
@@ -363,8 +360,7 @@ pub fn scan_block(
     limit: i16,
 ) -> Scanned
     requires { ⌜ Ready (now ws) (now val) (now cw) held first ⌝ }
-    ensures { λ r. ⌜ ((n m : ℕ) (e : Option Expr) → scanOf (nodesIn (now (ws .entry)) (now (val .entry)) n) e r ≡ scan e (commandsIn (codedIn (now (ws .entry)) (now (val .entry)) (now (cw .entry)) n m) held first) (freshScan limit)) ⌝ }
-    ensures { λ r. ⌜ r .«last_if» ≡ lastIf (now (cw .entry)) held first ⌝ }
+    ensures { λ r. ⌜ ((n m : ℕ) (e : Option Expr) → scanOf (nodesIn (now (ws .entry)) (now (val .entry)) n) e r ≡ scan e (commandsIn (codedIn (now (ws .entry)) (now (val .entry)) (now (cw .entry)) n m) held first) (freshScan limit)) × (r .«last_if» ≡ lastIf (now (cw .entry)) held first) ⌝ }
 {
     let mut s = nothing_yet(limit);
     let mut left = held;
