@@ -13,10 +13,10 @@ key-nodes-requires : tie.Need-key-nodes-requires
 key-nodes-requires c κs = let n = few-nodes _ (c .before .before .before .pre .0) in omega (arith, c .index-of .ensures)
 
 walk-from-requires : tie.Need-walk-from-requires
-walk-from-requires c κs = let a = c .before .before .before .before .before .before in (keying (a .args .items) (a .args .atcs) _ _ _ _ (by-counts (a .args .items) (a .args .atcs) _ _ _ _ _ (c .before .before .before .index-of .ensures) (c .before .before .key-nodes .ensures)), a .pre .0)
+walk-from-requires c κs = let a = c .before .before .before .before .before .before .before .before .before .before in (keying (a .args .known) (a .args .atcs) _ _ _ _ (by-counts (a .args .known) (a .args .atcs) _ _ _ _ _ (c .before .before .before .before .before .before .before .index-of .ensures) (c .before .before .before .before .before .before .key-nodes .ensures)), (a .pre .0, a .pre .1 .1))
 
 returns : tie.Need-returns
-returns c = λ h e f. c .walk-from .ensures h e (keyed-in _ _ _ _ _ _ _ (c .before .before .before .before .index-of .ensures) (c .before .before .before .key-nodes .ensures) h e f)
+returns c = λ h e f. c .walk-from .ensures h e (keyed-in _ _ _ _ _ _ _ (c .before .before .before .before .before .before .before .before .index-of .ensures) (c .before .before .before .before .before .before .before .key-nodes .ensures) h e f)
 
 pub walk-spec : {M : Type 1} → statement M
 walk-spec = tie.close (tie.spec index-of-requires key-nodes-requires walk-from-requires returns)
