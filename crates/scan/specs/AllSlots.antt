@@ -21,11 +21,10 @@ use Rattle.shop.specs.declared.Slot.{Slot}
 use Rattle.shop.specs.declared.Shop.{Shop}
 use Rattle.shop.specs.declared.Added.{Added}
 use Rattle.scan.specs.Bits.{none-between, or-none}
-use Rattle.scan.specs.Table.{itemsOf, countsOf, present-long, absent}
+use Rattle.scan.specs.Table.{itemsOf, countsOf, present-long, absent, no-bit}
 use Rattle.scan.specs.Slots.{beyond, GoodSlot, GoodShop, Stands, Became, own-few}
 use Rattle.scan.specs.declared.VarTable.{VarTable}
 use Rattle.scan.specs.declared.Changed.{Changed}
-use Rattle.scan.specs.declared.Updated.{Updated}
 
 -- ---- all slots
 
@@ -47,15 +46,15 @@ pub record Halfway (shop : Shop) (items : ℕ) (t : VarTable) (hidden : Added) (
 abbrev pub slotsThen : Sheet → List Requirement → VarTable → Shop → List Shop.Slot
 slotsThen h rs t s = updateSlots h rs (itemsOf t) (countsOf t) (slotsOf s)
 
-pub record UpdatedBy (h : Sheet) (rs : List Requirement) (shop : Shop) (t : VarTable) (r : Updated) : Type 0 where
-  pub ok : r .ok ≡ all fewEntries (slotsThen h rs t shop)
-  pub is : r .ok ≡ true → slotsOf (r .shop) ≡ slotsThen h rs t shop
-  pub good : r .ok ≡ true → GoodShop (r .shop)
+-- where r is false a slot would have a 33rd requirement, and the slots out do not count
+pub record UpdatedBy (h : Sheet) (rs : List Requirement) (shop : Shop) (t : VarTable) (r : Bool) (out : Shop) : Type 0 where
+  pub ok : r ≡ all fewEntries (slotsThen h rs t shop)
+  pub is : r ≡ true → slotsOf out ≡ slotsThen h rs t shop
+  pub good : r ≡ true → GoodShop out
 
 -- for every sheet of so many items, and all requirements that hidden stands for
-pub record SlotsUpdated (shop : Shop) (items : ℕ) (t : VarTable) (hidden : Added) (r : Updated) : Type 0 where
-  pub by : (h : Sheet) (rs : List Requirement) → itemCount h ≡ items → Stands hidden rs → UpdatedBy h rs shop t r
-  pub refused : r .ok ≡ false → r .shop ≡ shop
+pub record SlotsUpdated (shop : Shop) (items : ℕ) (t : VarTable) (hidden : Added) (r : Bool) (out : Shop) : Type 0 where
+  pub by : (h : Sheet) (rs : List Requirement) → itemCount h ≡ items → Stands hidden rs → UpdatedBy h rs shop t r out
 
 -- ---- lists
 
@@ -97,9 +96,8 @@ half-start shop items t hidden size = record { low = omega arith; long = size; r
 
 module _ (shop : Shop) (items : ℕ) (t : VarTable) (hidden : Added) (g : GoodShop shop) (size : length (t .counts) ≡ slotCount) where
   -- slots without a count stay
-  pub half-to : (out : Shop) (at n : ℕ) → Halfway shop items t hidden out at → at ≤ n → n ≤ slotCount
-      → n ≤ at + trailingZeros 32 (bitOr (t .«item_mask») (t .«count_mask») / 2 ^ at) → Halfway shop items t hidden out n
-  half-to out at n v p q l = record {
+  half-stay : (out : Shop) (at n : ℕ) → Halfway shop items t hidden out at → at ≤ n → n ≤ slotCount → ((j : ℕ) → at ≤ j → j < n → none ≡ getD (countsOf t) j none) → Halfway shop items t hidden out n
+  half-stay out at n v p q f = record {
     low = q;
     long = v .long;
     rest = λ j h. v .rest j (omega arith);
@@ -110,21 +108,31 @@ module _ (shop : Shop) (items : ℕ) (t : VarTable) (hidden : Added) (g : GoodSh
           → Done h rs (getD (itemsOf t) j none) (getD (countsOf t) j none) (getD (shop .slots) j beyond) (getD (out .slots) j beyond)
       by h rs e w j k (no d) = v .done h rs e w j (omega arith)
       by h rs e w j k (yes d) =
-          let c : none ≡ getD (countsOf t) j none = absent (t .«count_mask») (t .counts) size j (omega arith)
-          (or-none (t .«item_mask») (t .«count_mask») j (none-between (bitOr (t .«item_mask») (t .«count_mask»)) at j d (omega arith))) in
           let x = g .each j (omega arith) in
           let s = v .rest j d in
           record {
-            is = ap slotOf s ∙ ap (λ m. updateSlot h rs (getD (itemsOf t) j none) m (slotOf (getD (shop .slots) j beyond))) c;
+            is = ap slotOf s ∙ ap (λ m. updateSlot h rs (getD (itemsOf t) j none) m (slotOf (getD (shop .slots) j beyond))) (f j d k);
             few = ap (λ y. fewEntries (slotOf y)) s ∙ own-few (getD (shop .slots) j beyond) x;
             good = subst GoodSlot (sym s) x;
           }
 
-  -- slot i is updated
+  -- up to the next slot that the masks tell of
+  pub half-to : (out : Shop) (at n : ℕ) → Halfway shop items t hidden out at → at ≤ n → n ≤ slotCount
+      → n ≤ at + trailingZeros 32 (bitOr (t .«item_mask») (t .«count_mask») / 2 ^ at) → Halfway shop items t hidden out n
+  half-to out at n v p q l =
+      half-stay out at n v p q
+      (λ j d k. absent (t .«count_mask») (t .counts) size j (omega arith)
+      (or-none (t .«item_mask») (t .«count_mask») j (none-between (bitOr (t .«item_mask») (t .«count_mask»)) at j d (omega arith))))
+
+  -- slot i, as it was read, is updated
   module _ (out : Shop) (i : ℕ) (v : Halfway shop items t hidden out i) (low : i < slotCount)
-      (r : Changed) (b : (h : Sheet) (rs : List Requirement) → itemCount h ≡ items → Stands hidden rs → Became h rs (getD (itemsOf t) i none) (getD (countsOf t) i none) (getD (out .slots) i beyond) r) where
-    pub half-next : r .ok ≡ true → Halfway shop items t hidden (placed out i (r .slot)) (i + 1)
-    half-next o = record {
+      (r : Changed) (o n : Option ℤ) (x : Slot) (eo : o ≡ getD (itemsOf t) i none) (en : n ≡ getD (countsOf t) i none) (ex : x ≡ getD (out .slots) i beyond)
+      (read : (h : Sheet) (rs : List Requirement) → itemCount h ≡ items → Stands hidden rs → Became h rs o n x r) where
+    b : (h : Sheet) (rs : List Requirement) → itemCount h ≡ items → Stands hidden rs → Became h rs (getD (itemsOf t) i none) (getD (countsOf t) i none) (getD (out .slots) i beyond) r
+    b h rs e w = rw (eo, en, ex) at (read h rs e w)
+
+    placed-next : r .ok ≡ true → Halfway shop items t hidden (placed out i (r .slot)) (i + 1)
+    placed-next o = record {
       low = omega arith;
       long = length-set (out .slots) i (r .slot) ∙ v .long;
       rest = λ j h. getD-set-other (out .slots) i j (r .slot) beyond (λ e. omega arith) ∙ v .rest j (omega arith);
@@ -148,10 +156,13 @@ module _ (shop : Shop) (items : ℕ) (t : VarTable) (hidden : Added) (g : GoodSh
               good = subst GoodSlot (sym s) (a .good o);
             }
 
+    pub half-next : (to : Shop) → to ≡ placed out i (r .slot) → r .ok ≡ true → Halfway shop items t hidden to (i + 1)
+    half-next to e o = subst (λ (s : Shop). Halfway shop items t hidden s (i + 1)) (sym e) (placed-next o)
+
     -- its 33rd requirement refuses all
-    pub half-refused : length (shop .slots) ≡ slotCount → length (t .items) ≡ slotCount → (u : Updated) → r .ok ≡ false → u .ok ≡ false → u .shop ≡ shop → SlotsUpdated shop items t hidden u
+    pub half-refused : length (shop .slots) ≡ slotCount → length (t .items) ≡ slotCount → (to : Shop) → r .ok ≡ false → SlotsUpdated shop items t hidden false to
     unfolding slotsOf
-    half-refused all-there is-long u f p s = record {
+    half-refused all-there is-long to f = record {
       by = λ h rs e w.
           let a = b h rs e w in
           let z = slots-at h rs (itemsOf t) (countsOf t) (slotsOf shop) i (slotOf beyond)
@@ -162,18 +173,17 @@ module _ (shop : Shop) (items : ℕ) (t : VarTable) (hidden : Added) (g : GoodSh
           ap fewEntries (z ∙ ap (updateSlot h rs (getD (itemsOf t) i none) (getD (countsOf t) i none)) (List·getD-map slotOf (shop .slots) i beyond ∙ ap slotOf (sym (v .rest i (omega arith)))))
           ∙ sym (a .ok) ∙ f in
           record {
-            ok = p ∙ sym (all-false fewEntries (slotsThen h rs t shop) i (slotOf beyond) (omega (arith, slots-length h rs (itemsOf t) (countsOf t) (slotsOf shop), length-map (shop .slots) slotOf)) y);
-            is = λ q. absurd (true-false (sym q ∙ p));
-            good = λ q. absurd (true-false (sym q ∙ p));
+            ok = sym (all-false fewEntries (slotsThen h rs t shop) i (slotOf beyond) (omega (arith, slots-length h rs (itemsOf t) (countsOf t) (slotsOf shop), length-map (shop .slots) slotOf)) y);
+            is = λ q. absurd (true-false (sym q));
+            good = λ q. absurd (true-false (sym q));
           };
-      refused = λ q. s;
     }
 
 -- at the end
 pub half-done : (shop : Shop) (items : ℕ) (t : VarTable) (hidden : Added) → length (shop .slots) ≡ slotCount → length (t .items) ≡ slotCount → length (t .counts) ≡ slotCount
-    → (out : Shop) (at : ℕ) → slotCount ≤ at → Halfway shop items t hidden out at → (u : Updated) → u .ok ≡ true → u .shop ≡ out → SlotsUpdated shop items t hidden u
+    → (out : Shop) (at : ℕ) → slotCount ≤ at → Halfway shop items t hidden out at → SlotsUpdated shop items t hidden true out
 unfolding slotsOf
-half-done shop items t hidden p q s out at l v u o e = record {
+half-done shop items t hidden p q s out at l v = record {
   by = λ h rs i w.
       let n = slots-length h rs (itemsOf t) (countsOf t) (slotsOf shop) in
       let m = length-map (shop .slots) slotOf in
@@ -185,9 +195,15 @@ half-done shop items t hidden p q s out at l v u o e = record {
       ∙ sym (slots-at h rs (itemsOf t) (countsOf t) (slotsOf shop) j (slotOf beyond) (present-long (t .«item_mask») (t .items) q ∙ sym (m ∙ p)) (present-long (t .«count_mask») (t .counts) s ∙ sym (m ∙ p)) (omega arith)
       ∙ ap (updateSlot h rs (getD (itemsOf t) j none) (getD (countsOf t) j none)) (List·getD-map slotOf (shop .slots) j beyond))) in
       record {
-        ok = o ∙ sym (ap (all fewEntries) (sym z) ∙ all-true fewEntries (slotsOf out) (slotOf beyond) (λ j k. ap fewEntries (List·getD-map slotOf (out .slots) j beyond) ∙ d j (omega arith) .few));
-        is = λ y. ap slotsOf e ∙ z;
-        good = λ y. subst GoodShop (sym e) (record { each = λ j k. d j (omega arith) .good });
+        ok = sym (ap (all fewEntries) (sym z) ∙ all-true fewEntries (slotsOf out) (slotOf beyond) (λ j k. ap fewEntries (List·getD-map slotOf (out .slots) j beyond) ∙ d j (omega arith) .few));
+        is = λ y. z;
+        good = λ y. record { each = λ j k. d j (omega arith) .good };
       };
-  refused = λ y. absurd (true-false (sym o ∙ y));
 }
+
+-- where no count was written, no slot changes
+pub none-counted : (shop : Shop) (items : ℕ) (t : VarTable) (hidden : Added) → GoodShop shop → length (shop .slots) ≡ slotCount → length (t .items) ≡ slotCount → length (t .counts) ≡ slotCount
+    → t .«count_mask» ≡ 0 → SlotsUpdated shop items t hidden true shop
+none-counted shop items t hidden g p q s e =
+    half-done shop items t hidden p q s shop slotCount (omega arith)
+    (half-stay shop items t hidden g s shop 0 slotCount (half-start shop items t hidden p) (omega arith) (omega arith) (λ j d k. rw e (sym (no-bit slotCount (t .counts) j))))

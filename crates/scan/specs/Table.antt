@@ -57,3 +57,11 @@ module _ (m : ℕ) (xs : List ℤ) (size : length xs ≡ slotCount) where
 
     pub absent : bitAt m j ≡ false → none ≡ getD (present (bitsOf slotCount m) xs) j none
     absent h = sym (at-bit ∙ rw h)
+
+-- no bit of the mask is set
+pub no-bit : (k : ℕ) (xs : List ℤ) (j : ℕ) → getD (present (bitsOf k 0) xs) j none ≡ none
+unfolding bitsOf
+no-bit zero xs j = refl
+no-bit (suc k) [] j = refl
+no-bit (suc k) (x ∷ xs) zero = refl
+no-bit (suc k) (x ∷ xs) (suc j) = no-bit k xs j

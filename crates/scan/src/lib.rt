@@ -16,6 +16,7 @@ ghost use Rattle.model.specs.Expr.{Expr};
 ghost use Rattle.model.specs.Memory.{Nodes, nodesIn, codedIn, tree, commandIn, commandsIn};
 ghost use Rattle.model.specs.Parse.{value, place, isSubtract, limitIn, itemIndex, newLimit, written, putAt, evaluateSet, scanOne, scan, fillItem, newCount};
 ghost use Rattle.shop.specs.Shapes.{itemOf};
+ghost use Rattle.shop_arrays.specs.Arrays.{arraysIn, shopFrom};
 ghost use Rattle.expr.specs.Tree.{treeBelow};
 ghost use Rattle.expr.specs.Requirement.{numberOf};
 ghost use Rattle.scan.specs.Table.{itemsOf, countsOf};
@@ -34,9 +35,10 @@ use model::Op1;
 use model::Op2;
 use shop::Added;
 use shop::Reqs;
-use shop::Shop;
 use shop::Slot;
 use shop::SlotItem;
+use shop_arrays::put_slot;
+use shop_arrays::slot_at;
 
 // The variables that a block wrote, each where the bit of its slot is set.
 pub struct VarTable {
@@ -71,12 +73,6 @@ pub enum Target {
 pub struct Changed {
     pub ok: bool,
     pub slot: Slot,
-}
-
-// The slots after a block; not ok, and the slots as they were, where one would have a 33rd requirement.
-pub struct Updated {
-    pub ok: bool,
-    pub shop: Shop,
 }
 
 // ---- the table
@@ -288,8 +284,7 @@ fn limit_after(ws: &[u16; 98304], val: &[i32; 32768], v: u16, limit: i16) -> i16
 // As evaluate_set: t and v are the roots of target and value.
 fn evaluate_set(ws: &[u16; 98304], val: &[i32; 32768], t: u16, v: u16, s: Scanned) -> Scanned
     requires { ⌜ ReadySet (now ws) (now val) t v ⌝ }
-    ensures { λ r. ⌜ ((n : ℕ) (c : Option Expr) → scanOf (nodesIn (now (ws .entry)) (now (val .entry)) n) c r ≡ evaluateSet (place (value (tree (nodesIn (now (ws .entry)) (now (val .entry)) n) t))) (tree (nodesIn (now (ws .entry)) (now (val .entry)) n) v) (scanOf (nodesIn (now (ws .entry)) (now (val .entry)) n) c s)) ⌝ }
-    ensures { λ r. ⌜ r .«last_if» ≡ s .«last_if» ⌝ }
+    ensures { λ r. ⌜ ((n : ℕ) (c : Option Expr) → scanOf (nodesIn (now (ws .entry)) (now (val .entry)) n) c r ≡ evaluateSet (place (value (tree (nodesIn (now (ws .entry)) (now (val .entry)) n) t))) (tree (nodesIn (now (ws .entry)) (now (val .entry)) n) v) (scanOf (nodesIn (now (ws .entry)) (now (val .entry)) n) c s)) × (r .«last_if» ≡ s .«last_if») ⌝ }
 {
     let target = target_of(number_below(ws, val, 32768, t));
     let table = s.table;
@@ -316,8 +311,7 @@ fn evaluate_set(ws: &[u16; 98304], val: &[i32; 32768], t: u16, v: u16, s: Scanne
 // Command c. A later If takes the place of an earlier one.
 fn scan_one(ws: &[u16; 98304], val: &[i32; 32768], cw: &[u16; 65536], c: u16, s: Scanned) -> Scanned
     requires { ⌜ ReadyCommand (now ws) (now val) (now cw) c ⌝ }
-    ensures { λ r. ⌜ ((n m : ℕ) (e : Option Expr) → scanOf (nodesIn (now (ws .entry)) (now (val .entry)) n) e r ≡ scanOne e (commandIn (codedIn (now (ws .entry)) (now (val .entry)) (now (cw .entry)) n m) c) (scanOf (nodesIn (now (ws .entry)) (now (val .entry)) n) e s)) ⌝ }
-    ensures { λ r. ⌜ r .«last_if» ≡ lastAt (now (cw .entry)) c (s .«last_if») ⌝ }
+    ensures { λ r. ⌜ ((n m : ℕ) (e : Option Expr) → scanOf (nodesIn (now (ws .entry)) (now (val .entry)) n) e r ≡ scanOne e (commandIn (codedIn (now (ws .entry)) (now (val .entry)) (now (cw .entry)) n m) c) (scanOf (nodesIn (now (ws .entry)) (now (val .entry)) n) e s)) × (r .«last_if» ≡ lastAt (now (cw .entry)) c (s .«last_if»)) ⌝ }
 {
     let i = c as usize;
     let code = cw[4 * i];
@@ -341,8 +335,7 @@ fn scan_one(ws: &[u16; 98304], val: &[i32; 32768], cw: &[u16; 65536], c: u16, s:
 
 // Before any command.
 fn nothing_yet(limit: i16) -> Scanned
-    ensures { λ r. ⌜ ((ns : Nodes) (e : Option Expr) → scanOf ns e r ≡ freshScan limit) ⌝ }
-    ensures { λ r. ⌜ r .«last_if» ≡ 0 ⌝ }
+    ensures { λ r. ⌜ ((ns : Nodes) (e : Option Expr) → scanOf ns e r ≡ freshScan limit) × (r .«last_if» ≡ 0) ⌝ }
 {
     let table = VarTable {
         item_mask: 0,
@@ -367,8 +360,7 @@ pub fn scan_block(
     limit: i16,
 ) -> Scanned
     requires { ⌜ Ready (now ws) (now val) (now cw) held first ⌝ }
-    ensures { λ r. ⌜ ((n m : ℕ) (e : Option Expr) → scanOf (nodesIn (now (ws .entry)) (now (val .entry)) n) e r ≡ scan e (commandsIn (codedIn (now (ws .entry)) (now (val .entry)) (now (cw .entry)) n m) held first) (freshScan limit)) ⌝ }
-    ensures { λ r. ⌜ r .«last_if» ≡ lastIf (now (cw .entry)) held first ⌝ }
+    ensures { λ r. ⌜ ((n m : ℕ) (e : Option Expr) → scanOf (nodesIn (now (ws .entry)) (now (val .entry)) n) e r ≡ scan e (commandsIn (codedIn (now (ws .entry)) (now (val .entry)) (now (cw .entry)) n m) held first) (freshScan limit)) × (r .«last_if» ≡ lastIf (now (cw .entry)) held first) ⌝ }
 {
     let mut s = nothing_yet(limit);
     let mut left = held;
@@ -482,32 +474,33 @@ fn update_slot(slot: Slot, items: u16, item: Short, count: Short, hidden: Added)
     }
 }
 
-// The slots that the block wrote to, the lowest first. items is how many the sheet has.
-pub fn update_slots(shop: Shop, items: u16, t: VarTable, hidden: Added) -> Updated
-    requires { ⌜ (hidden .reqs .len ≤ entryLimit) × GoodShop shop ⌝ }
-    ensures { λ r. ⌜ SlotsUpdated shop items t hidden r ⌝ }
+// The slots that the block wrote to, the lowest first. known is how many items the sheet has. False where a slot would have a 33rd requirement.
+pub fn update_slots(
+    items: &mut [i32; 20],
+    limits: &mut [i16; 20],
+    codes: &mut [u64; 640],
+    lens: &mut [u8; 20],
+    known: u16,
+    t: VarTable,
+    hidden: Added,
+) -> bool
+    requires { ⌜ (hidden .reqs .len ≤ entryLimit) × GoodShop (shopFrom (arraysIn (now items) (now limits) (now codes) (now lens))) ⌝ }
+    ensures { λ r. ⌜ SlotsUpdated (shopFrom (arraysIn (now (items .entry)) (now (limits .entry)) (now (codes .entry)) (now (lens .entry)))) known t hidden r (shopFrom (arraysIn (now (items .exit)) (now (limits .exit)) (now (codes .exit)) (now (lens .exit)))) ⌝ }
 {
-    let mut out = shop;
     let mut at = 0;
     while at < 20 {
         let i = next_touched(t, at);
         if 20 <= i {
-            return Updated {
-                ok: true,
-                shop: out,
-            };
+            return true;
         }
-        let slot = out.slots[i];
-        let a = update_slot(slot, items, item_at(t, i), count_at(t, i), hidden);
+        let slot = slot_at(items, limits, codes, lens, i);
+        let a = update_slot(slot, known, item_at(t, i), count_at(t, i), hidden);
         if !a.ok {
-            return Updated { ok: false, shop };
+            return false;
         }
         let changed = a.slot;
-        out.slots[i] = changed;
+        put_slot(items, limits, codes, lens, i, changed);
         at = i + 1;
     }
-    Updated {
-        ok: true,
-        shop: out,
-    }
+    true
 }

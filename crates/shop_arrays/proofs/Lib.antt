@@ -2,3 +2,4 @@
 mod Fill
 mod Items
 mod Rows
+mod Puts

@@ -27,7 +27,6 @@ use Rattle.scan.specs.Slots.{GoodShop, Stands}
 use Rattle.scan.specs.AllSlots.{slotsThen, SlotsUpdated}
 use Rattle.scan.specs.declared.VarTable.{VarTable}
 use Rattle.scan.specs.declared.Scanned.{Scanned}
-use Rattle.scan.specs.declared.Updated.{Updated}
 use Rattle.conditions.specs.Lists.{Listed}
 use Rattle.conditions.specs.Marks.{conditionOf}
 use Rattle.visit.specs.State.{stateOf, conditionIn, scanIn, stateAfter, Open, KeyedIn, Entered}
@@ -41,19 +40,19 @@ use Rattle.visit.specs.declared.Ways.{Ways}
 -- ---- the walk after the slots were updated
 
 -- by the slots xs of the definition
-pub record Moved (xs : List Model.Slot) (r : Walk) : Type 0 where
+pub record Moved (xs : List Model.Slot) (to : Shop) (r : Walk) : Type 0 where
   pub answer : r .answer ≡ cond (all fewEntries xs) 0 parseTooMany
-  pub slots : r .answer ≡ 0 → slotsOf (r .shop) ≡ xs
-  pub good : r .answer ≡ 0 → GoodShop (r .shop)
+  pub slots : r .answer ≡ 0 → slotsOf to ≡ xs
+  pub good : r .answer ≡ 0 → GoodShop to
 
 -- for every sheet of so many items, and all requirements that hidden stands for; the limit l and n cells are given
-pub record Moves (shop : Shop) (items : ℕ) (t : VarTable) (hidden : Added) (l : ℤ) (n : ℕ) (r : Walk) : Type 0 where
-  pub by : (h : Sheet) (rs : List Requirement) → itemCount h ≡ items → Stands hidden rs → Moved (slotsThen h rs t shop) r
+pub record Moves (shop : Shop) (items : ℕ) (t : VarTable) (hidden : Added) (l : ℤ) (n : ℕ) (to : Shop) (r : Walk) : Type 0 where
+  pub by : (h : Sheet) (rs : List Requirement) → itemCount h ≡ items → Stands hidden rs → Moved (slotsThen h rs t shop) to r
   pub limit : r .limit ≡ l
   pub cells : r .cells ≡ n
 
-module _ (shop : Shop) (items : ℕ) (t : VarTable) (hidden : Added) (u : Updated) (v : SlotsUpdated shop items t hidden u) (r : Walk) where
-  pub moves-refused : (l : ℤ) → r .limit ≡ l → u .ok ≡ false → r .answer ≡ parseTooMany → Moves shop items t hidden l (r .cells) r
+module _ (shop : Shop) (items : ℕ) (t : VarTable) (hidden : Added) (u : Bool) (to : Shop) (v : SlotsUpdated shop items t hidden u to) (r : Walk) where
+  pub moves-refused : (l : ℤ) → r .limit ≡ l → u ≡ false → r .answer ≡ parseTooMany → Moves shop items t hidden l (r .cells) to r
   moves-refused l q f e = record {
     by = λ h rs i w. record {
       answer = e ∙ rw (sym (v .by h rs i w .ok) ∙ f);
@@ -64,12 +63,12 @@ module _ (shop : Shop) (items : ℕ) (t : VarTable) (hidden : Added) (u : Update
     cells = refl;
   }
 
-  pub moves-on : (l : ℤ) → r .limit ≡ l → u .ok ≡ true → r .answer ≡ 0 → r .shop ≡ u .shop → Moves shop items t hidden l (r .cells) r
-  moves-on l q f e s = record {
+  pub moves-on : (l : ℤ) → r .limit ≡ l → u ≡ true → r .answer ≡ 0 → Moves shop items t hidden l (r .cells) to r
+  moves-on l q f e = record {
     by = λ h rs i w. record {
       answer = e ∙ rw (sym (v .by h rs i w .ok) ∙ f);
-      slots = λ q. ap slotsOf s ∙ v .by h rs i w .is f;
-      good = λ q. rw s (v .by h rs i w .good f);
+      slots = λ q. v .by h rs i w .is f;
+      good = λ q. v .by h rs i w .good f;
     };
     limit = q;
     cells = refl;
@@ -77,7 +76,7 @@ module _ (shop : Shop) (items : ℕ) (t : VarTable) (hidden : Added) (u : Update
 
 -- ---- what the calls of a visit want: n commands from command f on
 
-module _ {m : Memory} {marks : List Bool} {w : Walk} {b c : ℕ} (o : Open m marks w b c) where
+module _ {m : Memory} {marks : List Bool} {x : Shop} {w : Walk} {b c : ℕ} (o : Open m marks x w b c) where
   pub open-block : b < blockLimit
   open-block = let a = o .accepted in let k = judged-kept m (a .blocks) (a .rest) (a .is) .0 in omega (arith, o .block)
 
@@ -104,51 +103,51 @@ made : {xs ys : List Model.Slot} {ms ns : List Bool} {x y : ℤ} {p q : ℕ} →
     → _≡_ {A = State} (record { slots = xs; marks = ms; current = x; answer = p }) (record { slots = ys; marks = ns; current = y; answer = q })
 made e f g i = rw (e, f, g, i)
 
-module _ (h : Sheet) (m : Memory) (marks : List Bool) (cells : List ℕ) (w : Walk) (b c : ℕ) (o : Open m marks w b c)
+module _ (h : Sheet) (m : Memory) (marks : List Bool) (cells : List ℕ) (x : Shop) (w : Walk) (b c : ℕ) (o : Open m marks x w b c)
     (held first : ℕ) (many : held ≡ blockWord m b 2) (from : first ≡ blockWord m b 1) (l : ℤ) (lim : l ≡ w .limit)
     (s : Scanned) (is : (e : Option Expr) → scanOf (m .coded .nodes) e s ≡ scan e (commandsIn (m .coded) held first) (freshScan l)) where
   abbrev under : Option Expr
   under = conditionIn m cells c
 
-  scan-is : scanOf (m .coded .nodes) under s ≡ scanIn m marks cells w b c
+  scan-is : scanOf (m .coded .nodes) under s ≡ scanIn m marks cells x w b c
   scan-is = rw (many, from, lim) at (is under)
 
   module _ (items : ℕ) (of : itemCount h ≡ items) (a : Added) (d : Hidden h (parseRequirements h under) (s .table) a)
-      (r : Walk) (n : ℕ) (v : Moves (w .shop) items (s .table) a (s .limit) n r) where
-    slots-then : slotsThen h (d .reqs) (s .table) (w .shop) ≡ stateAfter h m marks cells w b c .slots
+      (to : Shop) (r : Walk) (n : ℕ) (v : Moves x items (s .table) a (s .limit) n to r) where
+    slots-then : slotsThen h (d .reqs) (s .table) x ≡ stateAfter h m marks cells x w b c .slots
     unfolding visited scanOf
-    slots-then = sym (d .same (slotsOf (w .shop))) ∙ ap (λ (k : Scan). updateSlots h (parseRequirements h under) (k .items) (k .counts) (slotsOf (w .shop))) scan-is
+    slots-then = sym (d .same (slotsOf x)) ∙ ap (λ (k : Scan). updateSlots h (parseRequirements h under) (k .items) (k .counts) (slotsOf x)) scan-is
 
-    limit-then : r .limit ≡ scanIn m marks cells w b c .limit
+    limit-then : r .limit ≡ scanIn m marks cells x w b c .limit
     unfolding scanOf
     limit-then = v .limit ∙ ap (λ (k : Scan). k .limit) scan-is
 
-    moved : Moved (slotsThen h (d .reqs) (s .table) (w .shop)) r
+    moved : Moved (slotsThen h (d .reqs) (s .table) x) to r
     moved = v .by h (d .reqs) of (d .stands)
 
-    answer-then : r .answer ≡ stateAfter h m marks cells w b c .answer
+    answer-then : r .answer ≡ stateAfter h m marks cells x w b c .answer
     unfolding visited
     answer-then = moved .answer ∙ ap (λ (xs : List Model.Slot). cond (all fewEntries xs) 0 parseTooMany) slots-then
 
-    state-then : r .answer ≡ 0 → stateOf (m .count) (set marks b true) r ≡ stateAfter h m marks cells w b c
+    state-then : r .answer ≡ 0 → stateOf (m .count) (set marks b true) to r ≡ stateAfter h m marks cells x w b c
     unfolding visited
     state-then z = made (moved .slots z ∙ slots-then) (take-set-lt (m .count) marks b true (o .block)) limit-then answer-then
 
     module _ (cells′ : List ℕ) (y : Ways) (found : s .«last_if» ≡ lastIf (m .coded .words) held first) (j : Joined cells (w .cells) c (s .«last_if») cells′ y) (cs : n ≡ y .cells) where
-      root-low : (x : ℕ) → s .«last_if» ≡ suc x → x < m .coded .nodes .count
-      root-low x e = last-low (m .coded .nodes .count) (m .coded .words) (blockWord m b 2) (blockWord m b 1) (rooted o) x (sym (rw (many, from) at found) ∙ e)
+      root-low : (j : ℕ) → s .«last_if» ≡ suc j → j < m .coded .nodes .count
+      root-low j e = last-low (m .coded .nodes .count) (m .coded .words) (blockWord m b 2) (blockWord m b 1) (rooted o) j (sym (rw (many, from) at found) ∙ e)
 
-      next-is : onNextOf (m .coded .nodes) under (s .«last_if») ≡ scanIn m marks cells w b c .onNext
+      next-is : onNextOf (m .coded .nodes) under (s .«last_if») ≡ scanIn m marks cells x w b c .onNext
       unfolding scanOf
       next-is = ap (λ (k : Scan). k .onNext) scan-is
 
-      else-is : onElseOf (m .coded .nodes) under (s .«last_if») ≡ scanIn m marks cells w b c .onElse
+      else-is : onElseOf (m .coded .nodes) under (s .«last_if») ≡ scanIn m marks cells x w b c .onElse
       unfolding scanOf
       else-is = ap (λ (k : Scan). k .onElse) scan-is
 
-      pub entered : (i x z : ℕ) → i ≡ b → x ≡ blockWord m b 3 → z ≡ blockWord m b 4
-          → Entered h m marks cells w b c (set marks i true) cells′ (record { walk = r; next = x; then = y .then; other = z; otherwise = y .otherwise })
-      entered i x z at e f =
+      pub entered : (i nx el : ℕ) → i ≡ b → nx ≡ blockWord m b 3 → el ≡ blockWord m b 4
+          → Entered h m marks cells x w b c (set marks i true) cells′ to (record { walk = r; next = nx; then = y .then; other = el; otherwise = y .otherwise })
+      entered i nx el at e f =
           let same : r .cells ≡ y .cells = v .cells ∙ cs in
           rw at record {
             answer = answer-then;

@@ -21,7 +21,7 @@ use Rattle.shop.specs.Sets.{reqsOf, noReqs}
 use Rattle.shop.specs.SetLaws.{no-reqs-set}
 use Rattle.shop.specs.declared.Added.{Added}
 use Rattle.scan.specs.Bits.{bitsOf, bits-length}
-use Rattle.scan.specs.Table.{present, itemsOf, countsOf}
+use Rattle.scan.specs.Table.{present, itemsOf, countsOf, no-bit}
 use Rattle.scan.specs.Slots.{Stands}
 use Rattle.scan.specs.declared.VarTable.{VarTable}
 use Rattle.conditions.specs.Sweep.{asSet, Negated}
@@ -47,16 +47,8 @@ shown-more t n s e = record { each = λ j l. by j l (ℕ-discrete j n) }
     by j l (yes d) = rw d e
     by j l (no d) = s .each j (omega arith)
 
--- no bit of the counts' mask is set
-no-count : (k : ℕ) (xs : List ℤ) (j : ℕ) → getD (present (bitsOf k 0) xs) j none ≡ none
-unfolding bitsOf
-no-count zero xs j = refl
-no-count (suc k) [] j = refl
-no-count (suc k) (x ∷ xs) zero = refl
-no-count (suc k) (x ∷ xs) (suc j) = no-count k xs j
-
 pub shown-none : (t : VarTable) → t .«count_mask» ≡ 0 → Shown t slotCount
-shown-none t e = record { each = λ j l. rw (e, no-count slotCount (t .counts) j) }
+shown-none t e = record { each = λ j l. rw (e, no-bit slotCount (t .counts) j) }
 
 -- as the code asks for it
 pub hides-below : (k z : ℤ) → ltZ k (pos 0) ≡ hidesBy (some k) (some z)

@@ -14,6 +14,7 @@ use Rattle.model.specs.Memory.{Memory, commandsIn, blockWord}
 use Rattle.model.specs.Record.{judgedRecord}
 use Rattle.model.specs.Parse.{State, Scan, scanned, visited}
 use Rattle.shop.specs.Shapes.{slotsOf}
+use Rattle.shop.specs.declared.Shop.{Shop}
 use Rattle.scan.specs.Slots.{GoodShop}
 use Rattle.conditions.specs.Marks.{conditionOf}
 use Rattle.conditions.specs.Cells.{SameCells}
@@ -27,9 +28,9 @@ pub record Accepted (m : Memory) : Type 0 where
   pub rest : List ℕ
   pub is : judgedRecord m ≡ got blocks rest
 
--- the definition's state; marks past the blocks are never set
-abbrev pub stateOf : ℕ → List Bool → Walk → State
-stateOf n marks w = record { slots = slotsOf (w .shop); marks = take n marks; current = w .limit; answer = w .answer }
+-- the definition's state, s being the slots; marks past the blocks are never set
+abbrev pub stateOf : ℕ → List Bool → Shop → Walk → State
+stateOf n marks s w = record { slots = slotsOf s; marks = take n marks; current = w .limit; answer = w .answer }
 
 -- the condition with the number c
 abbrev pub conditionIn : Memory → List ℕ → ℕ → Option Expr
@@ -39,33 +40,33 @@ abbrev pub commandsOf : Memory → ℕ → List Command
 commandsOf m b = commandsIn (m .coded) (blockWord m b 2) (blockWord m b 1)
 
 -- block b, which is code, read under condition c
-abbrev pub scanIn : Memory → List Bool → List ℕ → Walk → ℕ → ℕ → Scan
-scanIn m marks cells w b c = scanned (conditionIn m cells c) (commandsOf m b) (stateOf (m .count) marks w)
+abbrev pub scanIn : Memory → List Bool → List ℕ → Shop → Walk → ℕ → ℕ → Scan
+scanIn m marks cells s w b c = scanned (conditionIn m cells c) (commandsOf m b) (stateOf (m .count) marks s w)
 
-abbrev pub stateAfter : Sheet → Memory → List Bool → List ℕ → Walk → ℕ → ℕ → State
-stateAfter h m marks cells w b c = visited h b (conditionIn m cells c) (commandsOf m b) (stateOf (m .count) marks w)
+abbrev pub stateAfter : Sheet → Memory → List Bool → List ℕ → Shop → Walk → ℕ → ℕ → State
+stateAfter h m marks cells s w b c = visited h b (conditionIn m cells c) (commandsOf m b) (stateOf (m .count) marks s w)
 
 -- what a visit of block b under condition c wants
-pub record Open (m : Memory) (marks : List Bool) (w : Walk) (b c : ℕ) : Type 0 where
+pub record Open (m : Memory) (marks : List Bool) (s : Shop) (w : Walk) (b c : ℕ) : Type 0 where
   pub accepted : Accepted m
   pub block : b < m .count
   pub code : blockWord m b 0 ≡ 1
   pub fine : w .answer ≡ 0
   pub free : w .cells < blockLimit
   pub low : c ≤ 2 * w .cells
-  pub good : GoodShop (w .shop)
+  pub good : GoodShop s
 
 -- the keys of the record's requirements and the lists of its roots, as key_nodes and flatten_roots leave them
 abbrev pub KeyedIn : Sheet → Memory → List ℕ → List ℕ → ℕ → Type 0
 KeyedIn h m keys leaves n = Listed h (m .coded .nodes) (m .coded .nodes .count) keys leaves n
 
 -- what it leaves; where it refuses only the answer counts
-pub record Entered (h : Sheet) (m : Memory) (marks : List Bool) (cells : List ℕ) (w : Walk) (b c : ℕ) (marks′ : List Bool) (cells′ : List ℕ) (r : Visited) : Type 0 where
-  pub answer : r .walk .answer ≡ stateAfter h m marks cells w b c .answer
-  pub state : r .walk .answer ≡ 0 → stateOf (m .count) marks′ (r .walk) ≡ stateAfter h m marks cells w b c
-  pub good : r .walk .answer ≡ 0 → GoodShop (r .walk .shop)
-  pub onNext : conditionIn m cells′ (r .then) ≡ scanIn m marks cells w b c .onNext
-  pub onElse : conditionIn m cells′ (r .otherwise) ≡ scanIn m marks cells w b c .onElse
+pub record Entered (h : Sheet) (m : Memory) (marks : List Bool) (cells : List ℕ) (s : Shop) (w : Walk) (b c : ℕ) (marks′ : List Bool) (cells′ : List ℕ) (s′ : Shop) (r : Visited) : Type 0 where
+  pub answer : r .walk .answer ≡ stateAfter h m marks cells s w b c .answer
+  pub state : r .walk .answer ≡ 0 → stateOf (m .count) marks′ s′ (r .walk) ≡ stateAfter h m marks cells s w b c
+  pub good : r .walk .answer ≡ 0 → GoodShop s′
+  pub onNext : conditionIn m cells′ (r .then) ≡ scanIn m marks cells s w b c .onNext
+  pub onElse : conditionIn m cells′ (r .otherwise) ≡ scanIn m marks cells s w b c .onElse
   pub next : r .next ≡ blockWord m b 3
   pub other : r .other ≡ blockWord m b 4
   pub marked : marks′ ≡ set marks b true

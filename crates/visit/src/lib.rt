@@ -9,6 +9,7 @@ ghost use Rattle.model.specs.Limits.{slotCount, entryLimit, blockLimit};
 ghost use Rattle.model.specs.Sheet.{Sheet, itemCount};
 ghost use Rattle.model.specs.Memory.{memoryIn, nodesIn};
 ghost use Rattle.model.specs.Parse.{parseRequirements};
+ghost use Rattle.shop_arrays.specs.Arrays.{arraysIn, shopFrom};
 ghost use Rattle.scan.specs.Reads.{shortIs};
 ghost use Rattle.scan.specs.Slots.{GoodShop};
 ghost use Rattle.keys.specs.Entries.{Keys};
@@ -30,12 +31,10 @@ use scan::item_at;
 use scan::scan_block;
 use scan::update_slots;
 use shop::Added;
-use shop::Shop;
 use shop::no_reqs;
 
-// What is carried from block to block: the slots, the current limit, how many cells of conditions there are, the refusal or 0.
+// What is carried from block to block beside the arrays of the slots: the current limit, how many cells of conditions there are, the refusal or 0.
 pub struct Walk {
-    pub shop: Shop,
     pub limit: i16,
     pub cells: u16,
     pub answer: u8,
@@ -159,24 +158,36 @@ fn hidden_of(
     parse_requirements(ws, lf, cells, keys, seen, keyed, n, c)
 }
 
-// The walk with the slots that the block leaves, or the refusal 11: a slot's 33rd requirement.
-fn moved(shop: Shop, items: u16, s: Scanned, hidden: Added, cells: u16) -> Walk
-    requires { ⌜ (hidden .reqs .len ≤ entryLimit) × GoodShop shop ⌝ }
-    ensures { λ r. ⌜ Moves shop items (s .table) hidden (s .limit) cells r ⌝ }
+// The walk after the slots are as the block leaves them, or the refusal 11: a slot's 33rd requirement. Without a count no slot changes.
+fn moved(
+    items: &mut [i32; 20],
+    limits: &mut [i16; 20],
+    codes: &mut [u64; 640],
+    lens: &mut [u8; 20],
+    known: u16,
+    s: Scanned,
+    hidden: Added,
+    cells: u16,
+) -> Walk
+    requires { ⌜ (hidden .reqs .len ≤ entryLimit) × GoodShop (shopFrom (arraysIn (now items) (now limits) (now codes) (now lens))) ⌝ }
+    ensures { λ r. ⌜ Moves (shopFrom (arraysIn (now (items .entry)) (now (limits .entry)) (now (codes .entry)) (now (lens .entry)))) known (s .table) hidden (s .limit) cells (shopFrom (arraysIn (now (items .exit)) (now (limits .exit)) (now (codes .exit)) (now (lens .exit)))) r ⌝ }
 {
     let t = s.table;
-    let u = update_slots(shop, items, t, hidden);
-    if !u.ok {
+    if t.count_mask == 0 {
         return Walk {
-            shop,
+            limit: s.limit,
+            cells,
+            answer: 0,
+        };
+    }
+    if !update_slots(items, limits, codes, lens, known, t, hidden) {
+        return Walk {
             limit: s.limit,
             cells,
             answer: 11,
         };
     }
-    let out = u.shop;
     Walk {
-        shop: out,
         limit: s.limit,
         cells,
         answer: 0,
@@ -193,7 +204,7 @@ fn block_word(bw: &[u16; 20480], b: u16, j: usize) -> u16
     bw[5 * index_of(b) + j]
 }
 
-// Block b, which is code and not marked, under the condition c.
+// Block b, which is code and not marked, under the condition c. known is how many items the sheet has.
 pub fn visit(
     ws: &[u16; 98304],
     val: &[i32; 32768],
@@ -204,20 +215,23 @@ pub fn visit(
     seen: &mut [bool; 65536],
     marks: &mut [bool; 4096],
     cells: &mut [u16; 8192],
+    items: &mut [i32; 20],
+    limits: &mut [i16; 20],
+    codes: &mut [u64; 640],
+    lens: &mut [u8; 20],
     k: Counts,
     keyed: u16,
-    items: u16,
+    known: u16,
     w: Walk,
     b: u16,
     c: u16,
 ) -> Visited
     requires { ⌜ (keyed < 32768) × Keys (now keys) keyed ⌝ }
-    requires { ⌜ Open (memoryIn (now ws) (now val) (now cw) (now bw) (k .nodes) (k .commands) (k .blocks)) (now marks) w b c ⌝ }
-    ensures { λ r. ⌜ ((h : Sheet) → itemCount h ≡ items → KeyedIn h (memoryIn (now (ws .entry)) (now (val .entry)) (now (cw .entry)) (now (bw .entry)) (k .nodes) (k .commands) (k .blocks)) (now (keys .entry)) (now (lf .entry)) keyed → Entered h (memoryIn (now (ws .entry)) (now (val .entry)) (now (cw .entry)) (now (bw .entry)) (k .nodes) (k .commands) (k .blocks)) (now (marks .entry)) (now (cells .entry)) w b c (now (marks .exit)) (now (cells .exit)) r) ⌝ }
+    requires { ⌜ Open (memoryIn (now ws) (now val) (now cw) (now bw) (k .nodes) (k .commands) (k .blocks)) (now marks) (shopFrom (arraysIn (now items) (now limits) (now codes) (now lens))) w b c ⌝ }
+    ensures { λ r. ⌜ ((h : Sheet) → itemCount h ≡ known → KeyedIn h (memoryIn (now (ws .entry)) (now (val .entry)) (now (cw .entry)) (now (bw .entry)) (k .nodes) (k .commands) (k .blocks)) (now (keys .entry)) (now (lf .entry)) keyed → Entered h (memoryIn (now (ws .entry)) (now (val .entry)) (now (cw .entry)) (now (bw .entry)) (k .nodes) (k .commands) (k .blocks)) (now (marks .entry)) (now (cells .entry)) (shopFrom (arraysIn (now (items .entry)) (now (limits .entry)) (now (codes .entry)) (now (lens .entry)))) w b c (now (marks .exit)) (now (cells .exit)) (shopFrom (arraysIn (now (items .exit)) (now (limits .exit)) (now (codes .exit)) (now (lens .exit)))) r) ⌝ }
 {
     let first = block_word(bw, b, 1);
     let held = block_word(bw, b, 2);
-    let shop = w.shop;
     marks[index_of(b)] = true;
     let s = scan_block(ws, val, cw, first, held, w.limit);
     let t = s.table;
@@ -225,7 +239,7 @@ pub fn visit(
     let hidden = hidden_of(ws, lf, cells, keys, seen, keyed, n, index_of(c), t);
     let ways = join(cells, w.cells, c, s.last_if);
     Visited {
-        walk: moved(shop, items, s, hidden, ways.cells),
+        walk: moved(items, limits, codes, lens, known, s, hidden, ways.cells),
         next: block_word(bw, b, 3),
         then: ways.then,
         other: block_word(bw, b, 4),

@@ -15,6 +15,7 @@ use Rattle.model.specs.Memory.{Memory, Nodes, nodesIn, scriptOf}
 use Rattle.model.specs.Parse.{State, start, parse}
 use Rattle.memory.specs.Transfer.{blocks-counted}
 use Rattle.shop.specs.Shapes.{slotOf, slotsOf, noShop, entries}
+use Rattle.shop.specs.declared.Shop as Code
 use Rattle.scan.specs.Slots.{good-start}
 use Rattle.keys.specs.Entries.{Keyed}
 use Rattle.conditions.specs.Lists.{Listed}
@@ -40,7 +41,7 @@ no-slots : slotsOf noShop ≡ replicate slotCount emptySlot
 unfolding slotsOf slotOf entries
 no-slots = refl
 
-state-of : (n k : ℕ) → n ≤ k → stateOf n (replicate k false) startWalk ≡ record { slots = replicate slotCount emptySlot; marks = replicate n false; current = pos 0; answer = 0 }
+state-of : (n k : ℕ) → n ≤ k → stateOf n (replicate k false) noShop startWalk ≡ record { slots = replicate slotCount emptySlot; marks = replicate n false; current = pos 0; answer = 0 }
 state-of n k h = same no-slots (take-replicate n k h)
   where
     same : {xs ys : List Shop.Slot} {us vs : List Bool} → xs ≡ ys → us ≡ vs
@@ -53,10 +54,10 @@ no-condition : (m : Memory) (cells : List ℕ) → conditionIn m cells 0 ≡ non
 unfolding conditionOf conditionTo
 no-condition m cells = refl
 
-module _ (m : Memory) (k : ℕ) (few : m .count ≤ k) (stack : List ℕ) (none-joined : getD stack 1 0 ≡ 0) (w : Walk) (new : w ≡ startWalk) where
-  pub ready-start : Accepted m → length stack ≡ 8194 → Ready m (replicate k false) stack w 1
+module _ (m : Memory) (k : ℕ) (few : m .count ≤ k) (stack : List ℕ) (none-joined : getD stack 1 0 ≡ 0) (s : Code.Shop) (none-put : s ≡ noShop) (w : Walk) (new : w ≡ startWalk) where
+  pub ready-start : Accepted m → length stack ≡ 8194 → Ready m (replicate k false) stack s w 1
   unfolding stackOf
-  ready-start a l = subst (λ x. Ready m (replicate k false) stack x 1) (sym new) ready
+  ready-start a l = rw (none-put, new) ready
     where
       left : unmarked (take (m .count) (replicate k false)) ≡ m .count
       left = ap unmarked (take-replicate (m .count) k few) ∙ unmarked-replicate (m .count)
@@ -64,7 +65,7 @@ module _ (m : Memory) (k : ℕ) (few : m .count ≤ k) (stack : List ℕ) (none-
       low : AllLow 0 (stackOf stack 1)
       low = (omega arith, tt)
 
-      ready : Ready m (replicate k false) stack startWalk 1
+      ready : Ready m (replicate k false) stack noShop startWalk 1
       ready = record {
         accepted = a;
         long = ap length (take-replicate (m .count) k few) ∙ length-replicate (m .count) false;
@@ -76,10 +77,10 @@ module _ (m : Memory) (k : ℕ) (few : m .count ≤ k) (stack : List ℕ) (none-
         low = low;
       }
 
-  pub walks-start : (h : Sheet) (cells : List ℕ) (b : ℕ) → getD stack 0 0 ≡ b → walksIn h m (replicate k false) cells stack 1 w ≡ parse h (scriptOf m .blocks) b
+  pub walks-start : (h : Sheet) (cells : List ℕ) (b : ℕ) → getD stack 0 0 ≡ b → walksIn h m (replicate k false) cells stack 1 s w ≡ parse h (scriptOf m .blocks) b
   unfolding stackOf
   walks-start h cells b e =
-      ap₂ (walks h (scriptOf m .blocks)) one (ap (stateOf (m .count) (replicate k false)) new ∙ state-of (m .count) k few ∙ begins)
+      ap₂ (walks h (scriptOf m .blocks)) one (ap₂ (stateOf (m .count) (replicate k false)) none-put new ∙ state-of (m .count) k few ∙ begins)
       ∙ stack-one h (scriptOf m .blocks) b
     where
       one : map (under m cells) (stackOf stack 1) ≡ entry b none ∷ []

@@ -18,6 +18,7 @@ use Rattle.model.specs.Memory.{Memory, blockWord, linkIn, blockBy, blockIn, scr
 use Rattle.model.specs.Parse.{State, refuse, scanned, visited}
 use Rattle.memory.specs.RecordLaws.{block-at}
 use Rattle.memory.specs.Transfer.{blocks-counted, judged-kept}
+use Rattle.shop.specs.declared.Shop.{Shop}
 use Rattle.visit.specs.declared.Walk.{Walk}
 use Rattle.visit.specs.declared.Visited.{Visited}
 use Rattle.visit.specs.State.{Accepted, stateOf, conditionIn, commandsOf, stateAfter, scanIn, Open, Entered}
@@ -96,18 +97,18 @@ tops h m cells w st (suc d) = by (getD (st .marks) (getD w (2 * d) 0) false) ref
     by true z q = stack-skip h (scriptOf m .blocks) (under m cells (entry (getD w (2 * d) 0) (getD w (2 * d + 1) 0))) (map (under m cells) (stackOf w d)) st (or-true _ _ z) ∙ q
     by false z q = refl
 
-came-as : {st st′ : State} {out : Walk} → st ≡ st′ → Came st out → Came st′ out
-came-as {out = out} e c = subst (λ s. Came s out) e c
+pub came-as : {st st′ : State} {end : Shop} {out : Walk} → st ≡ st′ → Came st end out → Came st′ end out
+came-as {end = end} {out = out} e c = subst (λ x. Came x end out) e c
 
-module _ {m : Memory} {marks : List Bool} {stack : List ℕ} {w : Walk} {depth : ℕ} (r : Ready m marks stack w depth) where
+module _ {m : Memory} {marks : List Bool} {stack : List ℕ} {s : Shop} {w : Walk} {depth : ℕ} (r : Ready m marks stack s w depth) where
   -- nothing is left to visit
-  turn-none : (h : Sheet) (cells : List ℕ) → topOf (take (m .count) marks) stack depth ≡ 0 → walksIn h m marks cells stack depth w ≡ stateOf (m .count) marks w
+  turn-none : (h : Sheet) (cells : List ℕ) → topOf (take (m .count) marks) stack depth ≡ 0 → walksIn h m marks cells stack depth s w ≡ stateOf (m .count) marks s w
   unfolding stackOf walksA
   turn-none h cells e =
-      tops h m cells stack (stateOf (m .count) marks w) depth
-      ∙ ap (λ d. walks h (scriptOf m .blocks) (map (under m cells) (stackOf stack d)) (stateOf (m .count) marks w)) e
+      tops h m cells stack (stateOf (m .count) marks s w) depth
+      ∙ ap (λ d. walks h (scriptOf m .blocks) (map (under m cells) (stackOf stack d)) (stateOf (m .count) marks s w)) e
 
-  pub came-end : (h : Sheet) (cells : List ℕ) (st : State) → walksIn h m marks cells stack depth w ≡ st → topOf (take (m .count) marks) stack depth ≡ 0 → Came st w
+  pub came-end : (h : Sheet) (cells : List ℕ) (st : State) → walksIn h m marks cells stack depth s w ≡ st → topOf (take (m .count) marks) stack depth ≡ 0 → Came st s w
   came-end h cells st i e = came-as (sym (turn-none h cells e) ∙ i) (record { answer = refl; slots = λ z. refl; good = λ z. r .good })
 
   pub top-fits : {top : ℕ} → top ≡ topOf (take (m .count) marks) stack depth → top ≤ 4097
@@ -132,25 +133,25 @@ module _ {m : Memory} {marks : List Bool} {stack : List ℕ} {w : Walk} {depth :
     top-lows : (c ≤ 2 * w .cells) × AllLow (w .cells) (stackOf stack (top - 1))
     top-lows = subst (AllLow (w .cells)) (ap (stackOf stack) (sym at) ∙ entries) (low-top (take (m .count) marks) stack (w .cells) depth (r .low))
 
-    went : (h : Sheet) (cells : List ℕ) → walksIn h m marks cells stack depth w
+    went : (h : Sheet) (cells : List ℕ) → walksIn h m marks cells stack depth s w
         ≡ walks h (scriptOf m .blocks)
-        (pushed (step h (scriptOf m .blocks) (under m cells (entry b c)) (stateOf (m .count) marks w) .ways) (map (under m cells) (stackOf stack (top - 1))))
-        (step h (scriptOf m .blocks) (under m cells (entry b c)) (stateOf (m .count) marks w) .state)
+        (pushed (step h (scriptOf m .blocks) (under m cells (entry b c)) (stateOf (m .count) marks s w) .ways) (map (under m cells) (stackOf stack (top - 1))))
+        (step h (scriptOf m .blocks) (under m cells (entry b c)) (stateOf (m .count) marks s w) .state)
     went h cells =
-        tops h m cells stack (stateOf (m .count) marks w) depth
-        ∙ ap (λ es. walks h (scriptOf m .blocks) (map (under m cells) es) (stateOf (m .count) marks w)) (ap (stackOf stack) (sym at) ∙ entries)
-        ∙ stack-visit h (scriptOf m .blocks) (under m cells (entry b c)) (map (under m cells) (stackOf stack (top - 1))) (stateOf (m .count) marks w)
+        tops h m cells stack (stateOf (m .count) marks s w) depth
+        ∙ ap (λ es. walks h (scriptOf m .blocks) (map (under m cells) es) (stateOf (m .count) marks s w)) (ap (stackOf stack) (sym at) ∙ entries)
+        ∙ stack-visit h (scriptOf m .blocks) (under m cells (entry b c)) (map (under m cells) (stackOf stack (top - 1))) (stateOf (m .count) marks s w)
         (r .long ∙ sym (blocks-counted m)) (or-both _ _ free (rw (eq-eqb (w .answer) 0 (r .fine))))
 
     -- a block not code
-    turn-stops : (h : Sheet) (cells : List ℕ) → isCodeAt (m .words) (m .count) b ≡ false → walksIn h m marks cells stack depth w ≡ refuse parseNotCode (stateOf (m .count) marks w)
+    turn-stops : (h : Sheet) (cells : List ℕ) → isCodeAt (m .words) (m .count) b ≡ false → walksIn h m marks cells stack depth s w ≡ refuse parseNotCode (stateOf (m .count) marks s w)
     turn-stops h cells e =
         went h cells
-        ∙ ap (λ p. walks h (scriptOf m .blocks) (pushed (p .ways) (map (under m cells) (stackOf stack (top - 1)))) (p .state)) (step-stops m b h (conditionIn m cells c) (stateOf (m .count) marks w) e)
-        ∙ stack-off h (scriptOf m .blocks) (map (under m cells) (stackOf stack (top - 1))) (refuse parseNotCode (stateOf (m .count) marks w)) (λ z. omega arith)
+        ∙ ap (λ p. walks h (scriptOf m .blocks) (pushed (p .ways) (map (under m cells) (stackOf stack (top - 1)))) (p .state)) (step-stops m b h (conditionIn m cells c) (stateOf (m .count) marks s w) e)
+        ∙ stack-off h (scriptOf m .blocks) (map (under m cells) (stackOf stack (top - 1))) (refuse parseNotCode (stateOf (m .count) marks s w)) (λ z. omega arith)
 
-    pub came-stopped : (h : Sheet) (cells : List ℕ) (st : State) (out : Walk) → walksIn h m marks cells stack depth w ≡ st → isCodeAt (m .words) (m .count) b ≡ false → out .answer ≡ parseNotCode → Came st out
-    came-stopped h cells st out i e q =
+    pub came-stopped : (h : Sheet) (cells : List ℕ) (st : State) (end : Shop) (out : Walk) → walksIn h m marks cells stack depth s w ≡ st → isCodeAt (m .words) (m .count) b ≡ false → out .answer ≡ parseNotCode → Came st end out
+    came-stopped h cells st end out i e q =
         came-as (sym (turn-stops h cells e) ∙ i) (record { answer = q; slots = λ z. absurd (omega arith); good = λ z. absurd (omega arith) })
 
     -- a code block
@@ -158,7 +159,7 @@ module _ {m : Memory} {marks : List Bool} {stack : List ℕ} {w : Walk} {depth :
       one-less : suc (unmarked (set (take (m .count) marks) b true)) ≡ unmarked (take (m .count) marks)
       one-less = unmarked-set (take (m .count) marks) b (omega (arith, r .long, k .inside)) free
 
-      pub opens : Open m marks w b c
+      pub opens : Open m marks s w b c
       opens = record {
         accepted = r .accepted;
         block = k .inside;
@@ -169,19 +170,19 @@ module _ {m : Memory} {marks : List Bool} {stack : List ℕ} {w : Walk} {depth :
         good = r .good;
       }
 
-      module _ {h : Sheet} {cells cells′ : List ℕ} {marks′ : List Bool} {v : Visited} (g : Entered h m marks cells w b c marks′ cells′ v) where
-        went-code : walksIn h m marks cells stack depth w
+      module _ {h : Sheet} {cells cells′ : List ℕ} {marks′ : List Bool} {s′ : Shop} {v : Visited} (g : Entered h m marks cells s w b c marks′ cells′ s′ v) where
+        went-code : walksIn h m marks cells stack depth s w
             ≡ walks h (scriptOf m .blocks)
-            (pushed (waysBy (linkIn (blockWord m b 3)) (linkIn (blockWord m b 4)) (scanIn m marks cells w b c .onNext) (scanIn m marks cells w b c .onElse)) (map (under m cells) (stackOf stack (top - 1))))
-            (stateAfter h m marks cells w b c)
+            (pushed (waysBy (linkIn (blockWord m b 3)) (linkIn (blockWord m b 4)) (scanIn m marks cells s w b c .onNext) (scanIn m marks cells s w b c .onElse)) (map (under m cells) (stackOf stack (top - 1))))
+            (stateAfter h m marks cells s w b c)
         went-code =
             went h cells
-            ∙ ap (λ p. walks h (scriptOf m .blocks) (pushed (p .ways) (map (under m cells) (stackOf stack (top - 1)))) (p .state)) (step-goes m b h (conditionIn m cells c) (stateOf (m .count) marks w) k)
+            ∙ ap (λ p. walks h (scriptOf m .blocks) (pushed (p .ways) (map (under m cells) (stackOf stack (top - 1)))) (p .state)) (step-goes m b h (conditionIn m cells c) (stateOf (m .count) marks s w) k)
 
         -- a refusal: the rest of the stack does nothing
-        pub came-refused : (st : State) → walksIn h m marks cells stack depth w ≡ st → (v .walk .answer ≡ 0 → ⊥) → Came st (v .walk)
+        pub came-refused : (st : State) → walksIn h m marks cells stack depth s w ≡ st → (v .walk .answer ≡ 0 → ⊥) → Came st s′ (v .walk)
         came-refused st i n = record {
-          answer = g .answer ∙ ap (λ s. s .answer) (sym (went-code ∙ stack-off h (scriptOf m .blocks) _ (stateAfter h m marks cells w b c) (λ z. n (g .answer ∙ z))) ∙ i);
+          answer = g .answer ∙ ap (λ x. x .answer) (sym (went-code ∙ stack-off h (scriptOf m .blocks) _ (stateAfter h m marks cells s w b c) (λ z. n (g .answer ∙ z))) ∙ i);
           slots = λ z. absurd (n z);
           good = λ z. absurd (n z);
         }
@@ -189,7 +190,7 @@ module _ {m : Memory} {marks : List Bool} {stack : List ℕ} {w : Walk} {depth :
         module _ (z : v .walk .answer ≡ 0) where
           new-marks : take (m .count) marks′ ≡ set (take (m .count) marks) b true
           unfolding visited
-          new-marks = ap (λ s. s .marks) (g .state z)
+          new-marks = ap (λ x. x .marks) (g .state z)
 
           pub less : suc (unmarked (take (m .count) marks′)) ≡ unmarked (take (m .count) marks)
           less = ap (λ l. suc (unmarked l)) new-marks ∙ one-less
@@ -203,7 +204,7 @@ module _ {m : Memory} {marks : List Bool} {stack : List ℕ} {w : Walk} {depth :
             grows-two (to x) = omega arith
             grows-two (to-both x y) = omega arith
 
-            pub again : Ready m marks′ stack′ (v .walk) depth′
+            pub again : Ready m marks′ stack′ s′ (v .walk) depth′
             again = record {
               accepted = r .accepted;
               long = ap length new-marks ∙ length-set (take (m .count) marks) b true ∙ r .long;
@@ -215,12 +216,12 @@ module _ {m : Memory} {marks : List Bool} {stack : List ℕ} {w : Walk} {depth :
               low = subst (AllLow (v .walk .cells)) (sym (p .is)) (low-pushed (w .cells) (v .walk .cells) (linkIn (v .next)) (linkIn (v .other)) (v .then) (v .otherwise) (stackOf stack (top - 1)) (g .more) (g .lowNext) (g .lowElse) (top-lows .1));
             }
 
-            pub same : walksIn h m marks′ cells′ stack′ depth′ (v .walk) ≡ walksIn h m marks cells stack depth w
+            pub same : walksIn h m marks′ cells′ stack′ depth′ s′ (v .walk) ≡ walksIn h m marks cells stack depth s w
             same =
-                ap (λ es. walks h (scriptOf m .blocks) (map (under m cells′) es) (stateOf (m .count) marks′ (v .walk))) (p .is)
+                ap (λ es. walks h (scriptOf m .blocks) (map (under m cells′) es) (stateOf (m .count) marks′ s′ (v .walk))) (p .is)
                 ∙ ap₂ (walks h (scriptOf m .blocks)) (under-pushed m cells′ (linkIn (v .next)) (linkIn (v .other)) (v .then) (v .otherwise) (stackOf stack (top - 1)) ∙ as-read) (g .state z)
                 ∙ sym went-code
               where
                 as-read : pushed (waysBy (linkIn (v .next)) (linkIn (v .other)) (conditionIn m cells′ (v .then)) (conditionIn m cells′ (v .otherwise))) (map (under m cells′) (stackOf stack (top - 1)))
-                    ≡ pushed (waysBy (linkIn (blockWord m b 3)) (linkIn (blockWord m b 4)) (scanIn m marks cells w b c .onNext) (scanIn m marks cells w b c .onElse)) (map (under m cells) (stackOf stack (top - 1)))
+                    ≡ pushed (waysBy (linkIn (blockWord m b 3)) (linkIn (blockWord m b 4)) (scanIn m marks cells s w b c .onNext) (scanIn m marks cells s w b c .onElse)) (map (under m cells) (stackOf stack (top - 1)))
                 as-read = rw (g .next, g .other, g .onNext, g .onElse, under-same m (w .cells) cells′ cells (g .same) (stackOf stack (top - 1)) (top-lows .1))

@@ -12,7 +12,8 @@ use Rattle.model.specs.Expr.{Expr}
 use Rattle.model.specs.Sheet.{Sheet, itemCount}
 use Rattle.model.specs.Memory.{Memory, linkIn, scriptOf}
 use Rattle.model.specs.Parse.{State, parse}
-use Rattle.shop.specs.Shapes.{slotsOf, noShop}
+use Rattle.shop.specs.Shapes.{slotsOf}
+use Rattle.shop.specs.declared.Shop.{Shop}
 use Rattle.scan.specs.Slots.{GoodShop}
 use Rattle.visit.specs.declared.Walk.{Walk}
 use Rattle.visit.specs.State.{Accepted, stateOf, conditionIn, KeyedIn}
@@ -55,8 +56,8 @@ isCodeAt bw nb b = cond (ltb b nb) (eqb (getD bw (5 * b) 0) 1) false
 abbrev pub under : Memory → List ℕ → Entry ℕ → Entry (Option Expr)
 under m cells e = entry (e .block) (conditionIn m cells (e .under))
 
-abbrev pub walksIn : Sheet → Memory → List Bool → List ℕ → List ℕ → ℕ → Walk → State
-walksIn h m marks cells stack depth w = walks h (scriptOf m .blocks) (map (under m cells) (stackOf stack depth)) (stateOf (m .count) marks w)
+abbrev pub walksIn : Sheet → Memory → List Bool → List ℕ → List ℕ → ℕ → Shop → Walk → State
+walksIn h m marks cells stack depth s w = walks h (scriptOf m .blocks) (map (under m cells) (stackOf stack depth)) (stateOf (m .count) marks s w)
 
 -- each condition is of one of j cells
 abbrev pub AllLow : ℕ → List (Entry ℕ) → Type 0
@@ -72,25 +73,25 @@ pub record Keying (items : ℕ) (m : Memory) (keys leaves : List ℕ) (n : ℕ) 
   pub keyed : KeyedIn sheet m keys leaves n
 
 -- nothing is refused, and there is room on the stack and among the cells for each block that is not marked
-pub record Ready (m : Memory) (marks : List Bool) (stack : List ℕ) (w : Walk) (depth : ℕ) : Type 0 where
+pub record Ready (m : Memory) (marks : List Bool) (stack : List ℕ) (s : Shop) (w : Walk) (depth : ℕ) : Type 0 where
   pub accepted : Accepted m
   pub long : length (take (m .count) marks) ≡ m .count
   pub tall : length stack ≡ 8194
   pub room : depth + unmarked (take (m .count) marks) ≤ 4097
   pub free : w .cells + unmarked (take (m .count) marks) ≤ blockLimit
   pub fine : w .answer ≡ 0
-  pub good : GoodShop (w .shop)
+  pub good : GoodShop s
   pub low : AllLow (w .cells) (stackOf stack depth)
 
 abbrev pub startWalk : Walk
-startWalk = record { shop = noShop; limit = pos 0; cells = 0; answer = 0 }
+startWalk = record { limit = pos 0; cells = 0; answer = 0 }
 
 -- where there is a refusal only the answer counts
-pub record Came (st : State) (r : Walk) : Type 0 where
+pub record Came (st : State) (s : Shop) (r : Walk) : Type 0 where
   pub answer : r .answer ≡ st .answer
-  pub slots : r .answer ≡ 0 → slotsOf (r .shop) ≡ st .slots
-  pub good : r .answer ≡ 0 → GoodShop (r .shop)
+  pub slots : r .answer ≡ 0 → slotsOf s ≡ st .slots
+  pub good : r .answer ≡ 0 → GoodShop s
 
 -- the script of m parsed from block b
-abbrev pub Walked : Sheet → Memory → ℕ → Walk → Type 0
-Walked h m b r = Came (parse h (scriptOf m .blocks) b) r
+abbrev pub Walked : Sheet → Memory → ℕ → Shop → Walk → Type 0
+Walked h m b s r = Came (parse h (scriptOf m .blocks) b) s r

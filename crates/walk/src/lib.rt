@@ -6,6 +6,8 @@ ghost use lib.ListN.{length, getD, take};
 ghost use Rattle.model.specs.Sheet.{Sheet, itemCount};
 ghost use Rattle.model.specs.Memory.{memoryIn};
 ghost use Rattle.model.specs.Refusal.{parseNotCode};
+ghost use Rattle.shop.specs.Shapes.{noShop};
+ghost use Rattle.shop_arrays.specs.Arrays.{arraysIn, shopFrom};
 ghost use Rattle.visit.specs.State.{Accepted, KeyedIn};
 ghost use Rattle.walk.specs.Dfs.{entry, to};
 ghost use Rattle.walk.specs.Walks.{Walked, Keying, Ready, Came, startWalk, isCodeAt, topOf, ways, Pushed, walksIn};
@@ -13,7 +15,6 @@ use conditions::flatten_roots;
 use keys::key_nodes;
 use memory::Counts;
 use memory::index_of;
-use shop::empty_shop;
 use visit::Visited;
 use visit::Walk;
 use visit::visit;
@@ -85,9 +86,7 @@ fn is_code(bw: &[u16; 20480], nb: u16, b: u16) -> bool
 fn stopped(w: Walk) -> Walk
     ensures { λ r. ⌜ r .answer ≡ parseNotCode ⌝ }
 {
-    let s = w.shop;
     Walk {
-        shop: s,
         limit: w.limit,
         cells: w.cells,
         answer: 10,
@@ -97,16 +96,14 @@ fn stopped(w: Walk) -> Walk
 fn start() -> Walk
     ensures { λ r. ⌜ r ≡ startWalk ⌝ }
 {
-    let s = empty_shop();
     Walk {
-        shop: s,
         limit: 0,
         cells: 0,
         answer: 0,
     }
 }
 
-// The walk of what is on the stack: each block once, next before else. Each turn marks one block more: the measure is the number of unmarked blocks.
+// The walk of what is on the stack: each block once, next before else. known is how many items the sheet has. Each turn marks one block more: the measure is the number of unmarked blocks.
 fn walk_all(
     ws: &[u16; 98304],
     val: &[i32; 32768],
@@ -118,14 +115,18 @@ fn walk_all(
     marks: &mut [bool; 4096],
     cells: &mut [u16; 8192],
     stack: &mut [u16; 8194],
+    items: &mut [i32; 20],
+    limits: &mut [i16; 20],
+    codes: &mut [u64; 640],
+    lens: &mut [u8; 20],
     k: Counts,
     keyed: u16,
-    items: u16,
+    known: u16,
     first: Walk,
 ) -> Walk
-    requires { ⌜ Keying items (memoryIn (now ws) (now val) (now cw) (now bw) (k .nodes) (k .commands) (k .blocks)) (now keys) (now lf) keyed ⌝ }
-    requires { ⌜ Ready (memoryIn (now ws) (now val) (now cw) (now bw) (k .nodes) (k .commands) (k .blocks)) (now marks) (now stack) first 1 ⌝ }
-    ensures { λ r. ⌜ ((h : Sheet) → itemCount h ≡ items → KeyedIn h (memoryIn (now (ws .entry)) (now (val .entry)) (now (cw .entry)) (now (bw .entry)) (k .nodes) (k .commands) (k .blocks)) (now (keys .entry)) (now (lf .entry)) keyed → Came (walksIn h (memoryIn (now (ws .entry)) (now (val .entry)) (now (cw .entry)) (now (bw .entry)) (k .nodes) (k .commands) (k .blocks)) (now (marks .entry)) (now (cells .entry)) (now (stack .entry)) 1 first) r) ⌝ }
+    requires { ⌜ Keying known (memoryIn (now ws) (now val) (now cw) (now bw) (k .nodes) (k .commands) (k .blocks)) (now keys) (now lf) keyed ⌝ }
+    requires { ⌜ Ready (memoryIn (now ws) (now val) (now cw) (now bw) (k .nodes) (k .commands) (k .blocks)) (now marks) (now stack) (shopFrom (arraysIn (now items) (now limits) (now codes) (now lens))) first 1 ⌝ }
+    ensures { λ r. ⌜ ((h : Sheet) → itemCount h ≡ known → KeyedIn h (memoryIn (now (ws .entry)) (now (val .entry)) (now (cw .entry)) (now (bw .entry)) (k .nodes) (k .commands) (k .blocks)) (now (keys .entry)) (now (lf .entry)) keyed → Came (walksIn h (memoryIn (now (ws .entry)) (now (val .entry)) (now (cw .entry)) (now (bw .entry)) (k .nodes) (k .commands) (k .blocks)) (now (marks .entry)) (now (cells .entry)) (now (stack .entry)) 1 (shopFrom (arraysIn (now (items .entry)) (now (limits .entry)) (now (codes .entry)) (now (lens .entry)))) first) (shopFrom (arraysIn (now (items .exit)) (now (limits .exit)) (now (codes .exit)) (now (lens .exit)))) r) ⌝ }
 {
     let mut w = first;
     let mut depth = 1;
@@ -149,9 +150,13 @@ fn walk_all(
             seen,
             marks,
             cells,
+            items,
+            limits,
+            codes,
+            lens,
             k,
             keyed,
-            items,
+            known,
             w,
             b,
             stack[2 * d + 1],
@@ -165,7 +170,7 @@ fn walk_all(
     w
 }
 
-// The walk from block setup, over keys that are there; the large arrays are made here and lent to the loop.
+// The walk from block setup, over keys that are there and slots that are empty; the large arrays are made here and lent to the loop.
 fn walk_from(
     ws: &[u16; 98304],
     val: &[i32; 32768],
@@ -173,14 +178,18 @@ fn walk_from(
     bw: &[u16; 20480],
     lf: &[u16; 98304],
     keys: &[u64; 32768],
+    items: &mut [i32; 20],
+    limits: &mut [i16; 20],
+    codes: &mut [u64; 640],
+    lens: &mut [u8; 20],
     k: Counts,
     keyed: u16,
-    items: u16,
+    known: u16,
     setup: u16,
 ) -> Walk
-    requires { ⌜ Keying items (memoryIn (now ws) (now val) (now cw) (now bw) (k .nodes) (k .commands) (k .blocks)) (now keys) (now lf) keyed ⌝ }
-    requires { ⌜ Accepted (memoryIn (now ws) (now val) (now cw) (now bw) (k .nodes) (k .commands) (k .blocks)) ⌝ }
-    ensures { λ r. ⌜ ((h : Sheet) → itemCount h ≡ items → KeyedIn h (memoryIn (now (ws .entry)) (now (val .entry)) (now (cw .entry)) (now (bw .entry)) (k .nodes) (k .commands) (k .blocks)) (now (keys .entry)) (now (lf .entry)) keyed → Walked h (memoryIn (now (ws .entry)) (now (val .entry)) (now (cw .entry)) (now (bw .entry)) (k .nodes) (k .commands) (k .blocks)) setup r) ⌝ }
+    requires { ⌜ Keying known (memoryIn (now ws) (now val) (now cw) (now bw) (k .nodes) (k .commands) (k .blocks)) (now keys) (now lf) keyed ⌝ }
+    requires { ⌜ Accepted (memoryIn (now ws) (now val) (now cw) (now bw) (k .nodes) (k .commands) (k .blocks)) × (shopFrom (arraysIn (now items) (now limits) (now codes) (now lens)) ≡ noShop) ⌝ }
+    ensures { λ r. ⌜ ((h : Sheet) → itemCount h ≡ known → KeyedIn h (memoryIn (now (ws .entry)) (now (val .entry)) (now (cw .entry)) (now (bw .entry)) (k .nodes) (k .commands) (k .blocks)) (now (keys .entry)) (now (lf .entry)) keyed → Walked h (memoryIn (now (ws .entry)) (now (val .entry)) (now (cw .entry)) (now (bw .entry)) (k .nodes) (k .commands) (k .blocks)) setup (shopFrom (arraysIn (now (items .exit)) (now (limits .exit)) (now (codes .exit)) (now (lens .exit)))) r) ⌝ }
 {
     let mut seen = [false; 65536];
     let mut marks = [false; 4096];
@@ -198,31 +207,54 @@ fn walk_from(
         &mut marks,
         &mut cells,
         &mut stack,
+        items,
+        limits,
+        codes,
+        lens,
         k,
         keyed,
-        items,
+        known,
         start(),
     )
 }
 
-// The walk of an accepted script from block setup, for every sheet of so many items and atcs.
+// The walk of an accepted script from block setup, for every sheet of so many items and atcs. It finds the slots empty and leaves what it read in them.
 pub fn walk(
     ws: &[u16; 98304],
     val: &[i32; 32768],
     cw: &[u16; 65536],
     bw: &[u16; 20480],
+    items: &mut [i32; 20],
+    limits: &mut [i16; 20],
+    codes: &mut [u64; 640],
+    lens: &mut [u8; 20],
     k: Counts,
-    items: u16,
+    known: u16,
     atcs: u16,
     setup: u16,
 ) -> Walk
-    requires { ⌜ Accepted (memoryIn (now ws) (now val) (now cw) (now bw) (k .nodes) (k .commands) (k .blocks)) × (setup < k .blocks) ⌝ }
-    ensures { λ r. ⌜ ((h : Sheet) → itemCount h ≡ items → h .atcCount ≡ atcs → Walked h (memoryIn (now (ws .entry)) (now (val .entry)) (now (cw .entry)) (now (bw .entry)) (k .nodes) (k .commands) (k .blocks)) setup r) ⌝ }
+    requires { ⌜ Accepted (memoryIn (now ws) (now val) (now cw) (now bw) (k .nodes) (k .commands) (k .blocks)) × ((setup < k .blocks) × (shopFrom (arraysIn (now items) (now limits) (now codes) (now lens)) ≡ noShop)) ⌝ }
+    ensures { λ r. ⌜ ((h : Sheet) → itemCount h ≡ known → h .atcCount ≡ atcs → Walked h (memoryIn (now (ws .entry)) (now (val .entry)) (now (cw .entry)) (now (bw .entry)) (k .nodes) (k .commands) (k .blocks)) setup (shopFrom (arraysIn (now (items .exit)) (now (limits .exit)) (now (codes .exit)) (now (lens .exit)))) r) ⌝ }
 {
     let mut lf = [0u16; 98304];
     let mut keys = [0u64; 32768];
     let n = index_of(k.nodes);
-    let keyed = key_nodes(ws, val, &mut lf, &mut keys, items, atcs, n);
+    let keyed = key_nodes(ws, val, &mut lf, &mut keys, known, atcs, n);
     flatten_roots(ws, cw, bw, &mut lf, n, index_of(k.blocks));
-    walk_from(ws, val, cw, bw, &lf, &keys, k, keyed, items, setup)
+    walk_from(
+        ws,
+        val,
+        cw,
+        bw,
+        &lf,
+        &keys,
+        items,
+        limits,
+        codes,
+        lens,
+        k,
+        keyed,
+        known,
+        setup,
+    )
 }

@@ -1,47 +1,67 @@
 -- `update_slots` meets its contract. The loop's invariant: the slots below at are done, the others as they were. Assumes nothing.
 use borrow.Author.Tests.{not-true, not-false}
 use Rattle.model.specs.Limits.{slotCount}
-use Rattle.scan.specs.Slots.{GoodSlot}
+use Rattle.shop.specs.declared.Shop.{Shop}
+use Rattle.shop_arrays.specs.Arrays.{arraysIn, shopFrom}
+use Rattle.shop_arrays.specs.Slots.{slots-long, slot-in}
+use Rattle.scan.specs.Slots.{beyond, GoodSlot}
 use Rattle.scan.specs.AllSlots.{Halfway, half-start, half-to, half-next, half-refused, half-done}
-use Rattle.scan.proofs.NoneOf.{length-mapped}
 use Prim.Native.Nat.{_-_}
 use native.Mathlib.Omega.{arith}
-use lib.ListN.{length}
-use mathlib.Core.Path.{refl, _≡_, sym, subst}
+use lib.ListN.{length, getD}
+use mathlib.Core.Path.{_≡_, sym, subst, _∙_}
 use borrow.Author.Needs.{needs}
 use Rattle.scan.proofs.update_slots.Statement.{statement}
 use Rattle.scan.proofs.update_slots.Tie as tie
 
 abbrev Inv-loop : tie.InvT-loop
-Inv-loop shop items t hidden out₀ at₀ out at = Halfway shop items t hidden out at
+Inv-loop items₀ limits₀ codes₀ lens₀ known t hidden at₀ items limits codes lens at =
+    Halfway (shopFrom (arraysIn items₀ limits₀ codes₀ lens₀)) known t hidden (shopFrom (arraysIn items limits codes lens)) at
 
 abbrev μ-loop : tie.MeasureT-loop
-μ-loop shop items t hidden out₀ at₀ out at = slotCount - at
+μ-loop items₀ limits₀ codes₀ lens₀ known t hidden at₀ items limits codes lens at = slotCount - at
 
 -- the arrays' lengths
-shop-size : (c : tie.Start Inv-loop μ-loop) → length (c .args .shop .slots) ≡ slotCount
-shop-size c = search (length-mapped, needs)
-
 items-size : (c : tie.Start Inv-loop μ-loop) → length (c .args .t .items) ≡ slotCount
 items-size c = search needs
 
 counts-size : (c : tie.Start Inv-loop μ-loop) → length (c .args .t .counts) ≡ slotCount
 counts-size c = search needs
 
+-- the slots at the start
+abbrev first : tie.Start Inv-loop μ-loop → Shop
+first s = shopFrom (arraysIn (s .args .items .now) (s .args .limits .now) (s .args .codes .now) (s .args .lens .now))
+
+-- the slots where a turn begins
+abbrev turn : tie.In-loop Inv-loop μ-loop → Shop
+turn c = shopFrom (arraysIn (c .before .loop .items) (c .before .loop .limits) (c .before .loop .codes) (c .before .loop .lens))
+
+-- up to the slot that the masks tell of next
+up-to : (c : tie.Else1 Inv-loop μ-loop) → let s = c .before .before .before .before in Halfway (first s) (s .args .known) (s .args .t) (s .args .hidden) (turn (c .before .before)) (c .before .next-touched .result)
+up-to c =
+    let s = c .before .before .before .before in
+    let n = c .before .next-touched .ensures in
+    half-to (first s) (s .args .known) (s .args .t) (s .args .hidden) (s .pre .1) (counts-size s) (turn (c .before .before)) (c .before .before .before .loop .at) (c .before .next-touched .result) (c .before .before .before .loop .inv) (omega arith) (omega (arith, c .if1 .left)) (omega arith)
+
+-- the slot that was read
+read : (c : tie.After-slot-at Inv-loop μ-loop) → let e = c .before .before .before .before .before in c .slot-at .result ≡ getD (turn (e .before .before) .slots) (e .before .next-touched .result) beyond
+read c = let e = c .before .before .before .before .before in c .slot-at .ensures ∙ sym (slot-in _ (e .before .next-touched .result) beyond (e .if1 .left))
+
 loop-holds : tie.Need-loop-holds Inv-loop μ-loop
-loop-holds c = let m = shop-size (c) in half-start (c .args .shop) (c .args .items) (c .args .t) (c .args .hidden) m
+loop-holds c = half-start _ _ _ _ (slots-long _)
 
 next-touched-requires : tie.Need-next-touched-requires Inv-loop μ-loop
 next-touched-requires c κs = search needs
 
 returns : tie.Need-returns Inv-loop μ-loop
-returns c = let m = shop-size (c .before .before .before .before) in let k = counts-size (c .before .before .before .before) in let j = items-size (c .before .before .before .before) in let n = c .before .next-touched .ensures in half-done (c .before .before .before .before .args .shop) (c .before .before .before .before .args .items) (c .before .before .before .before .args .t) (c .before .before .before .before .args .hidden) m j k (c .before .before .before .loop .out) slotCount (omega arith) (half-to (c .before .before .before .before .args .shop) (c .before .before .before .before .args .items) (c .before .before .before .before .args .t) (c .before .before .before .before .args .hidden) (c .before .before .before .before .pre .1) k (c .before .before .before .loop .out) (c .before .before .before .loop .at) slotCount (c .before .before .before .loop .inv) (c .before .before .before .loop .inv .low) (omega arith) (omega (arith, c .if1 .taken))) _ refl refl
+returns c =
+    let s = c .before .before .before .before in
+    let l = c .before .before .before .loop in
+    half-done (first s) (s .args .known) (s .args .t) (s .args .hidden) (slots-long _) (items-size s) (counts-size s) (turn (c .before .before)) slotCount (omega arith)
+    (half-to (first s) (s .args .known) (s .args .t) (s .args .hidden) (s .pre .1) (counts-size s) (turn (c .before .before)) (l .at) slotCount (l .inv) (l .inv .low) (omega arith) (let n = c .before .next-touched .ensures in omega (arith, c .if1 .taken)))
 
-mul-slot : tie.Need-mul-slot Inv-loop μ-loop
-mul-slot c = search needs
-
-element-copy-out-slot : tie.Need-element-copy-out-slot Inv-loop μ-loop
-element-copy-out-slot c = search needs
+slot-at-requires : tie.Need-slot-at-requires Inv-loop μ-loop
+slot-at-requires c κs = search needs
 
 item-at-requires : tie.Need-item-at-requires Inv-loop μ-loop
 item-at-requires c κs = search needs
@@ -50,28 +70,41 @@ count-at-requires : tie.Need-count-at-requires Inv-loop μ-loop
 count-at-requires c κs = search needs
 
 update-slot-requires : tie.Need-update-slot-requires Inv-loop μ-loop
-update-slot-requires c κs = let n = c .before .before .before .before .next-touched .ensures in (c .before .before .before .before .before .before .before .pre .0, subst GoodSlot (sym (c .before .before .before .before .before .before .loop .inv .rest (c .before .before .before .before .next-touched .result) (omega arith))) (c .before .before .before .before .before .before .before .pre .1 .each (c .before .before .before .before .next-touched .result) (c .before .before .before .if1 .left)))
+update-slot-requires c κs =
+    let e = c .before .before .before .before .before .before .before in
+    let s = e .before .before .before .before in
+    (s .pre .0, subst GoodSlot (sym (read (c .before .before) ∙ up-to e .rest (e .before .next-touched .result) (omega arith))) (s .pre .1 .each (e .before .next-touched .result) (e .if1 .left)))
 
 returns-2 : tie.Need-returns-2 Inv-loop μ-loop
-returns-2 c = let m = shop-size (c .before .before .before .before .before .before .before .before .before .before) in let k = counts-size (c .before .before .before .before .before .before .before .before .before .before) in let j = items-size (c .before .before .before .before .before .before .before .before .before .before) in let n = c .before .before .before .before .before .before .before .next-touched .ensures in half-refused (c .before .before .before .before .before .before .before .before .before .before .args .shop) (c .before .before .before .before .before .before .before .before .before .before .args .items) (c .before .before .before .before .before .before .before .before .before .before .args .t) (c .before .before .before .before .before .before .before .before .before .before .args .hidden) (c .before .before .before .before .before .before .before .before .before .before .pre .1) k (c .before .before .before .before .before .before .before .before .before .loop .out) (c .before .before .before .before .before .before .before .next-touched .result) (half-to (c .before .before .before .before .before .before .before .before .before .before .args .shop) (c .before .before .before .before .before .before .before .before .before .before .args .items) (c .before .before .before .before .before .before .before .before .before .before .args .t) (c .before .before .before .before .before .before .before .before .before .before .args .hidden) (c .before .before .before .before .before .before .before .before .before .before .pre .1) k (c .before .before .before .before .before .before .before .before .before .loop .out) (c .before .before .before .before .before .before .before .before .before .loop .at) (c .before .before .before .before .before .before .before .next-touched .result) (c .before .before .before .before .before .before .before .before .before .loop .inv) (omega arith) (omega (arith, c .before .before .before .before .before .before .if1 .left)) (omega arith)) (c .before .before .before .before .before .before .if1 .left) (c .before .before .update-slot .result) (λ h rs e w. rw (c .before .before .before .before .item-at .ensures, c .before .before .before .count-at .ensures) at (c .before .before .update-slot .ensures h rs e w)) m j _ (not-true _ (c .if2 .taken)) refl refl
+returns-2 c =
+    let e = c .before .before .before .before .before .before .before .before .before .before in
+    let s = e .before .before .before .before in
+    half-refused (first s) (s .args .known) (s .args .t) (s .args .hidden) (s .pre .1) (counts-size s) (turn (e .before .before)) (e .before .next-touched .result) (up-to e) (e .if1 .left)
+    (c .before .before .update-slot .result) _ _ _ (c .before .before .before .before .item-at .ensures) (c .before .before .before .count-at .ensures) (read (c .before .before .before .before .before)) (c .before .before .update-slot .ensures) (slots-long _) (items-size s) _ (not-true _ (c .if2 .taken))
 
-mul-changed : tie.Need-mul-changed Inv-loop μ-loop
-mul-changed c = search needs
-
-element-set-from-changed : tie.Need-element-set-from-changed Inv-loop μ-loop
-element-set-from-changed c = search needs
+put-slot-requires : tie.Need-put-slot-requires Inv-loop μ-loop
+put-slot-requires c κs = search needs
 
 add-at : tie.Need-add-at Inv-loop μ-loop
 add-at c = search needs
 
 loop-less : tie.Need-loop-less Inv-loop μ-loop
-loop-less c = let n = c .before .before .before .before .before .before .before .before .next-touched .ensures in omega (arith, c .before .before .before .before .before .before .before .if1 .left, c .before .before .before .before .before .before .before .before .before .loop-test .taken)
+loop-less c =
+    let e = c .before .before .before .before .before .before .before .before .before .before .before .before .before .before .before .before in
+    let n = e .before .next-touched .ensures in
+    omega (arith, e .if1 .left, e .before .before .loop-test .taken)
 
 loop-again : tie.Need-loop-again Inv-loop μ-loop
-loop-again c = let k = counts-size (c .before .before .before .before .before .before .before .before .before .before .before) in let n = c .before .before .before .before .before .before .before .before .next-touched .ensures in half-next (c .before .before .before .before .before .before .before .before .before .before .before .args .shop) (c .before .before .before .before .before .before .before .before .before .before .before .args .items) (c .before .before .before .before .before .before .before .before .before .before .before .args .t) (c .before .before .before .before .before .before .before .before .before .before .before .args .hidden) (c .before .before .before .before .before .before .before .before .before .before .before .pre .1) k (c .before .before .before .before .before .before .before .before .before .before .loop .out) (c .before .before .before .before .before .before .before .before .next-touched .result) (half-to (c .before .before .before .before .before .before .before .before .before .before .before .args .shop) (c .before .before .before .before .before .before .before .before .before .before .before .args .items) (c .before .before .before .before .before .before .before .before .before .before .before .args .t) (c .before .before .before .before .before .before .before .before .before .before .before .args .hidden) (c .before .before .before .before .before .before .before .before .before .before .before .pre .1) k (c .before .before .before .before .before .before .before .before .before .before .loop .out) (c .before .before .before .before .before .before .before .before .before .before .loop .at) (c .before .before .before .before .before .before .before .before .next-touched .result) (c .before .before .before .before .before .before .before .before .before .before .loop .inv) (omega arith) (omega (arith, c .before .before .before .before .before .before .before .if1 .left)) (omega arith)) (c .before .before .before .before .before .before .before .if1 .left) (c .before .before .before .update-slot .result) (λ h rs e w. rw (c .before .before .before .before .before .item-at .ensures, c .before .before .before .before .count-at .ensures) at (c .before .before .before .update-slot .ensures h rs e w)) (not-false _ (c .before .if2 .left))
+loop-again c =
+    let e = c .before .before .before .before .before .before .before .before .before .before .before .before .before .before .before .before in
+    let s = e .before .before .before .before in
+    half-next (first s) (s .args .known) (s .args .t) (s .args .hidden) (s .pre .1) (counts-size s) (turn (e .before .before)) (e .before .next-touched .result) (up-to e) (e .if1 .left)
+    (c .before .before .before .before .before .before .before .before .update-slot .result) _ _ _ (c .before .before .before .before .before .before .before .before .before .before .item-at .ensures) (c .before .before .before .before .before .before .before .before .before .count-at .ensures) (read (c .before .before .before .before .before .before .before .before .before .before .before)) (c .before .before .before .before .before .before .before .before .update-slot .ensures) _ (c .put-slot .ensures) (not-false _ (c .before .before .before .before .before .before .if2 .left))
 
 returns-3 : tie.Need-returns-3 Inv-loop μ-loop
-returns-3 c = let m = shop-size (c .before .before) in let k = counts-size (c .before .before) in let j = items-size (c .before .before) in half-done (c .before .before .args .shop) (c .before .before .args .items) (c .before .before .args .t) (c .before .before .args .hidden) m j k (c .before .loop .out) (c .before .loop .at) (omega (arith, c .loop-test .left)) (c .before .loop .inv) _ refl refl
+returns-3 c =
+    let s = c .before .before in
+    half-done (first s) (s .args .known) (s .args .t) (s .args .hidden) (slots-long _) (items-size s) (counts-size s) _ (c .before .loop .at) (omega (arith, c .loop-test .left)) (c .before .loop .inv)
 
 pub update-slots-spec : {M : Type 1} → statement M
 update-slots-spec =
@@ -82,14 +115,12 @@ update-slots-spec =
     loop-holds
     next-touched-requires
     returns
-    mul-slot
-    element-copy-out-slot
+    slot-at-requires
     item-at-requires
     count-at-requires
     update-slot-requires
     returns-2
-    mul-changed
-    element-set-from-changed
+    put-slot-requires
     add-at
     loop-less
     loop-again

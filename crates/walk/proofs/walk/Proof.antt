@@ -19,10 +19,10 @@ flatten-roots-requires : tie.Need-flatten-roots-requires
 flatten-roots-requires c κs = let n = few-nodes _ (c .before .before .before .before .before .before .pre .0) in let b = few-blocks _ (c .before .before .before .before .before .before .pre .0) in (omega (arith, c .before .before .before .before .before .index-of .ensures), omega (arith, c .index-of2 .ensures))
 
 walk-from-requires : tie.Need-walk-from-requires
-walk-from-requires c κs = let a = c .before .before .before .before .before .before .before .before .before in (keying (a .args .items) (a .args .atcs) _ _ _ _ (by-counts (a .args .items) (a .args .atcs) _ _ _ _ _ _ (c .before .before .before .before .before .before .before .before .index-of .ensures) (c .before .before .before .before .before .key-nodes .ensures) (c .before .before .flatten-roots .ensures)), a .pre .0)
+walk-from-requires c κs = let a = c .before .before .before .before .before .before .before .before .before .before .before .before .before in (keying (a .args .known) (a .args .atcs) _ _ _ _ (by-counts (a .args .known) (a .args .atcs) _ _ _ _ _ _ (c .before .before .before .before .before .before .before .before .before .before .before .before .index-of .ensures) (c .before .before .before .before .before .before .before .before .before .key-nodes .ensures) (c .before .before .before .before .before .before .flatten-roots .ensures)), (a .pre .0, a .pre .1 .1))
 
 returns : tie.Need-returns
-returns c = λ h e f. c .walk-from .ensures h e (keyed-in _ _ _ _ _ _ _ _ (c .before .before .before .before .before .before .before .before .before .index-of .ensures) (c .before .before .before .before .before .before .key-nodes .ensures) (c .before .before .before .flatten-roots .ensures) h e f)
+returns c = λ h e f. c .walk-from .ensures h e (keyed-in _ _ _ _ _ _ _ _ (c .before .before .before .before .before .before .before .before .before .before .before .before .before .index-of .ensures) (c .before .before .before .before .before .before .before .before .before .before .key-nodes .ensures) (c .before .before .before .before .before .before .before .flatten-roots .ensures) h e f)
 
 pub walk-spec : {M : Type 1} → statement M
 walk-spec =

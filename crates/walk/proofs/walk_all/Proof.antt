@@ -1,11 +1,16 @@
 -- The loop's invariant: what is on the stack is still to be walked, from what there is so far; the measure is the number of unmarked blocks. Assumes nothing.
 use mathlib.Core.Path.{_≡_, refl, sym, _∙_}
+use mathlib.Core.List.{List}
+use Prim.Native.Nat.{ℕ}
 use native.Mathlib.Omega.{arith}
+use lib.IntN.{ℤ}
 use lib.ListN.{take}
 use borrow.Author.Needs.{needs}
 use borrow.Author.Tests.{not-true, not-false}
 use Rattle.model.specs.Sheet.{Sheet, itemCount}
 use Rattle.model.specs.Memory.{memoryIn}
+use Rattle.shop.specs.declared.Shop.{Shop}
+use Rattle.shop_arrays.specs.Arrays.{arraysIn, shopFrom}
 use Rattle.visit.specs.State.{KeyedIn}
 use Rattle.walk.specs.Marks.{unmarked}
 use Rattle.walk.specs.Walks.{Ready, walksIn}
@@ -14,14 +19,19 @@ use Rattle.walk.proofs.Turns.{few-blocks, is-code, top-fits, came-end, 
 use Rattle.walk.proofs.walk_all.Statement.{statement}
 use Rattle.walk.proofs.walk_all.Tie as tie
 
+-- the slots that the arrays stand for
+abbrev shop : List ℤ → List ℤ → List ℕ → List ℕ → Shop
+shop items limits codes lens = shopFrom (arraysIn items limits codes lens)
+
 abbrev Inv-loop : tie.InvT-loop
-Inv-loop ws val cw bw lf keys seen₀ marks₀ cells₀ stack₀ k keyed items w₀ depth₀ seen marks cells stack w depth =
-    Ready (memoryIn ws val cw bw (k .nodes) (k .commands) (k .blocks)) marks stack w depth
-    × ((h : Sheet) → itemCount h ≡ items → KeyedIn h (memoryIn ws val cw bw (k .nodes) (k .commands) (k .blocks)) keys lf keyed
-    → walksIn h (memoryIn ws val cw bw (k .nodes) (k .commands) (k .blocks)) marks cells stack depth w ≡ walksIn h (memoryIn ws val cw bw (k .nodes) (k .commands) (k .blocks)) marks₀ cells₀ stack₀ 1 w₀)
+Inv-loop ws val cw bw lf keys seen₀ marks₀ cells₀ stack₀ items₀ limits₀ codes₀ lens₀ k keyed known w₀ depth₀ seen marks cells stack items limits codes lens w depth =
+    Ready (memoryIn ws val cw bw (k .nodes) (k .commands) (k .blocks)) marks stack (shop items limits codes lens) w depth
+    × ((h : Sheet) → itemCount h ≡ known → KeyedIn h (memoryIn ws val cw bw (k .nodes) (k .commands) (k .blocks)) keys lf keyed
+    → walksIn h (memoryIn ws val cw bw (k .nodes) (k .commands) (k .blocks)) marks cells stack depth (shop items limits codes lens) w
+    ≡ walksIn h (memoryIn ws val cw bw (k .nodes) (k .commands) (k .blocks)) marks₀ cells₀ stack₀ 1 (shop items₀ limits₀ codes₀ lens₀) w₀)
 
 abbrev μ-loop : tie.MeasureT-loop
-μ-loop ws val cw bw lf keys seen₀ marks₀ cells₀ stack₀ k keyed items w₀ depth₀ seen marks cells stack w depth = unmarked (take (k .blocks) marks)
+μ-loop ws val cw bw lf keys seen₀ marks₀ cells₀ stack₀ items₀ limits₀ codes₀ lens₀ k keyed known w₀ depth₀ seen marks cells stack items limits codes lens w depth = unmarked (take (k .blocks) marks)
 
 loop-holds : tie.Need-loop-holds Inv-loop μ-loop
 loop-holds c = (c .pre .1, λ h e q. refl)
@@ -55,51 +65,51 @@ returns-2 c =
     let y = c .before in
     let a = y .before .before .before .before .before .before .before .before .loop in
     λ h e q.
-    came-stopped (a .inv .0) (y .before .before .before .before .top-unmarked .ensures) (y .before .before .before .if1 .left) refl refl h (a .cells) _ (c .stopped .result) (a .inv .1 h e q)
+    came-stopped (a .inv .0) (y .before .before .before .before .top-unmarked .ensures) (y .before .before .before .if1 .left) refl refl h (a .cells) _ _ (c .stopped .result) (a .inv .1 h e q)
     (sym (y .before .is-code .ensures) ∙ not-true _ (y .if2 .taken)) (c .stopped .ensures)
 
 mul-visit : tie.Need-mul-visit Inv-loop μ-loop
-mul-visit c = let y = c .before .before .before in omega (arith, top-fits (y .before .before .before .before .before .before .before .before .loop .inv .0) (y .before .before .before .before .top-unmarked .ensures))
+mul-visit c = let y = c .before .before .before .before .before .before .before in omega (arith, top-fits (y .before .before .before .before .before .before .before .before .loop .inv .0) (y .before .before .before .before .top-unmarked .ensures))
 
 add-visit : tie.Need-add-visit Inv-loop μ-loop
-add-visit c = let y = c .before .before .before in omega (arith, top-fits (y .before .before .before .before .before .before .before .before .loop .inv .0) (y .before .before .before .before .top-unmarked .ensures))
+add-visit c = let y = c .before .before .before .before .before .before .before in omega (arith, top-fits (y .before .before .before .before .before .before .before .before .loop .inv .0) (y .before .before .before .before .top-unmarked .ensures))
 
 mul-visit-2 : tie.Need-mul-visit-2 Inv-loop μ-loop
-mul-visit-2 c = let y = c .before .before .before in omega (arith, top-fits (y .before .before .before .before .before .before .before .before .loop .inv .0) (y .before .before .before .before .top-unmarked .ensures))
+mul-visit-2 c = let y = c .before .before .before .before .before .before .before in omega (arith, top-fits (y .before .before .before .before .before .before .before .before .loop .inv .0) (y .before .before .before .before .top-unmarked .ensures))
 
 element-copy-out-visit : tie.Need-element-copy-out-visit Inv-loop μ-loop
-element-copy-out-visit c = let y = c .before .before .before in omega (arith, top-fits (y .before .before .before .before .before .before .before .before .loop .inv .0) (y .before .before .before .before .top-unmarked .ensures))
+element-copy-out-visit c = let y = c .before .before .before .before .before .before .before in omega (arith, top-fits (y .before .before .before .before .before .before .before .before .loop .inv .0) (y .before .before .before .before .top-unmarked .ensures))
 
 visit-requires : tie.Need-visit-requires Inv-loop μ-loop
 visit-requires c κs =
-    let y = c .before .before .before .before in
+    let y = c .before .before .before .before .before .before .before .before in
     let a = y .before .before .before .before .before .before .before .before .loop in
     let s = y .before .before .before .before .before .before .before .before .before .pre .0 in
     ((s .keyed .keyed .most, s .keyed .keyed .keys), opens (a .inv .0) (y .before .before .before .before .top-unmarked .ensures) (y .before .before .before .if1 .left) refl refl (is-code _ _ (sym (y .before .is-code .ensures) ∙ not-false _ (y .if2 .left))))
 
 returns-3 : tie.Need-returns-3 Inv-loop μ-loop
 returns-3 c =
-    let y = c .before .before .before .before .before .before .before .before in
+    let y = c .before .before .before .before .before .before .before .before .before .before .before .before in
     let a = y .before .before .before .before .before .before .before .before .loop in
     λ h e q. came-refused (a .inv .0) (y .before .before .before .before .top-unmarked .ensures) (y .before .before .before .if1 .left) refl refl (is-code _ _ (sym (y .before .is-code .ensures) ∙ not-false _ (y .if2 .left))) (c .before .before .before .visit .ensures h e q) _ (a .inv .1 h e q) (c .if3 .taken)
 
 push-requires : tie.Need-push-requires Inv-loop μ-loop
 push-requires c κs =
-    let y = c .before .before .before .before .before .before .before .before .before in
+    let y = c .before .before .before .before .before .before .before .before .before .before .before .before .before in
     let a = y .before .before .before .before .before .before .before .before .loop in
     let s = y .before .before .before .before .before .before .before .before .before .pre .0 in
     (push-room (a .inv .0) (y .before .before .before .before .top-unmarked .ensures) (y .before .before .before .if1 .left) refl refl (is-code _ _ (sym (y .before .is-code .ensures) ∙ not-false _ (y .if2 .left))) (c .before .before .before .before .visit .ensures (s .sheet) (s .count) (s .keyed)) (c .before .if3 .left), a .inv .0 .tall)
 
 loop-less : tie.Need-loop-less Inv-loop μ-loop
 loop-less c =
-    let y = c .before .before .before .before .before .before .before .before .before .before in
+    let y = c .before .before .before .before .before .before .before .before .before .before .before .before .before .before in
     let a = y .before .before .before .before .before .before .before .before .loop in
     let s = y .before .before .before .before .before .before .before .before .before .pre .0 in
     omega (arith, less (a .inv .0) (y .before .before .before .before .top-unmarked .ensures) (y .before .before .before .if1 .left) refl refl (is-code _ _ (sym (y .before .is-code .ensures) ∙ not-false _ (y .if2 .left))) (c .before .before .before .before .before .visit .ensures (s .sheet) (s .count) (s .keyed)) (c .before .before .if3 .left))
 
 loop-again : tie.Need-loop-again Inv-loop μ-loop
 loop-again c =
-    let y = c .before .before .before .before .before .before .before .before .before .before in
+    let y = c .before .before .before .before .before .before .before .before .before .before .before .before .before .before in
     let a = y .before .before .before .before .before .before .before .before .loop in
     let s = y .before .before .before .before .before .before .before .before .before .pre .0 in (
       again (a .inv .0) (y .before .before .before .before .top-unmarked .ensures) (y .before .before .before .if1 .left) refl refl (is-code _ _ (sym (y .before .is-code .ensures) ∙ not-false _ (y .if2 .left))) (c .before .before .before .before .before .visit .ensures (s .sheet) (s .count) (s .keyed)) (c .before .before .if3 .left) (c .push .ensures),

@@ -1,7 +1,6 @@
--- The setup block alone is on the stack, and nothing is marked. Assumes nothing.
-use mathlib.Core.Path.{refl, subst}
-use Rattle.walk.specs.Walks.{Came}
-use Rattle.walk.proofs.Turns.{few-blocks}
+-- The setup block alone is on the stack, nothing is marked, and every slot is empty. Assumes nothing.
+use mathlib.Core.Path.{refl}
+use Rattle.walk.proofs.Turns.{few-blocks, came-as}
 use Rattle.walk.proofs.Starts.{ready-start, walks-start}
 use borrow.Author.Needs.{needs}
 use Rattle.walk.proofs.walk_from.Statement.{statement}
@@ -14,10 +13,10 @@ start-requires : tie.Need-start-requires
 start-requires c κs = search needs
 
 walk-all-requires : tie.Need-walk-all-requires
-walk-all-requires c κs = (c .before .before .before .before .before .pre .0, ready-start _ _ (few-blocks _ (c .before .before .before .before .before .pre .1)) _ refl _ (c .start .ensures) (c .before .before .before .before .before .pre .1) refl)
+walk-all-requires c κs = let a = c .before .before .before .before .before .before .before .before .before .pre in (a .0, ready-start _ _ (few-blocks _ (a .1 .0)) _ refl _ (a .1 .1) _ (c .start .ensures) (a .1 .0) refl)
 
 returns : tie.Need-returns
-returns c = λ h e q. subst (λ s. Came s (c .walk-all .result)) (walks-start _ 4096 (few-blocks _ (c .before .before .before .before .before .before .pre .1)) _ refl _ (c .before .start .ensures) h _ _ refl) (c .walk-all .ensures h e q)
+returns c = let a = c .before .before .before .before .before .before .before .before .before .before .pre in λ h e q. came-as (walks-start _ 4096 (few-blocks _ (a .1 .0)) _ refl _ (a .1 .1) _ (c .before .start .ensures) h _ _ refl) (c .walk-all .ensures h e q)
 
 pub walk-from-spec : {M : Type 1} → statement M
 walk-from-spec = tie.close (tie.spec array-write-stack start-requires walk-all-requires returns)
