@@ -11,6 +11,7 @@ use model::BlockNo;
 use shop::Sheet;
 use shop::Shop;
 use shop::empty_shop;
+use shop_arrays::shop_from;
 use visit::Walk;
 use walk::walk;
 
@@ -47,11 +48,28 @@ pub fn parse(
     if refused != 0 {
         return refused_by(refused);
     }
-    let items = attached.len() as u16;
-    let w = walk(ws, val, cw, bw, counts, items, sheet.atcs, setup.0 as u16);
+    let known = attached.len() as u16;
+    let mut items = [-1; 20];
+    let mut limits = [0; 20];
+    let mut codes = [0; 640];
+    let mut lens = [0; 20];
+    let w = walk(
+        ws,
+        val,
+        cw,
+        bw,
+        &mut items,
+        &mut limits,
+        &mut codes,
+        &mut lens,
+        counts,
+        known,
+        sheet.atcs,
+        setup.0 as u16,
+    );
     if w.answer != 0 {
         return refused_by(w.answer);
     }
-    let shop = w.shop;
+    let shop = shop_from(&items, &limits, &codes, &lens);
     ParsedShop { refusal: 0, shop }
 }

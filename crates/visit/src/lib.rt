@@ -172,14 +172,14 @@ fn moved(
     requires { ⌜ (hidden .reqs .len ≤ entryLimit) × GoodShop (shopFrom (arraysIn (now items) (now limits) (now codes) (now lens))) ⌝ }
     ensures { λ r. ⌜ Moves (shopFrom (arraysIn (now (items .entry)) (now (limits .entry)) (now (codes .entry)) (now (lens .entry)))) known (s .table) hidden (s .limit) cells (shopFrom (arraysIn (now (items .exit)) (now (limits .exit)) (now (codes .exit)) (now (lens .exit)))) r ⌝ }
 {
-    let t = s.table;
-    if t.count_mask == 0 {
+    if s.table.count_mask == 0 {
         return Walk {
             limit: s.limit,
             cells,
             answer: 0,
         };
     }
+    let t = s.table;
     if !update_slots(items, limits, codes, lens, known, t, hidden) {
         return Walk {
             limit: s.limit,

@@ -1,12 +1,11 @@
 -- `parse` meets its contract: where no check refuses, the walk's slots or its refusal. Assumes nothing.
-use mathlib.Core.Path.{_≡_, refl, sym, _∙_}
-use lib.ListN.{length}
+use mathlib.Core.Path.{_≡_, sym, _∙_}
 use native.Mathlib.Omega.{arith}
 use borrow.Author.Needs.{needs}
 use Rattle.model.specs.Memory.{Memory, memoryIn}
 use Rattle.model.specs.Sheet as Model
 use Rattle.shop.specs.Shapes.{sheetOf}
-use Rattle.shop.proofs.All.{length-mapped}
+use Rattle.shop_arrays.specs.Slots.{slots-long, shop-none}
 use Rattle.memory.specs.Transfer.{judged-kept}
 use Rattle.checks.specs.Calls.{callIn}
 use Rattle.checks.specs.Passed.{call-passed}
@@ -25,10 +24,6 @@ sheet s = sheetOf (s .args .attached .now) (s .args .sheet)
 passes : (c : tie.Else1) → let s = c .before .before .before in callIn (sheet s) (memory s) (s .args .setup .0) ≡ 0
 passes c = sym (c .before .check-call .ensures) ∙ c .if1 .left
 
--- the answer of the walk has twenty slots
-size : (c : tie.After-walk) → length (c .walk .result .shop .slots) ≡ 20
-size c = search (length-mapped, needs)
-
 check-call-requires : tie.Need-check-call-requires
 check-call-requires c κs = search needs
 
@@ -38,36 +33,43 @@ refused-by-requires c κs = search needs
 returns : tie.Need-returns
 returns c = let s = c .before .before .before .before in rw (c .refused-by .ensures) (parse-refused (sheet s) (memory s) (s .args .setup .0) _ (c .before .before .check-call .ensures) (c .before .if1 .taken))
 
-cast-items : tie.Need-cast-items
-cast-items c = let s = c .before .before .before in record { fits = omega (arith, items-low (s .args .attached .now) (s .args .sheet) (memory s) (s .args .setup .0) (passes c)) }
+cast-known : tie.Need-cast-known
+cast-known c = let s = c .before .before .before in record { fits = omega (arith, items-low (s .args .attached .now) (s .args .sheet) (memory s) (s .args .setup .0) (passes c)) }
 
 cast-walk : tie.Need-cast-walk
 cast-walk c =
-    let s = c .before .before .before .before in
-    let p = call-passed (sheet s) (memory s) (s .args .setup .0) (passes (c .before)) in
+    let e = c .before .before .before .before .before in
+    let s = e .before .before .before in
+    let p = call-passed (sheet s) (memory s) (s .args .setup .0) (passes e) in
     record { fits = omega (arith, p .inside, judged-kept (memory s) (p .blocks) (p .rest) (p .judged) .0) }
 
 walk-requires : tie.Need-walk-requires
 walk-requires c κs =
-    let s = c .before .before .before .before in
-    let p = call-passed (sheet s) (memory s) (s .args .setup .0) (passes (c .before)) in
-    (record { blocks = p .blocks; rest = p .rest; is = p .judged }, p .inside)
+    let e = c .before .before .before .before .before in
+    let s = e .before .before .before in
+    let p = call-passed (sheet s) (memory s) (s .args .setup .0) (passes e) in
+    (record { blocks = p .blocks; rest = p .rest; is = p .judged }, (p .inside, shop-none))
 
 refused-by-requires-2 : tie.Need-refused-by-requires-2
 refused-by-requires-2 c κs = search needs
 
 returns-2 : tie.Need-returns-2
 returns-2 c =
-    let s = c .before .before .before .before .before .before .before .before in
+    let e = c .before .before .before .before .before .before .before .before .before in
+    let s = e .before .before .before in
     let w = c .before .before .before .walk .ensures (sheet s) (items-counted (s .args .attached .now) (s .args .sheet)) (atcs-counted (s .args .attached .now) (s .args .sheet)) in
-    rw (c .refused-by2 .ensures) (parse-stopped (sheet s) (memory s) (s .args .setup .0) _ (passes (c .before .before .before .before .before)) (w .answer) (c .before .if2 .taken))
+    rw (c .refused-by2 .ensures) (parse-stopped (sheet s) (memory s) (s .args .setup .0) _ (passes e) (w .answer) (c .before .if2 .taken))
+
+shop-from-requires : tie.Need-shop-from-requires
+shop-from-requires c κs = search needs
 
 returns-3 : tie.Need-returns-3
 returns-3 c =
-    let s = c .before .before .before .before .before .before .before .before in
-    let o = c .before .if2 .left in
-    let w = c .before .before .before .walk .ensures (sheet s) (items-counted (s .args .attached .now) (s .args .sheet)) (atcs-counted (s .args .attached .now) (s .args .sheet)) in
-    parse-read (sheet s) (memory s) (s .args .setup .0) _ _ (passes (c .before .before .before .before .before)) (w .answer) o (w .slots o) (size (c .before .before .before)) (w .good o)
+    let e = c .before .before .before .before .before .before .before .before .before .before .before .before .before in
+    let s = e .before .before .before in
+    let o = c .before .before .before .before .before .if2 .left in
+    let w = c .before .before .before .before .before .before .before .walk .ensures (sheet s) (items-counted (s .args .attached .now) (s .args .sheet)) (atcs-counted (s .args .attached .now) (s .args .sheet)) in
+    rw (c .shop-from .ensures) (parse-read (sheet s) (memory s) (s .args .setup .0) _ _ (passes e) (w .answer) o (w .slots o) (slots-long _) (w .good o))
 
 pub parse-spec : {M : Type 1} → statement M
 parse-spec =
@@ -76,9 +78,10 @@ parse-spec =
     check-call-requires
     refused-by-requires
     returns
-    cast-items
+    cast-known
     cast-walk
     walk-requires
     refused-by-requires-2
     returns-2
+    shop-from-requires
     returns-3)

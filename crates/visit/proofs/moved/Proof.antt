@@ -21,7 +21,7 @@ counts-size c = search needs
 
 returns : tie.Need-returns
 returns c =
-    let s = c .before .before .before .before in
+    let s = c .before .before .before in
     moves-on _ (s .args .known) (s .args .s .table) (s .args .hidden) _ _ (none-counted _ (s .args .known) (s .args .s .table) (s .args .hidden) (s .pre .1) (slots-long _) (items-size s) (counts-size s) (c .before .if1 .taken))
     _ (s .args .s .limit) (toZ-ofZ {w = w16} (record { sfits = c .struct-told .given .1 .0 .1 })) refl refl
 
