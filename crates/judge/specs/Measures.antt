@@ -180,11 +180,11 @@ module _ (ws : List ℕ) (vs : List ℤ) where
         → ((n at o lim : ℕ) → lim ≤ 32768 → o + (d + 1) ≤ 64 → n + (s + 1) ≤ lim → Told (readExpr lim (64 - o) n) size (nodeImage (nodesIn ws vs lim) b i) lim 0 n at (Fine (n + (s + 1)) (at + (l + 1))))
         → Fits ws vs b i (aboveMeasure s d l)
     above-fits s d l h f = record {
-        few = least-low (s + 1) 40000;
-        levels = least-low (d + 1) 65;
-        short = above-short s l h;
-        told = told;
-      }
+      few = least-low (s + 1) 40000;
+      levels = least-low (d + 1) 65;
+      short = above-short s l h;
+      told = told;
+    }
       where
         told : (n at o lim : ℕ) → lim ≤ 32768 → o + least (d + 1) 65 ≤ 64 → n + least (s + 1) 40000 ≤ lim → Told (readExpr lim (64 - o) n) size (nodeImage (nodesIn ws vs lim) b i) lim 0 n at (Fine (n + least (s + 1) 40000) (at + least (l + 1) 240000))
         told n at o lim hl ho hn =
@@ -199,11 +199,11 @@ module _ (ws : List ℕ) (vs : List ℤ) where
 
       fits-other : k ≡ Other → Fits ws vs b i (leafMeasure 1)
       fits-other kk = record {
-          few = omega arith;
-          levels = omega arith;
-          short = omega arith;
-          told = λ n at o l hl ho hn. node-other (nodesIn ws vs l) b i l n at o k (within l n o (omega arith) (omega arith)) kk;
-        }
+        few = omega arith;
+        levels = omega arith;
+        short = omega arith;
+        told = λ n at o l hl ho hn. node-other (nodesIn ws vs l) b i l n at o k (within l n o (omega arith) (omega arith)) kk;
+      }
 
       -- a number below its limit
       imm-fits : (lim : ℕ) → ((n at o l : ℕ) → Within (nodesIn ws vs l) b i l n o k → (r : Step) → r ≡ immJudged (zig (getD vs i (pos 0))) lim (n + 1) (at + 1) → Told (readExpr l (64 - o) n) size (nodeImage (nodesIn ws vs l) b i) l 0 n at r)
@@ -213,13 +213,13 @@ module _ (ws : List ℕ) (vs : List ℤ) where
         where
           go : (t : Bool) → ltb (zig (getD vs i (pos 0))) lim ≡ t → Fits ws vs b i (cond t (leafMeasure (1 + length (word (zig (getD vs i (pos 0)))))) unfitMeasure)
           go true e = record {
-              few = omega arith;
-              levels = omega arith;
-              short = omega (arith, word-short (zig (getD vs i (pos 0))));
-              told = λ n at o l hl ho hn.
+            few = omega arith;
+            levels = omega arith;
+            short = omega (arith, word-short (zig (getD vs i (pos 0))));
+            told = λ n at o l hl ho hn.
                 let up : at + (1 + length (word (zig (getD vs i (pos 0))))) ≡ at + 1 + length (word (zig (getD vs i (pos 0)))) = omega arith in
                 rw up (f n at o l (within l n o (omega arith) (omega arith)) _ (imm-fine (zig (getD vs i (pos 0))) lim (n + 1) (at + 1) (length (word (zig (getD vs i (pos 0))))) (zig (getD vs i (pos 0))) refl (ltb-true (zig (getD vs i (pos 0))) lim e) refl));
-            }
+          }
           go false e = unfit-fits b i
 
       fits-imm16 : k ≡ Imm16 → zig (getD vs i (pos 0)) < wide → Fits ws vs b i (immMeasure (zig (getD vs i (pos 0))) 65536)
@@ -274,9 +274,9 @@ module _ (ws : List ℕ) (vs : List ℤ) where
   pub tables-more : (ss ds ls : List ℕ) (i : ℕ) (m : Measure) → Long ss ds ls (i + 1) → Tables ws vs ss ds ls i → Stands ws vs i m
       → Tables ws vs (set ss i (m .nodes)) (set ds i (m .levels)) (set ls i (m .bytes)) (i + 1)
   tables-more ss ds ls i m L T S = record {
-      long = record { sizes = omega (arith, L .sizes, length-set ss i (m .nodes)); depths = omega (arith, L .depths, length-set ds i (m .levels)); lengths = omega (arith, L .lengths, length-set ls i (m .bytes)) };
-      each = λ j h. by j h (ltb j i) refl;
-    }
+    long = record { sizes = omega (arith, L .sizes, length-set ss i (m .nodes)); depths = omega (arith, L .depths, length-set ds i (m .levels)); lengths = omega (arith, L .lengths, length-set ls i (m .bytes)) };
+    each = λ j h. by j h (ltb j i) refl;
+  }
     where
       by : (j : ℕ) → j < i + 1 → (t : Bool) → ltb j i ≡ t → Stands ws vs j (measureAt (set ss i (m .nodes)) (set ds i (m .levels)) (set ls i (m .bytes)) j)
       by j h true e =

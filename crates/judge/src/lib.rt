@@ -182,16 +182,20 @@ fn measure_node(
     requires { ⌜ (i < 32768) × Tables (now ws) (now val) (now sizes) (now depths) (now lengths) i ⌝ }
     ensures { λ r. ⌜ Stands (now (ws .entry)) (now (val .entry)) i r ⌝ }
 {
-    let c = ws[3 * i];
-    if c >= 19 {
+    let code = ws[3 * i];
+    if code >= 19 {
         return unfit();
     }
-    let k = kind_of(c);
+    let k = kind_of(code);
     match k {
         Kind::Two(_) => {
             let a = measured(sizes, depths, lengths, i, ws[3 * i + 1]);
             let b = measured(sizes, depths, lengths, i, ws[3 * i + 2]);
-            above(a.nodes + b.nodes, higher(a.levels, b.levels), a.bytes + b.bytes)
+            above(
+                a.nodes + b.nodes,
+                higher(a.levels, b.levels),
+                a.bytes + b.bytes,
+            )
         }
         Kind::One(_) => {
             let a = measured(sizes, depths, lengths, i, ws[3 * i + 1]);
@@ -362,10 +366,31 @@ fn judge_set(
 {
     let target = cw[4 * i + 3];
     if target == 0 {
-        return judge_pair(ws, val, sizes, depths, lengths, counts, cw[4 * i + 1], cw[4 * i + 2], n, at + 1);
+        return judge_pair(
+            ws,
+            val,
+            sizes,
+            depths,
+            lengths,
+            counts,
+            cw[4 * i + 1],
+            cw[4 * i + 2],
+            n,
+            at + 1,
+        );
     }
     if target == 1 {
-        return judge_term(ws, val, sizes, depths, lengths, counts, cw[4 * i + 2], n, at + 1);
+        return judge_term(
+            ws,
+            val,
+            sizes,
+            depths,
+            lengths,
+            counts,
+            cw[4 * i + 2],
+            n,
+            at + 1,
+        );
     }
     Step::No(2)
 }
@@ -386,7 +411,17 @@ fn judge_if(
     requires { ⌜ (i < counts .commands) × (ReadyBy counts n at 199000 × Tables (now ws) (now val) (now sizes) (now depths) (now lengths) (counts .nodes)) ⌝ }
     ensures { λ r. ⌜ Told (commandOf (limitsBy counts) n 3) commandNodes (commandTail (codedBy (now (ws .entry)) (now (val .entry)) (now (cw .entry)) counts) i 3) (counts .nodes) 3 n at r ⌝ }
 {
-    let a = judge_term(ws, val, sizes, depths, lengths, counts, cw[4 * i + 1], n, at);
+    let a = judge_term(
+        ws,
+        val,
+        sizes,
+        depths,
+        lengths,
+        counts,
+        cw[4 * i + 1],
+        n,
+        at,
+    );
     match a {
         Step::Fine(m, p) => judge_block_no(cw[4 * i + 3], counts.blocks, m, p),
         Step::No(e) => Step::No(e),
@@ -521,7 +556,19 @@ fn judge_code(
     if held > room {
         return Stage::No(3);
     }
-    let a = judge_commands(ws, val, sizes, depths, lengths, cw, counts, bw[5 * i + 1], held, n, at + len);
+    let a = judge_commands(
+        ws,
+        val,
+        sizes,
+        depths,
+        lengths,
+        cw,
+        counts,
+        bw[5 * i + 1],
+        held,
+        n,
+        at + len,
+    );
     match a {
         Step::Fine(k, p) => {
             let b = judge_links(bw[5 * i + 3], bw[5 * i + 4], counts.blocks, k, p);
@@ -555,7 +602,20 @@ fn judge_block(
     let kind = bw[5 * i];
     match kind {
         0 => Stage::Fine(n, m, at + 1),
-        1 => judge_code(ws, val, sizes, depths, lengths, cw, bw, counts, i, n, m, at + 1),
+        1 => judge_code(
+            ws,
+            val,
+            sizes,
+            depths,
+            lengths,
+            cw,
+            bw,
+            counts,
+            i,
+            n,
+            m,
+            at + 1,
+        ),
         2 => Stage::Fine(n, m, at + 1),
         _ => Stage::No(2),
     }
@@ -611,7 +671,14 @@ fn judge_few(
     let mut sizes = [0u32; 1024];
     let mut depths = [0u8; 1024];
     let mut lengths = [0u32; 1024];
-    measure_nodes(ws, val, &mut sizes, &mut depths, &mut lengths, index_of(counts.nodes));
+    measure_nodes(
+        ws,
+        val,
+        &mut sizes,
+        &mut depths,
+        &mut lengths,
+        index_of(counts.nodes),
+    );
     judge_blocks(ws, val, &sizes, &depths, &lengths, cw, bw, counts)
 }
 
@@ -629,7 +696,14 @@ fn judge_many(
     let mut sizes = [0u32; 32768];
     let mut depths = [0u8; 32768];
     let mut lengths = [0u32; 32768];
-    measure_nodes(ws, val, &mut sizes, &mut depths, &mut lengths, index_of(counts.nodes));
+    measure_nodes(
+        ws,
+        val,
+        &mut sizes,
+        &mut depths,
+        &mut lengths,
+        index_of(counts.nodes),
+    );
     judge_blocks(ws, val, &sizes, &depths, &lengths, cw, bw, counts)
 }
 

@@ -8,14 +8,14 @@ use borrow.Author.Needs.{needs}
 use Rattle.judge.proofs.measure_node.Statement.{statement}
 use Rattle.judge.proofs.measure_node.Tie as tie
 
-mul-c : tie.Need-mul-c
-mul-c c = search needs
+mul-code : tie.Need-mul-code
+mul-code c = search needs
 
-mul-c-2 : tie.Need-mul-c-2
-mul-c-2 c = search needs
+mul-code-2 : tie.Need-mul-code-2
+mul-code-2 c = search needs
 
-element-copy-out-c : tie.Need-element-copy-out-c
-element-copy-out-c c = search needs
+element-copy-out-code : tie.Need-element-copy-out-code
+element-copy-out-code c = search needs
 
 unfit-requires : tie.Need-unfit-requires
 unfit-requires c κs = search needs
@@ -141,9 +141,9 @@ pub measure-node-spec : {M : Type 1} → statement M
 measure-node-spec =
     tie.close
     (tie.spec
-    mul-c
-    mul-c-2
-    element-copy-out-c
+    mul-code
+    mul-code-2
+    element-copy-out-code
     unfit-requires
     returns
     kind-of-requires
