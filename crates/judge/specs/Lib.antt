@@ -3,6 +3,7 @@ pub mod Told
 pub mod Numbers
 pub mod Pieces
 pub mod Nodes
+pub mod Measures
 pub mod Links
 pub mod Commands
 pub mod Loop

@@ -1,7 +1,8 @@
 // The judgement of a script record: block by block as its image would be read, whatever its arrays hold.
 ghost use mathlib.Core.Path.{_≡_};
-ghost use mathlib.Core.List.{_++_};
-ghost use Prim.Native.Nat.{_+_, _-_, _*_, _≤_, _<_};
+ghost use mathlib.Core.List.{List, _++_};
+ghost use Prim.Native.Nat.{ℕ, _+_, _-_, _*_, _≤_, _<_};
+ghost use lib.IntN.{ℤ};
 ghost use lib.ListN.{length};
 ghost use Rattle.model.specs.Reading.{word, zig};
 ghost use Rattle.model.specs.Expr.{size};
@@ -10,6 +11,7 @@ ghost use Rattle.model.specs.Image.{readExpr, readTerm, readBlockNo, readLink, 
 ghost use Rattle.model.specs.Memory.{nodesIn, memoryIn};
 ghost use Rattle.model.specs.Record.{nodeImage, rootImage, commandTail, commandImageIn, commandsImageIn, blockTail};
 ghost use Rattle.judge.specs.Stages.{readLinks, StandingBy, Staged, blockImageIn, JudgedAs};
+ghost use Rattle.judge.specs.Measures.{unfitMeasure, leafMeasure, aboveMeasure, immMeasure, least, highest, Long, Tables, Fits, Stands};
 ghost use Rattle.judge.specs.Told.{Told, ShortWord, limitsBy, nodesBy, codedBy, memoryBy, KeptBy, ReadyBy, Walking, uncounted, immJudged};
 use memory::Counts;
 use memory::index_of;
@@ -85,6 +87,148 @@ fn judge_imm(z: i32, limit: u64, n: u16, at: usize) -> Step
     Step::No(2)
 }
 
+// What is known of a node's tree: its nodes, levels and bytes; more nodes than a script can have where it is not fine by itself.
+struct Measure {
+    nodes: u32,
+    levels: u32,
+    bytes: u32,
+}
+
+fn unfit() -> Measure
+    ensures { λ r. ⌜ r ≡ unfitMeasure ⌝ }
+{
+    Measure {
+        nodes: 40000,
+        levels: 1,
+        bytes: 1,
+    }
+}
+
+fn leaf(bytes: u32) -> Measure
+    ensures { λ r. ⌜ r ≡ leafMeasure bytes ⌝ }
+{
+    Measure {
+        nodes: 1,
+        levels: 1,
+        bytes,
+    }
+}
+
+// The operand i of node b, as it was measured.
+fn measured(sizes: &[u32], depths: &[u8], lengths: &[u32], b: usize, i: u16) -> Measure
+    requires { ⌜ Long (now sizes) (now depths) (now lengths) b ⌝ }
+    ensures { λ r. ⌜ ((ws : List ℕ) (vs : List ℤ) → Tables ws vs (now (sizes .entry)) (now (depths .entry)) (now (lengths .entry)) b → Fits ws vs b i r) ⌝ }
+{
+    let j = index_of(i);
+    if j < b {
+        return Measure {
+            nodes: sizes[j],
+            levels: depths[j] as u32,
+            bytes: lengths[j],
+        };
+    }
+    unfit()
+}
+
+fn at_most(x: u32, most: u32) -> u32
+    ensures { λ r. ⌜ r ≡ least x most ⌝ }
+{
+    if x < most {
+        return x;
+    }
+    most
+}
+
+fn higher(x: u32, y: u32) -> u32
+    ensures { λ r. ⌜ r ≡ highest x y ⌝ }
+{
+    if x < y {
+        return y;
+    }
+    x
+}
+
+// One node above so many nodes, levels and bytes. The sums are capped, each above what a script can have, so that none wraps.
+fn above(nodes: u32, levels: u32, bytes: u32) -> Measure
+    requires { ⌜ (nodes ≤ 80000) × ((levels ≤ 65) × (bytes ≤ 480000)) ⌝ }
+    ensures { λ r. ⌜ r ≡ aboveMeasure nodes levels bytes ⌝ }
+{
+    Measure {
+        nodes: at_most(nodes + 1, 40000),
+        levels: at_most(levels + 1, 65),
+        bytes: at_most(bytes + 1, 240000),
+    }
+}
+
+fn measure_imm(z: i32, limit: u64) -> Measure
+    ensures { λ r. ⌜ r ≡ immMeasure (zig z) limit ⌝ }
+{
+    let v = folded(z);
+    if v < limit {
+        return leaf(1 + word_length(v) as u32);
+    }
+    unfit()
+}
+
+// Node i, what lies below it being measured.
+fn measure_node(
+    ws: &[u16; 98304],
+    val: &[i32; 32768],
+    sizes: &[u32],
+    depths: &[u8],
+    lengths: &[u32],
+    i: usize,
+) -> Measure
+    requires { ⌜ (i < 32768) × Tables (now ws) (now val) (now sizes) (now depths) (now lengths) i ⌝ }
+    ensures { λ r. ⌜ Stands (now (ws .entry)) (now (val .entry)) i r ⌝ }
+{
+    let code = ws[3 * i];
+    if code >= 19 {
+        return unfit();
+    }
+    let k = kind_of(code);
+    match k {
+        Kind::Two(_) => {
+            let a = measured(sizes, depths, lengths, i, ws[3 * i + 1]);
+            let b = measured(sizes, depths, lengths, i, ws[3 * i + 2]);
+            above(
+                a.nodes + b.nodes,
+                higher(a.levels, b.levels),
+                a.bytes + b.bytes,
+            )
+        }
+        Kind::One(_) => {
+            let a = measured(sizes, depths, lengths, i, ws[3 * i + 1]);
+            above(a.nodes, a.levels, a.bytes)
+        }
+        Kind::Imm16 => measure_imm(val[i], 65536),
+        Kind::Imm32 => measure_imm(val[i], 4294967296),
+        Kind::Other => leaf(1),
+    }
+}
+
+// The first n nodes, from the lowest on, since operands lie below.
+fn measure_nodes(
+    ws: &[u16; 98304],
+    val: &[i32; 32768],
+    sizes: &mut [u32],
+    depths: &mut [u8],
+    lengths: &mut [u32],
+    n: usize,
+)
+    requires { ⌜ (n ≤ 32768) × Long (now sizes) (now depths) (now lengths) n ⌝ }
+    ensures { λ _. ⌜ Tables (now (ws .entry)) (now (val .entry)) (now (sizes .exit)) (now (depths .exit)) (now (lengths .exit)) n ⌝ }
+{
+    let mut i = 0;
+    while i < n {
+        let m = measure_node(ws, val, sizes, depths, lengths, i);
+        sizes[i] = m.nodes;
+        depths[i] = m.levels as u8;
+        lengths[i] = m.bytes;
+        i += 1;
+    }
+}
+
 // Node i, which has to be below b. Each node visited raises the count, so that the walk ends at the limit however nodes are shared.
 fn judge_expr(
     ws: &[u16; 98304],
@@ -133,14 +277,27 @@ fn judge_expr(
 fn judge_term(
     ws: &[u16; 98304],
     val: &[i32; 32768],
+    sizes: &[u32],
+    depths: &[u8],
+    lengths: &[u32],
     counts: Counts,
     i: u16,
     n: u16,
     at: usize,
 ) -> Step
-    requires { ⌜ ReadyBy counts n at 200000 ⌝ }
+    requires { ⌜ ReadyBy counts n at 200000 × Tables (now ws) (now val) (now sizes) (now depths) (now lengths) (counts .nodes) ⌝ }
     ensures { λ r. ⌜ Told (readTerm (limitsBy counts) n) size (rootImage (nodesBy (now (ws .entry)) (now (val .entry)) counts) i) (counts .nodes) 0 n at r ⌝ }
 {
+    if i >= counts.nodes {
+        return Step::No(2);
+    }
+    let j = index_of(i);
+    let m = sizes[j];
+    if depths[j] < 65 {
+        if m <= (counts.nodes - n) as u32 {
+            return Step::Fine(n + (m as u16), at + lengths[j] as usize);
+        }
+    }
     judge_expr(ws, val, counts.nodes, i, n, at, counts.nodes, 0)
 }
 
@@ -172,18 +329,21 @@ fn judge_link(k: u16, blocks: u16, n: u16, at: usize) -> Step
 fn judge_pair(
     ws: &[u16; 98304],
     val: &[i32; 32768],
+    sizes: &[u32],
+    depths: &[u8],
+    lengths: &[u32],
     counts: Counts,
     i: u16,
     j: u16,
     n: u16,
     at: usize,
 ) -> Step
-    requires { ⌜ ReadyBy counts n at 200000 ⌝ }
+    requires { ⌜ ReadyBy counts n at 200000 × Tables (now ws) (now val) (now sizes) (now depths) (now lengths) (counts .nodes) ⌝ }
     ensures { λ r. ⌜ Told (setOf (limitsBy counts) n 0) commandNodes (rootImage (nodesBy (now (ws .entry)) (now (val .entry)) counts) i ++ rootImage (nodesBy (now (ws .entry)) (now (val .entry)) counts) j) (counts .nodes) 0 n at r ⌝ }
 {
-    let a = judge_term(ws, val, counts, i, n, at);
+    let a = judge_term(ws, val, sizes, depths, lengths, counts, i, n, at);
     match a {
-        Step::Fine(m, p) => judge_term(ws, val, counts, j, m, p),
+        Step::Fine(m, p) => judge_term(ws, val, sizes, depths, lengths, counts, j, m, p),
         Step::No(e) => Step::No(e),
     }
 }
@@ -192,21 +352,45 @@ fn judge_pair(
 fn judge_set(
     ws: &[u16; 98304],
     val: &[i32; 32768],
+    sizes: &[u32],
+    depths: &[u8],
+    lengths: &[u32],
     cw: &[u16; 65536],
     counts: Counts,
     i: usize,
     n: u16,
     at: usize,
 ) -> Step
-    requires { ⌜ (i < counts .commands) × ReadyBy counts n at 199000 ⌝ }
+    requires { ⌜ (i < counts .commands) × (ReadyBy counts n at 199000 × Tables (now ws) (now val) (now sizes) (now depths) (now lengths) (counts .nodes)) ⌝ }
     ensures { λ r. ⌜ Told (commandOf (limitsBy counts) n 2) commandNodes (commandTail (codedBy (now (ws .entry)) (now (val .entry)) (now (cw .entry)) counts) i 2) (counts .nodes) 3 n at r ⌝ }
 {
     let target = cw[4 * i + 3];
     if target == 0 {
-        return judge_pair(ws, val, counts, cw[4 * i + 1], cw[4 * i + 2], n, at + 1);
+        return judge_pair(
+            ws,
+            val,
+            sizes,
+            depths,
+            lengths,
+            counts,
+            cw[4 * i + 1],
+            cw[4 * i + 2],
+            n,
+            at + 1,
+        );
     }
     if target == 1 {
-        return judge_term(ws, val, counts, cw[4 * i + 2], n, at + 1);
+        return judge_term(
+            ws,
+            val,
+            sizes,
+            depths,
+            lengths,
+            counts,
+            cw[4 * i + 2],
+            n,
+            at + 1,
+        );
     }
     Step::No(2)
 }
@@ -215,16 +399,29 @@ fn judge_set(
 fn judge_if(
     ws: &[u16; 98304],
     val: &[i32; 32768],
+    sizes: &[u32],
+    depths: &[u8],
+    lengths: &[u32],
     cw: &[u16; 65536],
     counts: Counts,
     i: usize,
     n: u16,
     at: usize,
 ) -> Step
-    requires { ⌜ (i < counts .commands) × ReadyBy counts n at 199000 ⌝ }
+    requires { ⌜ (i < counts .commands) × (ReadyBy counts n at 199000 × Tables (now ws) (now val) (now sizes) (now depths) (now lengths) (counts .nodes)) ⌝ }
     ensures { λ r. ⌜ Told (commandOf (limitsBy counts) n 3) commandNodes (commandTail (codedBy (now (ws .entry)) (now (val .entry)) (now (cw .entry)) counts) i 3) (counts .nodes) 3 n at r ⌝ }
 {
-    let a = judge_term(ws, val, counts, cw[4 * i + 1], n, at);
+    let a = judge_term(
+        ws,
+        val,
+        sizes,
+        depths,
+        lengths,
+        counts,
+        cw[4 * i + 1],
+        n,
+        at,
+    );
     match a {
         Step::Fine(m, p) => judge_block_no(cw[4 * i + 3], counts.blocks, m, p),
         Step::No(e) => Step::No(e),
@@ -235,6 +432,9 @@ fn judge_if(
 fn judge_tail(
     ws: &[u16; 98304],
     val: &[i32; 32768],
+    sizes: &[u32],
+    depths: &[u8],
+    lengths: &[u32],
     cw: &[u16; 65536],
     counts: Counts,
     i: usize,
@@ -242,14 +442,14 @@ fn judge_tail(
     n: u16,
     at: usize,
 ) -> Step
-    requires { ⌜ (i < counts .commands) × ReadyBy counts n at 199000 ⌝ }
+    requires { ⌜ (i < counts .commands) × (ReadyBy counts n at 199000 × Tables (now ws) (now val) (now sizes) (now depths) (now lengths) (counts .nodes)) ⌝ }
     ensures { λ r. ⌜ Told (commandOf (limitsBy counts) n k) commandNodes (commandTail (codedBy (now (ws .entry)) (now (val .entry)) (now (cw .entry)) counts) i k) (counts .nodes) 3 n at r ⌝ }
 {
     match k {
         0 => Step::Fine(n, at),
         1 => judge_block_no(cw[4 * i + 3], counts.blocks, n, at),
-        2 => judge_set(ws, val, cw, counts, i, n, at),
-        3 => judge_if(ws, val, cw, counts, i, n, at),
+        2 => judge_set(ws, val, sizes, depths, lengths, cw, counts, i, n, at),
+        3 => judge_if(ws, val, sizes, depths, lengths, cw, counts, i, n, at),
         4 => judge_block_no(cw[4 * i + 3], counts.blocks, n, at),
         _ => Step::Fine(n, at),
     }
@@ -259,13 +459,16 @@ fn judge_tail(
 fn judge_command(
     ws: &[u16; 98304],
     val: &[i32; 32768],
+    sizes: &[u32],
+    depths: &[u8],
+    lengths: &[u32],
     cw: &[u16; 65536],
     counts: Counts,
     i: usize,
     n: u16,
     at: usize,
 ) -> Step
-    requires { ⌜ ReadyBy counts n at 198000 ⌝ }
+    requires { ⌜ ReadyBy counts n at 198000 × Tables (now ws) (now val) (now sizes) (now depths) (now lengths) (counts .nodes) ⌝ }
     ensures { λ r. ⌜ Told (readCommand (limitsBy counts) n) commandNodes (commandImageIn (codedBy (now (ws .entry)) (now (val .entry)) (now (cw .entry)) counts) i) (counts .nodes) 4 n at r ⌝ }
 {
     let there = index_of(counts.commands);
@@ -276,13 +479,16 @@ fn judge_command(
     if k >= 6 {
         return Step::No(2);
     }
-    judge_tail(ws, val, cw, counts, i, k, n, at + 1)
+    judge_tail(ws, val, sizes, depths, lengths, cw, counts, i, k, n, at + 1)
 }
 
 // So many commands, from the first on; they may run past the arrays.
 fn judge_commands(
     ws: &[u16; 98304],
     val: &[i32; 32768],
+    sizes: &[u32],
+    depths: &[u8],
+    lengths: &[u32],
     cw: &[u16; 65536],
     counts: Counts,
     first: u16,
@@ -290,7 +496,7 @@ fn judge_commands(
     n: u16,
     at: usize,
 ) -> Step
-    requires { ⌜ (held ≤ 16384) × ReadyBy counts n at 110000 ⌝ }
+    requires { ⌜ (held ≤ 16384) × (ReadyBy counts n at 110000 × Tables (now ws) (now val) (now sizes) (now depths) (now lengths) (counts .nodes)) ⌝ }
     ensures { λ r. ⌜ Told (readCommands (limitsBy counts) held n) commandsNodes (commandsImageIn (codedBy (now (ws .entry)) (now (val .entry)) (now (cw .entry)) counts) held first) (counts .nodes) (4 * held) n at r ⌝ }
 {
     let f = index_of(first);
@@ -299,7 +505,7 @@ fn judge_commands(
     let mut p = at;
     let mut i: usize = 0;
     while i < end {
-        let r = judge_command(ws, val, cw, counts, f + i, k, p);
+        let r = judge_command(ws, val, sizes, depths, lengths, cw, counts, f + i, k, p);
         match r {
             Step::Fine(k1, p1) => {
                 k = k1;
@@ -330,6 +536,9 @@ fn judge_links(x: u16, y: u16, blocks: u16, n: u16, at: usize) -> Step
 fn judge_code(
     ws: &[u16; 98304],
     val: &[i32; 32768],
+    sizes: &[u32],
+    depths: &[u8],
+    lengths: &[u32],
     cw: &[u16; 65536],
     bw: &[u16; 20480],
     counts: Counts,
@@ -338,7 +547,7 @@ fn judge_code(
     m: u16,
     at: usize,
 ) -> Stage
-    requires { ⌜ StandingBy counts i n m at 109000 ⌝ }
+    requires { ⌜ StandingBy counts i n m at 109000 × Tables (now ws) (now val) (now sizes) (now depths) (now lengths) (counts .nodes) ⌝ }
     ensures { λ r. ⌜ Staged (blockOf (limitsBy counts) m n 1) (blockTail (memoryBy (now (ws .entry)) (now (val .entry)) (now (cw .entry)) (now (bw .entry)) counts) i 1) (counts .nodes) (counts .commands) 9 n m at r ⌝ }
 {
     let held = bw[5 * i + 2];
@@ -347,7 +556,19 @@ fn judge_code(
     if held > room {
         return Stage::No(3);
     }
-    let a = judge_commands(ws, val, cw, counts, bw[5 * i + 1], held, n, at + len);
+    let a = judge_commands(
+        ws,
+        val,
+        sizes,
+        depths,
+        lengths,
+        cw,
+        counts,
+        bw[5 * i + 1],
+        held,
+        n,
+        at + len,
+    );
     match a {
         Step::Fine(k, p) => {
             let b = judge_links(bw[5 * i + 3], bw[5 * i + 4], counts.blocks, k, p);
@@ -364,6 +585,9 @@ fn judge_code(
 fn judge_block(
     ws: &[u16; 98304],
     val: &[i32; 32768],
+    sizes: &[u32],
+    depths: &[u8],
+    lengths: &[u32],
     cw: &[u16; 65536],
     bw: &[u16; 20480],
     counts: Counts,
@@ -372,13 +596,26 @@ fn judge_block(
     m: u16,
     at: usize,
 ) -> Stage
-    requires { ⌜ StandingBy counts i n m at 108000 ⌝ }
+    requires { ⌜ StandingBy counts i n m at 108000 × Tables (now ws) (now val) (now sizes) (now depths) (now lengths) (counts .nodes) ⌝ }
     ensures { λ r. ⌜ Staged (readBlock (limitsBy counts) m n) (blockImageIn (memoryBy (now (ws .entry)) (now (val .entry)) (now (cw .entry)) (now (bw .entry)) counts) i) (counts .nodes) (counts .commands) 10 n m at r ⌝ }
 {
     let kind = bw[5 * i];
     match kind {
         0 => Stage::Fine(n, m, at + 1),
-        1 => judge_code(ws, val, cw, bw, counts, i, n, m, at + 1),
+        1 => judge_code(
+            ws,
+            val,
+            sizes,
+            depths,
+            lengths,
+            cw,
+            bw,
+            counts,
+            i,
+            n,
+            m,
+            at + 1,
+        ),
         2 => Stage::Fine(n, m, at + 1),
         _ => Stage::No(2),
     }
@@ -388,11 +625,14 @@ fn judge_block(
 fn judge_blocks(
     ws: &[u16; 98304],
     val: &[i32; 32768],
+    sizes: &[u32],
+    depths: &[u8],
+    lengths: &[u32],
     cw: &[u16; 65536],
     bw: &[u16; 20480],
     counts: Counts,
 ) -> Judged
-    requires { ⌜ KeptBy counts ⌝ }
+    requires { ⌜ KeptBy counts × Tables (now ws) (now val) (now sizes) (now depths) (now lengths) (counts .nodes) ⌝ }
     ensures { λ r. ⌜ JudgedAs (memoryBy (now (ws .entry)) (now (val .entry)) (now (cw .entry)) (now (bw .entry)) counts) r ⌝ }
 {
     let end = index_of(counts.blocks);
@@ -401,7 +641,7 @@ fn judge_blocks(
     let mut p = short_length(counts.blocks);
     let mut i: usize = 0;
     while i < end {
-        let r = judge_block(ws, val, cw, bw, counts, i, n, m, p);
+        let r = judge_block(ws, val, sizes, depths, lengths, cw, bw, counts, i, n, m, p);
         match r {
             Stage::Fine(n1, m1, p1) => {
                 n = n1;
@@ -415,6 +655,56 @@ fn judge_blocks(
         i += 1;
     }
     Judged::Fine(p)
+}
+
+// With tables for a small script.
+fn judge_few(
+    ws: &[u16; 98304],
+    val: &[i32; 32768],
+    cw: &[u16; 65536],
+    bw: &[u16; 20480],
+    counts: Counts,
+) -> Judged
+    requires { ⌜ (counts .nodes ≤ 1024) × KeptBy counts ⌝ }
+    ensures { λ r. ⌜ JudgedAs (memoryBy (now (ws .entry)) (now (val .entry)) (now (cw .entry)) (now (bw .entry)) counts) r ⌝ }
+{
+    let mut sizes = [0u32; 1024];
+    let mut depths = [0u8; 1024];
+    let mut lengths = [0u32; 1024];
+    measure_nodes(
+        ws,
+        val,
+        &mut sizes,
+        &mut depths,
+        &mut lengths,
+        index_of(counts.nodes),
+    );
+    judge_blocks(ws, val, &sizes, &depths, &lengths, cw, bw, counts)
+}
+
+// With tables for any script.
+fn judge_many(
+    ws: &[u16; 98304],
+    val: &[i32; 32768],
+    cw: &[u16; 65536],
+    bw: &[u16; 20480],
+    counts: Counts,
+) -> Judged
+    requires { ⌜ KeptBy counts ⌝ }
+    ensures { λ r. ⌜ JudgedAs (memoryBy (now (ws .entry)) (now (val .entry)) (now (cw .entry)) (now (bw .entry)) counts) r ⌝ }
+{
+    let mut sizes = [0u32; 32768];
+    let mut depths = [0u8; 32768];
+    let mut lengths = [0u32; 32768];
+    measure_nodes(
+        ws,
+        val,
+        &mut sizes,
+        &mut depths,
+        &mut lengths,
+        index_of(counts.nodes),
+    );
+    judge_blocks(ws, val, &sizes, &depths, &lengths, cw, bw, counts)
 }
 
 // The judgement of a script record, in the place of refusals 2 to 5: the kept counts first, then block by block as its image would be read.
@@ -436,5 +726,8 @@ pub fn judge_record(
     if counts.nodes > 32768 {
         return Judged::No(3);
     }
-    judge_blocks(ws, val, cw, bw, counts)
+    if counts.nodes > 1024 {
+        return judge_many(ws, val, cw, bw, counts);
+    }
+    judge_few(ws, val, cw, bw, counts)
 }

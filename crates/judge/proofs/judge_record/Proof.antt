@@ -1,6 +1,6 @@
 -- `judge::judge_record` meets its contract: the kept counts first, then the blocks. Assumes nothing.
-use Rattle.model.specs.Memory.{memoryIn}
 use Rattle.judge.specs.Whole.{kept-blocks, kept-commands, kept-nodes}
+use Rattle.model.specs.Memory.{memoryIn}
 use borrow.Author.Needs.{needs}
 use Rattle.judge.proofs.judge_record.Statement.{statement}
 use Rattle.judge.proofs.judge_record.Tie as tie
@@ -14,12 +14,26 @@ returns-2 c = kept-commands (memoryIn (c .before .before .before .before .args .
 returns-3 : tie.Need-returns-3
 returns-3 c = kept-nodes (memoryIn (c .before .before .before .before .before .before .args .ws .now) (c .before .before .before .before .before .before .args .val .now) (c .before .before .before .before .before .before .args .cw .now) (c .before .before .before .before .before .before .args .bw .now) (c .before .before .before .before .before .before .args .counts .nodes) (c .before .before .before .before .before .before .args .counts .commands) (c .before .before .before .before .before .before .args .counts .blocks)) (c .before .before .before .before .if1 .left) (c .before .before .if2 .left) (c .if3 .taken)
 
-judge-blocks-requires : tie.Need-judge-blocks-requires
-judge-blocks-requires c κs = search needs
+judge-many-requires : tie.Need-judge-many-requires
+judge-many-requires c κs = search needs
 
 returns-4 : tie.Need-returns-4
 returns-4 c = search needs
 
+judge-few-requires : tie.Need-judge-few-requires
+judge-few-requires c κs = search needs
+
+returns-5 : tie.Need-returns-5
+returns-5 c = search needs
+
 pub judge-record-spec : {M : Type 1} → statement M
 judge-record-spec =
-    tie.close (tie.spec returns returns-2 returns-3 judge-blocks-requires returns-4)
+    tie.close
+    (tie.spec
+    returns
+    returns-2
+    returns-3
+    judge-many-requires
+    returns-4
+    judge-few-requires
+    returns-5)

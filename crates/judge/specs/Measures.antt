@@ -1,0 +1,322 @@
+-- The measures of nodes: a tree that fits by its nodes and levels is read fine wherever it stands. Assumes nothing.
+use mathlib.Core.Path.{_≡_, refl, sym}
+use mathlib.Core.Bool.{Bool, true, false, cond}
+use mathlib.Core.List.{List}
+use Prim.Native.Nat.{ℕ, zero, suc, _+_, _-_, _*_, _≤_, _<_}
+use native.Mathlib.Omega.{arith}
+use lib.Dec.{ltb}
+use lib.IntN.{ℤ, pos}
+use borrow.Author.Tests.{ltb-true, ltb-false, lt-ltb, le-ltb}
+use lib.ListN.{length, getD, set, length-set}
+use lib.Seq.{getD-set-same, getD-set-other}
+use Rattle.model.specs.Limits.{wide}
+use Rattle.model.specs.Reading.{word, zig}
+use Rattle.model.specs.Expr.{size}
+use Rattle.model.specs.Image.{kindOf, readExpr}
+use Rattle.model.specs.Memory.{nodesIn}
+use Rattle.model.specs.Record.{nodeImage}
+use Rattle.model.specs.declared.Op2.{Op2}
+use Rattle.model.specs.declared.Op1.{Op1}
+use Rattle.model.specs.declared.Kind.{Kind}
+use Rattle.model.specs.declared.Kind.the-variants.{Two, One, Imm16, Imm32, Other}
+use Rattle.judge.specs.Told.{Told, immJudged}
+use Rattle.judge.specs.Numbers.{word-short, imm-fine}
+use Rattle.judge.specs.Nodes.{Within, node-other, node-imm16, node-imm32, node-one, node-two}
+use Rattle.judge.specs.declared.Measure.{Measure}
+use Rattle.judge.specs.declared.Step.{Step}
+use Rattle.judge.specs.declared.Step.the-variants.{Fine}
+
+-- ---- measures
+
+abbrev pub unfitMeasure : Measure
+unfitMeasure = record { nodes = 40000; levels = 1; bytes = 1 }
+
+abbrev pub leafMeasure : ℕ → Measure
+leafMeasure l = record { nodes = 1; levels = 1; bytes = l }
+
+unfoldable pub least : ℕ → ℕ → ℕ
+least x m = cond (ltb x m) x m
+
+unfoldable pub highest : ℕ → ℕ → ℕ
+highest x y = cond (ltb x y) y x
+
+-- one node above so many nodes, levels and bytes, capped
+abbrev pub aboveMeasure : ℕ → ℕ → ℕ → Measure
+aboveMeasure s d l = record { nodes = least (s + 1) 40000; levels = least (d + 1) 65; bytes = least (l + 1) 240000 }
+
+unfoldable pub immMeasure : ℕ → ℕ → Measure
+immMeasure v lim = cond (ltb v lim) (leafMeasure (1 + length (word v))) unfitMeasure
+
+-- what the tables hold of node j
+abbrev pub measureAt : List ℕ → List ℕ → List ℕ → ℕ → Measure
+measureAt ss ds ls j = record { nodes = getD ss j 0; levels = getD ds j 0; bytes = getD ls j 0 }
+
+-- ---- what they promise
+
+-- node i, which has to be below b: read fine from any place that leaves room for its nodes and levels
+pub record Fits (ws : List ℕ) (vs : List ℤ) (b i : ℕ) (m : Measure) : Type 0 where
+  pub few : m .nodes ≤ 40000
+  pub levels : m .levels ≤ 65
+  pub short : m .bytes ≤ 6 * m .nodes
+  pub told : (n at o l : ℕ) → l ≤ 32768 → o + m .levels ≤ 64 → n + m .nodes ≤ l → Told (readExpr l (64 - o) n) size (nodeImage (nodesIn ws vs l) b i) l 0 n at (Fine (n + m .nodes) (at + m .bytes))
+
+-- node i below whatever parent or count
+pub record Stands (ws : List ℕ) (vs : List ℤ) (i : ℕ) (m : Measure) : Type 0 where
+  pub below : (b : ℕ) → i < b → Fits ws vs b i m
+
+-- the tables have room for n nodes
+pub record Long (ss ds ls : List ℕ) (n : ℕ) : Type 0 where
+  pub sizes : n ≤ length ss
+  pub depths : n ≤ length ds
+  pub lengths : n ≤ length ls
+
+-- the tables hold the measures of the first n nodes
+pub record Tables (ws : List ℕ) (vs : List ℤ) (ss ds ls : List ℕ) (n : ℕ) : Type 0 where
+  pub long : Long ss ds ls n
+  pub each : (j : ℕ) → j < n → Stands ws vs j (measureAt ss ds ls j)
+
+-- ---- capped numbers
+
+least-low : (x m : ℕ) → least x m ≤ m
+unfolding least
+least-low x m = go (ltb x m) refl
+  where
+    go : (t : Bool) → ltb x m ≡ t → cond t x m ≤ m
+    go true e = omega (arith, ltb-true x m e)
+    go false e = omega arith
+
+least-less : (x m : ℕ) → least x m ≤ x
+unfolding least
+least-less x m = go (ltb x m) refl
+  where
+    go : (t : Bool) → ltb x m ≡ t → cond t x m ≤ x
+    go true e = omega arith
+    go false e = omega (arith, ltb-false x m e)
+
+-- what is below the cap is the number itself
+least-same : (x m : ℕ) → least x m < m → least x m ≡ x
+unfolding least
+least-same x m = go (ltb x m)
+  where
+    go : (t : Bool) → cond t x m < m → cond t x m ≡ x
+    go true h = refl
+    go false h = absurd (omega arith)
+
+pub least-full : (x m : ℕ) → x < m → least x m ≡ x
+unfolding least
+least-full x m h = rw (lt-ltb x m h)
+
+pub least-cap : (x m : ℕ) → m ≤ x → least x m ≡ m
+unfolding least
+least-cap x m h = rw (le-ltb x m h)
+
+above-short : (s l : ℕ) → l ≤ 6 * s → least (l + 1) 240000 ≤ 6 * least (s + 1) 40000
+above-short s l h = go (ltb (s + 1) 40000) refl
+  where
+    go : (t : Bool) → ltb (s + 1) 40000 ≡ t → least (l + 1) 240000 ≤ 6 * least (s + 1) 40000
+    go true e = omega (arith, least-less (l + 1) 240000, least-full (s + 1) 40000 (ltb-true (s + 1) 40000 e))
+    go false e = omega (arith, least-low (l + 1) 240000, least-cap (s + 1) 40000 (ltb-false (s + 1) 40000 e))
+
+pub highest-up : (x y : ℕ) → x < y → highest x y ≡ y
+unfolding highest
+highest-up x y h = rw (lt-ltb x y h)
+
+pub highest-same : (x y : ℕ) → y ≤ x → highest x y ≡ x
+unfolding highest
+highest-same x y h = rw (le-ltb x y h)
+
+pub highest-low : (x y m : ℕ) → x ≤ m → y ≤ m → highest x y ≤ m
+unfolding highest
+highest-low x y m p q = go (ltb x y)
+  where
+    go : (t : Bool) → cond t y x ≤ m
+    go true = q
+    go false = p
+
+highest-left : (x y : ℕ) → x ≤ highest x y
+unfolding highest
+highest-left x y = go (ltb x y) refl
+  where
+    go : (t : Bool) → ltb x y ≡ t → x ≤ cond t y x
+    go true e = omega (arith, ltb-true x y e)
+    go false e = omega arith
+
+highest-right : (x y : ℕ) → y ≤ highest x y
+unfolding highest
+highest-right x y = go (ltb x y) refl
+  where
+    go : (t : Bool) → ltb x y ≡ t → y ≤ cond t y x
+    go true e = omega arith
+    go false e = omega (arith, ltb-false x y e)
+
+-- ---- an immediate
+
+module _ (v lim u : ℕ) {r : Measure} (e : u ≡ v) where
+  pub imm-leaf : (w : ℕ) → u < lim → w ≡ length (word u) → r ≡ leafMeasure (1 + w) → r ≡ immMeasure v lim
+  unfolding immMeasure
+  imm-leaf w h q er = rw (← e, lt-ltb u lim h, ← q) er
+
+  pub imm-unfit : lim ≤ u → r ≡ unfitMeasure → r ≡ immMeasure v lim
+  unfolding immMeasure
+  imm-unfit h er = rw (← e, le-ltb u lim h) er
+
+-- ---- nodes
+
+module _ (ws : List ℕ) (vs : List ℤ) where
+  unfit-fits : (b i : ℕ) → Fits ws vs b i unfitMeasure
+  unfit-fits b i = record { few = omega arith; levels = omega arith; short = omega arith; told = λ n at o l hl ho hn. absurd (omega arith) }
+
+  pub fits-not : (b i : ℕ) {r : Measure} → r ≡ unfitMeasure → Fits ws vs b i r
+  fits-not b i e = rw e (unfit-fits b i)
+
+  pub stands-not : (i : ℕ) {r : Measure} → r ≡ unfitMeasure → Stands ws vs i r
+  stands-not i e = record { below = λ b h. fits-not b i e }
+
+  pub operand-fits : {ss ds ls : List ℕ} {b : ℕ} (i j : ℕ) → Tables ws vs ss ds ls b → j ≡ i → j < b → Fits ws vs b i (measureAt ss ds ls j)
+  operand-fits {b = b} i j T e h = rw (← e) (T .each j h .below b h)
+
+  module _ (b i : ℕ) where
+    above-fits : (s d l : ℕ) → l ≤ 6 * s
+        → ((n at o lim : ℕ) → lim ≤ 32768 → o + (d + 1) ≤ 64 → n + (s + 1) ≤ lim → Told (readExpr lim (64 - o) n) size (nodeImage (nodesIn ws vs lim) b i) lim 0 n at (Fine (n + (s + 1)) (at + (l + 1))))
+        → Fits ws vs b i (aboveMeasure s d l)
+    above-fits s d l h f = record {
+      few = least-low (s + 1) 40000;
+      levels = least-low (d + 1) 65;
+      short = above-short s l h;
+      told = told;
+    }
+      where
+        told : (n at o lim : ℕ) → lim ≤ 32768 → o + least (d + 1) 65 ≤ 64 → n + least (s + 1) 40000 ≤ lim → Told (readExpr lim (64 - o) n) size (nodeImage (nodesIn ws vs lim) b i) lim 0 n at (Fine (n + least (s + 1) 40000) (at + least (l + 1) 240000))
+        told n at o lim hl ho hn =
+            let es : least (s + 1) 40000 ≡ s + 1 = least-same (s + 1) 40000 (omega arith) in
+            let ed : least (d + 1) 65 ≡ d + 1 = least-same (d + 1) 65 (omega arith) in
+            let el : least (l + 1) 240000 ≡ l + 1 = least-full (l + 1) 240000 (omega arith) in
+            rw (es, el) (f n at o lim hl (omega arith) (omega arith))
+
+    module _ (k : Kind) (lt : i < b) (low : getD ws (3 * i) 0 < 19) (kd : k ≡ kindOf (getD ws (3 * i) 0)) where
+      within : (l n o : ℕ) → n < l → o < 64 → Within (nodesIn ws vs l) b i l n o k
+      within l n o hn ho = record { below = lt; known = low; room = hn; levels = ho; kind = kd }
+
+      fits-other : k ≡ Other → Fits ws vs b i (leafMeasure 1)
+      fits-other kk = record {
+        few = omega arith;
+        levels = omega arith;
+        short = omega arith;
+        told = λ n at o l hl ho hn. node-other (nodesIn ws vs l) b i l n at o k (within l n o (omega arith) (omega arith)) kk;
+      }
+
+      -- a number below its limit
+      imm-fits : (lim : ℕ) → ((n at o l : ℕ) → Within (nodesIn ws vs l) b i l n o k → (r : Step) → r ≡ immJudged (zig (getD vs i (pos 0))) lim (n + 1) (at + 1) → Told (readExpr l (64 - o) n) size (nodeImage (nodesIn ws vs l) b i) l 0 n at r)
+          → Fits ws vs b i (immMeasure (zig (getD vs i (pos 0))) lim)
+      unfolding immMeasure
+      imm-fits lim f = go (ltb (zig (getD vs i (pos 0))) lim) refl
+        where
+          go : (t : Bool) → ltb (zig (getD vs i (pos 0))) lim ≡ t → Fits ws vs b i (cond t (leafMeasure (1 + length (word (zig (getD vs i (pos 0)))))) unfitMeasure)
+          go true e = record {
+            few = omega arith;
+            levels = omega arith;
+            short = omega (arith, word-short (zig (getD vs i (pos 0))));
+            told = λ n at o l hl ho hn.
+                let up : at + (1 + length (word (zig (getD vs i (pos 0))))) ≡ at + 1 + length (word (zig (getD vs i (pos 0)))) = omega arith in
+                rw up (f n at o l (within l n o (omega arith) (omega arith)) _ (imm-fine (zig (getD vs i (pos 0))) lim (n + 1) (at + 1) (length (word (zig (getD vs i (pos 0))))) (zig (getD vs i (pos 0))) refl (ltb-true (zig (getD vs i (pos 0))) lim e) refl));
+          }
+          go false e = unfit-fits b i
+
+      fits-imm16 : k ≡ Imm16 → zig (getD vs i (pos 0)) < wide → Fits ws vs b i (immMeasure (zig (getD vs i (pos 0))) 65536)
+      fits-imm16 kk wd = imm-fits 65536 (λ n at o l W r e. node-imm16 (nodesIn ws vs l) b i l n at o k W r kk wd e)
+
+      fits-imm32 : k ≡ Imm32 → zig (getD vs i (pos 0)) < wide → Fits ws vs b i (immMeasure (zig (getD vs i (pos 0))) 4294967296)
+      fits-imm32 kk wd = imm-fits 4294967296 (λ n at o l W r e. node-imm32 (nodesIn ws vs l) b i l n at o k W r kk wd e)
+
+      fits-one : (x : Op1) → k ≡ One x → (a : Measure) → Fits ws vs i (getD ws (3 * i + 1) 0) a → Fits ws vs b i (aboveMeasure (a .nodes) (a .levels) (a .bytes))
+      fits-one x kk a A = above-fits (a .nodes) (a .levels) (a .bytes) (A .short) told
+        where
+          told : (n at o lim : ℕ) → lim ≤ 32768 → o + (a .levels + 1) ≤ 64 → n + (a .nodes + 1) ≤ lim → Told (readExpr lim (64 - o) n) size (nodeImage (nodesIn ws vs lim) b i) lim 0 n at (Fine (n + (a .nodes + 1)) (at + (a .bytes + 1)))
+          told n at o lim hl ho hn =
+              let es : n + (a .nodes + 1) ≡ n + 1 + a .nodes = omega arith in
+              let el : at + (a .bytes + 1) ≡ at + 1 + a .bytes = omega arith in
+              rw (es, el) (node-one (nodesIn ws vs lim) b i lim n at o k (within lim n o (omega arith) (omega arith)) x kk (A .told (n + 1) (at + 1) (o + 1) lim hl (omega arith) (omega arith)))
+
+      fits-two : (x : Op2) → k ≡ Two x → (a c : Measure) → Fits ws vs i (getD ws (3 * i + 1) 0) a → Fits ws vs i (getD ws (3 * i + 2) 0) c → Fits ws vs b i (aboveMeasure (a .nodes + c .nodes) (highest (a .levels) (c .levels)) (a .bytes + c .bytes))
+      fits-two x kk a c A C = let p = A .short in let q = C .short in above-fits (a .nodes + c .nodes) (highest (a .levels) (c .levels)) (a .bytes + c .bytes) (omega arith) told
+        where
+          told : (n at o lim : ℕ) → lim ≤ 32768 → o + (highest (a .levels) (c .levels) + 1) ≤ 64 → n + (a .nodes + c .nodes + 1) ≤ lim
+              → Told (readExpr lim (64 - o) n) size (nodeImage (nodesIn ws vs lim) b i) lim 0 n at (Fine (n + (a .nodes + c .nodes + 1)) (at + (a .bytes + c .bytes + 1)))
+          told n at o lim hl ho hn =
+              let ha = highest-left (a .levels) (c .levels) in
+              let hc = highest-right (a .levels) (c .levels) in
+              let es : n + (a .nodes + c .nodes + 1) ≡ n + 1 + a .nodes + c .nodes = omega arith in
+              let el : at + (a .bytes + c .bytes + 1) ≡ at + 1 + a .bytes + c .bytes = omega arith in
+              rw (es, el) (node-two (nodesIn ws vs lim) b i lim n at o k (within lim n o (omega arith) (omega arith)) x kk (A .told (n + 1) (at + 1) (o + 1) lim hl (omega arith) (omega arith)) refl (C .told (n + 1 + a .nodes) (at + 1 + a .bytes) (o + 1) lim hl (omega arith) (omega arith)))
+
+  module _ (i : ℕ) (k : Kind) (low : getD ws (3 * i) 0 < 19) (kd : k ≡ kindOf (getD ws (3 * i) 0)) {r : Measure} where
+    pub stands-other : k ≡ Other → r ≡ leafMeasure 1 → Stands ws vs i r
+    stands-other kk e = record { below = λ b h. rw e (fits-other b i k h low kd kk) }
+
+    pub stands-imm16 : k ≡ Imm16 → zig (getD vs i (pos 0)) < wide → r ≡ immMeasure (zig (getD vs i (pos 0))) 65536 → Stands ws vs i r
+    stands-imm16 kk wd e = record { below = λ b h. rw e (fits-imm16 b i k h low kd kk wd) }
+
+    pub stands-imm32 : k ≡ Imm32 → zig (getD vs i (pos 0)) < wide → r ≡ immMeasure (zig (getD vs i (pos 0))) 4294967296 → Stands ws vs i r
+    stands-imm32 kk wd e = record { below = λ b h. rw e (fits-imm32 b i k h low kd kk wd) }
+
+    pub stands-one : (x : Op1) → k ≡ One x → (a : Measure) → Fits ws vs i (getD ws (3 * i + 1) 0) a → r ≡ aboveMeasure (a .nodes) (a .levels) (a .bytes) → Stands ws vs i r
+    stands-one x kk a A e = record { below = λ b h. rw e (fits-one b i k h low kd x kk a A) }
+
+    pub stands-two : (x : Op2) → k ≡ Two x → (a c : Measure) → Fits ws vs i (getD ws (3 * i + 1) 0) a → Fits ws vs i (getD ws (3 * i + 2) 0) c → (d : ℕ) → d ≡ highest (a .levels) (c .levels)
+        → r ≡ aboveMeasure (a .nodes + c .nodes) d (a .bytes + c .bytes) → Stands ws vs i r
+    stands-two x kk a c A C d ed e = record { below = λ b h. rw (e, ed) (fits-two b i k h low kd x kk a c A C) }
+
+  -- ---- tables
+
+  pub tables-none : (ss ds ls : List ℕ) → Tables ws vs ss ds ls 0
+  tables-none ss ds ls = record { long = record { sizes = omega arith; depths = omega arith; lengths = omega arith }; each = λ j h. absurd (omega arith) }
+
+  pub tables-more : (ss ds ls : List ℕ) (i : ℕ) (m : Measure) → Long ss ds ls (i + 1) → Tables ws vs ss ds ls i → Stands ws vs i m
+      → Tables ws vs (set ss i (m .nodes)) (set ds i (m .levels)) (set ls i (m .bytes)) (i + 1)
+  tables-more ss ds ls i m L T S = record {
+    long = record { sizes = omega (arith, L .sizes, length-set ss i (m .nodes)); depths = omega (arith, L .depths, length-set ds i (m .levels)); lengths = omega (arith, L .lengths, length-set ls i (m .bytes)) };
+    each = λ j h. by j h (ltb j i) refl;
+  }
+    where
+      by : (j : ℕ) → j < i + 1 → (t : Bool) → ltb j i ≡ t → Stands ws vs j (measureAt (set ss i (m .nodes)) (set ds i (m .levels)) (set ls i (m .bytes)) j)
+      by j h true e =
+          let lt = ltb-true j i e in
+          let ne : j ≡ i → ⊥ = λ q. omega arith in
+          rw (getD-set-other ss i j (m .nodes) 0 ne, getD-set-other ds i j (m .levels) 0 ne, getD-set-other ls i j (m .bytes) 0 ne) (T .each j lt)
+      by j h false e =
+          let q : j ≡ i = omega (arith, ltb-false j i e) in
+          rw (q, getD-set-same ss i (m .nodes) 0 (omega (arith, L .sizes)), getD-set-same ds i (m .levels) 0 (omega (arith, L .depths)), getD-set-same ls i (m .bytes) 0 (omega (arith, L .lengths))) S
+
+  -- a command's expression that has room
+  pub root-fine : {ss ds ls : List ℕ} {l : ℕ} (i j n at : ℕ) → Tables ws vs ss ds ls l → l ≤ 32768 → j ≡ i → i < l → getD ds j 0 < 65 → n ≤ l → getD ss j 0 ≤ l - n
+      → Told (readExpr l 64 n) size (nodeImage (nodesIn ws vs l) l i) l 0 n at (Fine (n + getD ss j 0) (at + getD ls j 0))
+  root-fine {l = l} i j n at T hl e h hd hn hs = operand-fits i j T e (omega arith) .told n at 0 l hl (omega arith) (omega arith)
+
+-- the first i of n nodes are measured, in tables as long as they were
+pub record Measuring (ws : List ℕ) (vs : List ℤ) (ss₀ ds₀ ls₀ : List ℕ) (n : ℕ) (ss ds ls : List ℕ) (i : ℕ) : Type 0 where
+  pub low : i ≤ n
+  pub sizes : length ss ≡ length ss₀
+  pub depths : length ds ≡ length ds₀
+  pub lengths : length ls ≡ length ls₀
+  pub tables : Tables ws vs ss ds ls i
+
+module _ (ws : List ℕ) (vs : List ℤ) {ss₀ ds₀ ls₀ : List ℕ} {n : ℕ} where
+  pub measuring-start : Measuring ws vs ss₀ ds₀ ls₀ n ss₀ ds₀ ls₀ 0
+  measuring-start = record { low = omega arith; sizes = refl; depths = refl; lengths = refl; tables = tables-none ws vs ss₀ ds₀ ls₀ }
+
+  module _ {ss ds ls : List ℕ} {i : ℕ} (M : Measuring ws vs ss₀ ds₀ ls₀ n ss ds ls i) where
+    pub measuring-more : (m : Measure) → Long ss₀ ds₀ ls₀ n → i < n → Stands ws vs i m → Measuring ws vs ss₀ ds₀ ls₀ n (set ss i (m .nodes)) (set ds i (m .levels)) (set ls i (m .bytes)) (i + 1)
+    measuring-more m L h S =
+        let a = M .sizes in
+        let b = M .depths in
+        let c = M .lengths in
+        record {
+          low = omega arith;
+          sizes = omega (arith, length-set ss i (m .nodes));
+          depths = omega (arith, length-set ds i (m .levels));
+          lengths = omega (arith, length-set ls i (m .bytes));
+          tables = tables-more ws vs ss ds ls i m (record { sizes = omega (arith, L .sizes); depths = omega (arith, L .depths); lengths = omega (arith, L .lengths) }) (M .tables) S;
+        }
+
+    pub measuring-done : n ≤ i → Tables ws vs ss ds ls n
+    measuring-done h = let e : n ≡ i = omega (arith, M .low) in rw e (M .tables)
