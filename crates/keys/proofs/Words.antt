@@ -2,7 +2,10 @@
 use mathlib.Core.Path.{_≡_, refl, ap, _∙_}
 use mathlib.Core.Bool.{Bool, true, false, not, cond}
 use mathlib.Core.Option.{Option, none, some}
-use mathlib.Core.List.{List}
+use mathlib.Core.List.{List, [], _∷_}
+use types.Run.{OneOf, miss}
+use denote.Enum.Declared.{tagOf}
+use Rattle.model.proofs.Kind as kind
 use Prim.Native.Nat.{ℕ, _+_, _-_, _*_, _/_, _<_, _≤_}
 use native.Mathlib.Omega.{arith}
 use lib.Dec.{ltb, eqb}
@@ -234,6 +237,27 @@ module _ (ns : Nodes) (i : ℕ) (k : Kind) (l : ℕ) (e : k ≡ kindOf (codeAt n
   compare-law h ks ls m r s x y u g v w t =
       rw (w, ← e, ← f, ← u)
       (compared-leaf ks m k s x (parseRequirement h (treeBelow ns i l)) (value (treeBelow ns i r)) g (rw v (below-leaf h ns ks ls m i l t)))
+
+-- a node of another kind reads nothing, or compares nothing with 0
+pub no-read : (h : Sheet) (ns : Nodes) (i : ℕ) (k : Kind) → k ≡ kindOf (codeAt ns i) → OneOf (0 ∷ 2 ∷ 3 ∷ 4 ∷ []) (tagOf kind.the-type k) → Reading 0 (readAt h ns i)
+no-read h ns i k e t = rw (← e) (by k t)
+  where
+    by : (k : Kind) → OneOf (0 ∷ 2 ∷ 3 ∷ 4 ∷ []) (tagOf kind.the-type k) → Reading 0 (readOf h k (value (treeBelow ns i (leftAt ns i))))
+    by (Two o) t = refl
+    by (One o) t = absurd (miss (0 ∷ 2 ∷ 3 ∷ 4 ∷ []) 1 tt t)
+    by Imm16 t = refl
+    by Imm32 t = refl
+    by Other t = refl
+
+pub no-compare : (h : Sheet) (ns : Nodes) (i : ℕ) (k : Kind) → k ≡ kindOf (codeAt ns i) → OneOf (1 ∷ 2 ∷ 3 ∷ 4 ∷ []) (tagOf kind.the-type k) → (ks : List ℕ) (m : ℕ) → Leaf ks m 0 (comparedAt h ns i)
+no-compare h ns i k e t ks m = rw (← e) (by k t)
+  where
+    by : (k : Kind) → OneOf (1 ∷ 2 ∷ 3 ∷ 4 ∷ []) (tagOf kind.the-type k) → Leaf ks m 0 (comparedOf k (parseRequirement h (treeBelow ns i (leftAt ns i))) (value (treeBelow ns i (rightAt ns i))))
+    by (Two o) t = absurd (miss (1 ∷ 2 ∷ 3 ∷ 4 ∷ []) 0 tt t)
+    by (One o) t = refl
+    by Imm16 t = refl
+    by Imm32 t = refl
+    by Other t = refl
 
 pub read-subject : (h : Sheet) (ns : Nodes) (i c : ℕ) → Reading c (readAt h ns i) → (c ≡ 0 → ⊥) → Subject c
 read-subject h ns i c r n = by (readAt h ns i) r

@@ -247,6 +247,9 @@ fn read_at(ws: &[u16; 98304], val: &[i32; 32768], items: u16, atcs: u16, i: usiz
     ensures { λ r. ⌜ ((n : ℕ) → Reading r (readAt (sheetBy items atcs) (nodesIn (now (ws .entry)) (now (val .entry)) n) i)) ⌝ }
 {
     let k = kind_of(ws[3 * i]);
+    let Kind::One(_) = k else {
+        return 0;
+    };
     let s = number_below(ws, val, i, index_of(ws[3 * i + 1]));
     subject(k, s, items, atcs)
 }
@@ -257,6 +260,9 @@ fn compare_at(ws: &[u16; 98304], val: &[i32; 32768], lf: &[u16; 98304], i: usize
     ensures { λ r. ⌜ ((h : Sheet) (ks : List ℕ) (m n : ℕ) → Words h (nodesIn (now (ws .entry)) (now (val .entry)) n) i ks (now (lf .entry)) m → Leaf ks m r (comparedAt h (nodesIn (now (ws .entry)) (now (val .entry)) n) i)) ⌝ }
 {
     let k = kind_of(ws[3 * i]);
+    let Kind::Two(_) = k else {
+        return 0;
+    };
     let x = word_below(lf, i, index_of(ws[3 * i + 1]));
     let s = number_below(ws, val, i, index_of(ws[3 * i + 2]));
     compared(k, s, x)

@@ -2,7 +2,7 @@
 use Prim.Native.Nat.{_-_}
 use denote.Ref.{now}
 use Rattle.model.specs.Memory.{nodesIn}
-use Rattle.keys.proofs.Words.{compare-law}
+use Rattle.keys.proofs.Words.{compare-law, no-compare}
 use borrow.Author.Needs.{needs}
 use Rattle.keys.proofs.compare_at.Statement.{statement}
 use Rattle.keys.proofs.compare_at.Tie as tie
@@ -18,6 +18,12 @@ element-copy-out-kind-of c = search needs
 
 kind-of-requires : tie.Need-kind-of-requires
 kind-of-requires c κs = search needs
+
+enum-told : tie.Need-enum-told
+enum-told c = search needs
+
+returns : tie.Need-returns
+returns c = λ h ks m n w. no-compare h (nodesIn (now (c .before .before .before .args .ws)) (now (c .before .before .before .args .val)) n) (c .before .before .before .args .i) _ (c .before .kind-of .ensures) (c .match .keys2) ks m
 
 mul-index-of : tie.Need-mul-index-of
 mul-index-of c = search needs
@@ -58,8 +64,8 @@ number-below-requires c κs = search needs
 compared-requires : tie.Need-compared-requires
 compared-requires c κs = search needs
 
-returns : tie.Need-returns
-returns c = λ h ks m n w. compare-law (nodesIn (now (c .before .before .before .before .before .before .before .before .before .args .ws)) (now (c .before .before .before .before .before .before .before .before .before .args .val)) n) (c .before .before .before .before .before .before .before .before .before .args .i) _ _ (c .before .before .before .before .before .before .before .kind-of .ensures) (c .before .before .before .before .before .index-of .ensures) h ks (now (c .before .before .before .before .before .before .before .before .before .args .lf)) m _ _ _ _ (c .before .before .index-of2 .ensures) (c .before .number-below .ensures n) (c .before .before .before .before .word-below .ensures) (c .compared .ensures) w
+returns-2 : tie.Need-returns-2
+returns-2 c = λ h ks m n w. compare-law (nodesIn (now (c .before .before .before .before .before .before .before .before .before .before .before .args .ws)) (now (c .before .before .before .before .before .before .before .before .before .before .before .args .val)) n) (c .before .before .before .before .before .before .before .before .before .before .before .args .i) _ _ (c .before .before .before .before .before .before .before .before .before .kind-of .ensures) (c .before .before .before .before .before .index-of .ensures) h ks (now (c .before .before .before .before .before .before .before .before .before .before .before .args .lf)) m _ _ _ _ (c .before .before .index-of2 .ensures) (c .before .number-below .ensures n) (c .before .before .before .before .word-below .ensures) (c .compared .ensures) w
 
 pub compare-at-spec : {M : Type 1} → statement M
 compare-at-spec =
@@ -69,6 +75,8 @@ compare-at-spec =
     mul-kind-of-2
     element-copy-out-kind-of
     kind-of-requires
+    enum-told
+    returns
     mul-index-of
     add-index-of
     mul-index-of-2
@@ -82,4 +90,4 @@ compare-at-spec =
     index-of-requires-2
     number-below-requires
     compared-requires
-    returns)
+    returns-2)

@@ -3,7 +3,8 @@ use Prim.Native.Nat.{_-_}
 use native.Mathlib.Omega.{arith}
 use denote.Ref.{now}
 use Rattle.model.specs.Memory.{nodesIn}
-use Rattle.keys.proofs.Words.{read-law}
+use Rattle.keys.specs.Reads.{sheetBy}
+use Rattle.keys.proofs.Words.{read-law, no-read}
 use borrow.Author.Needs.{needs}
 use Rattle.keys.proofs.read_at.Statement.{statement}
 use Rattle.keys.proofs.read_at.Tie as tie
@@ -19,6 +20,12 @@ element-copy-out-kind-of c = search needs
 
 kind-of-requires : tie.Need-kind-of-requires
 kind-of-requires c κs = search needs
+
+enum-told : tie.Need-enum-told
+enum-told c = search needs
+
+returns : tie.Need-returns
+returns c = λ n. no-read (sheetBy (c .before .before .before .args .items) (c .before .before .before .args .atcs)) (nodesIn (now (c .before .before .before .args .ws)) (now (c .before .before .before .args .val)) n) (c .before .before .before .args .i) _ (c .before .kind-of .ensures) (c .match .keys2)
 
 mul-index-of : tie.Need-mul-index-of
 mul-index-of c = search needs
@@ -41,8 +48,8 @@ number-below-requires c κs = search needs
 subject-requires : tie.Need-subject-requires
 subject-requires c κs = search needs
 
-returns : tie.Need-returns
-returns c = λ n. read-law (nodesIn (now (c .before .before .before .before .before .before .args .ws)) (now (c .before .before .before .before .before .before .args .val)) n) (c .before .before .before .before .before .before .args .i) _ _ (c .before .before .before .before .kind-of .ensures) (c .before .before .index-of .ensures) (c .before .before .before .before .before .before .args .items) (c .before .before .before .before .before .before .args .atcs) _ _ (omega arith) (omega arith) (c .before .number-below .ensures n) (c .subject .ensures)
+returns-2 : tie.Need-returns-2
+returns-2 c = λ n. read-law (nodesIn (now (c .before .before .before .before .before .before .before .before .args .ws)) (now (c .before .before .before .before .before .before .before .before .args .val)) n) (c .before .before .before .before .before .before .before .before .args .i) _ _ (c .before .before .before .before .before .before .kind-of .ensures) (c .before .before .index-of .ensures) (c .before .before .before .before .before .before .before .before .args .items) (c .before .before .before .before .before .before .before .before .args .atcs) _ _ (omega arith) (omega arith) (c .before .number-below .ensures n) (c .subject .ensures)
 
 pub read-at-spec : {M : Type 1} → statement M
 read-at-spec =
@@ -52,6 +59,8 @@ read-at-spec =
     mul-kind-of-2
     element-copy-out-kind-of
     kind-of-requires
+    enum-told
+    returns
     mul-index-of
     add-index-of
     mul-index-of-2
@@ -59,4 +68,4 @@ read-at-spec =
     index-of-requires
     number-below-requires
     subject-requires
-    returns)
+    returns-2)
