@@ -1,7 +1,8 @@
 // Replays recorded answers of the original through the proved calls, and says how many are as recorded. rust/record/src/format.rs has the file's form.
 ghost use mathlib.Core.Path.{_≡_};
-ghost use Prim.Native.Nat.{_≤_};
+ghost use Prim.Native.Nat.{_+_, _≤_, _<_};
 ghost use lib.ListN.{length};
+ghost use Rattle.replay.specs.Tally.{Fair, one};
 use compile::compile;
 use image_read::Image;
 use image_read::Num;
@@ -82,17 +83,25 @@ struct Tally {
 }
 
 fn main() {
-    let mut input = [0u8; 655360];
-    let n = io::read_full(STDIN_FILENO, &mut input);
-    replay(&input[..n]);
+    let mut room = [0u8; 655360];
+    read_input(&mut room);
 }
 
-// An input that fills the array may be longer than it.
+// An input that fills the room may be longer than it.
+fn read_input(room: &mut [u8]) {
+    let n = io::read_full(STDIN_FILENO, room);
+    if room.len() <= n {
+        malformed();
+        return;
+    }
+    replay(&room[..n]);
+}
+
 fn replay(s: &[u8]) {
     let parses = parse_cases(s);
     let lists = compile_lists(s, parses.at);
-    if 655360 <= s.len() || lists.at != s.len() {
-        put(b"malformed\n");
+    if lists.at != s.len() {
+        malformed();
         return;
     }
     parse_line(parses);
@@ -168,7 +177,9 @@ fn parse_cases(s: &[u8]) -> Tally {
 }
 
 // An input of the program slots, and what it prints.
-fn parse_case(s: &[u8], at: usize) -> Case {
+fn parse_case(s: &[u8], at: usize) -> Case
+    ensures { λ r. ⌜ r .compiles ≤ 1000 ⌝ }
+{
     let input = run_at(s, at);
     let text = run_at(s, input.at);
     if text.at == MALFORMED {
@@ -234,7 +245,9 @@ fn compile_list(
     val: &mut [i32; 32768],
     cw: &mut [u16; 65536],
     bw: &mut [u16; 20480],
-) -> Case {
+) -> Case
+    ensures { λ r. ⌜ r .compiles ≤ 1000 ⌝ }
+{
     let mut attached = [0u8; 512];
     let run = run_at(s, at);
     let before = before_list(s, run, &mut attached, ws, val, cw, bw);
@@ -485,7 +498,9 @@ fn code_of(kind: u64, x: u64) -> u64
 
 // ---- tallies
 
-fn no_case() -> Case {
+fn no_case() -> Case
+    ensures { λ r. ⌜ r .compiles ≤ 1000 ⌝ }
+{
     Case {
         same: false,
         compiles: 0,
@@ -493,7 +508,9 @@ fn no_case() -> Case {
     }
 }
 
-fn no_cases(at: usize) -> Tally {
+fn no_cases(at: usize) -> Tally
+    ensures { λ r. ⌜ Fair 0 r ⌝ }
+{
     Tally {
         cases: 0,
         same: 0,
@@ -503,13 +520,16 @@ fn no_cases(at: usize) -> Tally {
     }
 }
 
-fn tallied(t: Tally, case: Case) -> Tally {
-    let cases = std::num::wrapping_add_u64(t.cases, 1);
-    let compiles = std::num::wrapping_add_u64(t.compiles, case.compiles);
+fn tallied(t: Tally, case: Case) -> Tally
+    requires { ⌜ (t .cases < 1000000) × Fair (t .cases) t × (case .compiles ≤ 1000) ⌝ }
+    ensures { λ r. ⌜ Fair (t .cases + 1) r × (r .same ≡ t .same + one (case .same)) ⌝ }
+{
+    let cases = t.cases + 1;
+    let compiles = t.compiles + case.compiles;
     if case.same {
         return Tally {
             cases: cases,
-            same: std::num::wrapping_add_u64(t.same, 1),
+            same: t.same + 1,
             first: t.first,
             compiles: compiles,
             at: case.at,
@@ -553,6 +573,10 @@ fn agreed(t: Tally) {
         io::print_decimal(STDOUT_FILENO, t.first);
     }
     put(b"\n");
+}
+
+fn malformed() {
+    put(b"malformed\n");
 }
 
 fn counted(n: u64, what: &[u8]) {

@@ -1,11 +1,12 @@
--- `all_lists` is safe and ends: i stays within the count. Assumes nothing.
+-- `all_lists` is safe and ends: i cases are tallied, and i stays within the count. Assumes nothing.
 use Prim.Native.Nat.{_-_, _≤_}
+use Rattle.replay.specs.Tally.{Fair}
 use borrow.Author.Needs.{needs}
 use Rattle.replay.proofs.all_lists.Statement.{statement}
 use Rattle.replay.proofs.all_lists.Tie as tie
 
 abbrev Inv-loop : tie.InvT-loop
-Inv-loop s at ws₀ val₀ cw₀ bw₀ n t₀ i₀ ws val cw bw t i = i ≤ n .value
+Inv-loop s at ws₀ val₀ cw₀ bw₀ n t₀ i₀ ws val cw bw t i = (i ≤ n .value) × Fair i t
 
 abbrev μ-loop : tie.MeasureT-loop
 μ-loop s at ws₀ val₀ cw₀ bw₀ n t₀ i₀ ws val cw bw t i = n .value - i
