@@ -11,8 +11,7 @@
 //!
 //! A file of compile cases:
 //! - the number of cases, and for each case
-//! - a run of bytes: the sheet, as the input of `slots` has it, and behind it the image of the
-//!   script before the list;
+//! - a run of bytes: an input of `slots` with the script before the list, its setup number 0;
 //! - the number of compiles in the list, and for each compile
 //!   - the setup number,
 //!   - the number of slots given, and for each its item + 1 (0 for none), its limit (signed), the
@@ -21,12 +20,14 @@
 //!   - the answer: 0 accepted, else the refusal's number;
 //! - a run of bytes: the image of the script after the list.
 //!
+//! The file of the program `replay` is a file of parse cases with one of compile cases behind it.
+//!
 //! The counts of the script start as what the image holds and never fall within a list.
 
 use crate::compile_cases::{Case, Step};
 use oracle::image::{self, put_number, put_signed};
 use oracle::plain::Slot;
-use oracle::slots;
+use oracle::slots::{self, Input};
 
 fn put_count(out: &mut Vec<u8>, count: usize) {
     put_number(out, u32::try_from(count).expect("counts fit 32 bits"));
@@ -53,17 +54,30 @@ pub fn compile_file(cases: &[Case]) -> Vec<u8> {
     let mut out = Vec::new();
     put_count(&mut out, cases.len());
     for case in cases {
-        let mut before = Vec::new();
-        slots::put_sheet(&mut before, &case.sheet);
-        before.extend(image::write(&case.before));
-        put_run(&mut out, &before);
-        put_count(&mut out, case.steps.len());
-        for step in &case.steps {
-            put_step(&mut out, step);
-        }
-        put_run(&mut out, &image::write(&case.after));
+        put_case(&mut out, case);
     }
     out
+}
+
+/// How many bytes a list of compiles takes in a file.
+pub fn length(case: &Case) -> usize {
+    let mut out = Vec::new();
+    put_case(&mut out, case);
+    out.len()
+}
+
+fn put_case(out: &mut Vec<u8>, case: &Case) {
+    let before = slots::write(&Input {
+        sheet: case.sheet.clone(),
+        setup: 0,
+        script: case.before.clone(),
+    });
+    put_run(out, &before);
+    put_count(out, case.steps.len());
+    for step in &case.steps {
+        put_step(out, step);
+    }
+    put_run(out, &image::write(&case.after));
 }
 
 fn put_step(out: &mut Vec<u8>, step: &Step) {

@@ -6,3 +6,4 @@ pub mod limits;
 pub mod make;
 pub mod parse_cases;
 pub mod random;
+pub mod small;

@@ -3,11 +3,14 @@
 //! `record SEED PARSE COMPILE FOLDER [limits]` writes `parse.bin` with PARSE cases and
 //! `compile.bin` with COMPILE lists into FOLDER, the same ones for the same seed; with `limits`
 //! also `limits-parse.bin` and `limits-compile.bin`. The module `format` says what is in them.
+//!
+//! `record replay SEED PARSE COMPILE FILE` writes the input of the program `replay`: PARSE small cases
+//! and COMPILE small lists, and behind each some at a limit.
 
 use oracle::{calls, slots};
 use record::compile_cases::{self, Case};
 use record::random::Random;
-use record::{format, limits, parse_cases};
+use record::{format, limits, parse_cases, small};
 use std::collections::BTreeMap;
 use std::error::Error;
 use std::path::Path;
@@ -17,21 +20,51 @@ type ParseCase = (Vec<u8>, String);
 
 fn main() -> Result<(), Box<dyn Error>> {
     let arguments: Vec<String> = env::args().skip(1).collect();
-    let (seed, parses, compiles, folder, with_limits) = match &arguments[..] {
-        [seed, parses, compiles, folder] => (seed, parses, compiles, folder, false),
-        [seed, parses, compiles, folder, word] if word == "limits" => {
-            (seed, parses, compiles, folder, true)
+    match &arguments[..] {
+        [word, seed, parses, compiles, file] if word == "replay" => record_replay(
+            &mut Random::new(seed.parse()?),
+            parses.parse()?,
+            compiles.parse()?,
+            Path::new(file),
+        ),
+        [seed, parses, compiles, folder, rest @ ..] if rest.is_empty() || rest == ["limits"] => {
+            record_files(
+                &mut Random::new(seed.parse()?),
+                parses.parse()?,
+                compiles.parse()?,
+                Path::new(folder),
+                !rest.is_empty(),
+            )
         }
-        _ => return Err("usage: record SEED PARSE COMPILE FOLDER [limits]".into()),
-    };
-    let mut random = Random::new(seed.parse()?);
-    let inputs = (0..parses.parse()?)
-        .map(|i| parse_cases::input(&mut random, i))
-        .collect();
-    let lists: Vec<Case> = (0..compiles.parse()?)
-        .map(|_| compile_cases::case(&mut random))
-        .collect();
-    let folder = Path::new(folder);
+        _ => Err("usage: record SEED PARSE COMPILE FOLDER [limits], or record replay SEED PARSE COMPILE FILE".into()),
+    }
+}
+
+/// Writes the input of the program `replay`.
+fn record_replay(
+    random: &mut Random,
+    parses: usize,
+    compiles: usize,
+    file: &Path,
+) -> Result<(), Box<dyn Error>> {
+    let inputs = small::parse_inputs(random, parses);
+    let cases: Vec<ParseCase> = inputs.into_iter().map(answered).collect();
+    let lists = small::compile_cases(random, compiles);
+    let mut bytes = said("parse", &cases);
+    bytes.extend(said_lists("compile", &lists));
+    println!("{} bytes", bytes.len());
+    Ok(fs::write(file, bytes)?)
+}
+
+fn record_files(
+    random: &mut Random,
+    parses: usize,
+    compiles: usize,
+    folder: &Path,
+    with_limits: bool,
+) -> Result<(), Box<dyn Error>> {
+    let inputs = (0..parses).map(|i| parse_cases::input(random, i)).collect();
+    let lists: Vec<Case> = (0..compiles).map(|_| compile_cases::case(random)).collect();
     fs::create_dir_all(folder)?;
     record(folder, "", inputs, &lists)?;
     if with_limits {
@@ -54,20 +87,29 @@ fn record(
 ) -> Result<(), Box<dyn Error>> {
     let cases: Vec<ParseCase> = inputs.into_iter().map(answered).collect();
     let name = format!("{prefix}parse.bin");
-    let bytes = format::parse_file(&cases);
-    fs::write(folder.join(&name), &bytes)?;
+    fs::write(folder.join(&name), said(&name, &cases))?;
+    let name = format!("{prefix}compile.bin");
+    fs::write(folder.join(&name), said_lists(&name, lists))?;
+    Ok(())
+}
+
+/// The bytes of parse cases; says what is in them.
+fn said(name: &str, cases: &[ParseCase]) -> Vec<u8> {
+    let bytes = format::parse_file(cases);
     println!(
         "{name}: {} cases, {} bytes, {:?}",
         cases.len(),
         bytes.len(),
-        answers(&cases)
+        answers(cases)
     );
-    let (too_many, cut) = differing(&cases);
+    let (too_many, cut) = differing(cases);
     println!("  the original alone reads {too_many} of the 11s and {cut} others with cut ids");
+    bytes
+}
 
-    let name = format!("{prefix}compile.bin");
+/// The bytes of lists of compiles; says what is in them.
+fn said_lists(name: &str, lists: &[Case]) -> Vec<u8> {
     let bytes = format::compile_file(lists);
-    fs::write(folder.join(&name), &bytes)?;
     let mut steps = BTreeMap::new();
     for step in lists.iter().flat_map(|case| &case.steps) {
         *steps.entry(step.answer).or_insert(0) += 1;
@@ -77,7 +119,7 @@ fn record(
         lists.len(),
         bytes.len()
     );
-    Ok(())
+    bytes
 }
 
 fn answered(input: Vec<u8>) -> ParseCase {
