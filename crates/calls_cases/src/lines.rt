@@ -61,7 +61,7 @@ pub fn build(
     bw: &mut [u16; 20480],
     timer10: u16,
     kept: Counts,
-    at: u32,
+    at: u16,
     shop: Shop,
 ) -> Counts {
     let before = sum(ws, val, cw, bw, kept);
@@ -79,7 +79,7 @@ fn compiled(
     bw: &mut [u16; 20480],
     timer10: u16,
     kept: Counts,
-    at: u32,
+    at: u16,
     shop: Shop,
 ) -> Compiled {
     let atcs = attached();
@@ -91,7 +91,7 @@ fn compiled(
         cw,
         bw,
         kept,
-        BlockNo(at),
+        BlockNo(at as u32),
         shop,
     )
 }
@@ -124,7 +124,7 @@ fn sizes(name: &[u8], root: u32, k: Counts) {
 }
 
 // The block that a setup block has as next; the bits of -1 where it has none.
-fn root_of(bw: &[u16; 20480], at: u32) -> u32 {
+fn root_of(bw: &[u16; 20480], at: u16) -> u32 {
     if at < 4096 {
         let i = at as usize;
         return block_of(bw[5 * i + 3]);
@@ -147,10 +147,19 @@ pub fn parsed(
     cw: &[u16; 65536],
     bw: &[u16; 20480],
     kept: Counts,
-    at: u32,
+    at: u16,
 ) {
     let atcs = attached();
-    let p = parse(&atcs, sheet_with(1), ws, val, cw, bw, kept, BlockNo(at));
+    let p = parse(
+        &atcs,
+        sheet_with(1),
+        ws,
+        val,
+        cw,
+        bw,
+        kept,
+        BlockNo(at as u32),
+    );
     parsed_text(name, p);
 }
 
@@ -163,7 +172,9 @@ fn parsed_text(name: &[u8], p: ParsedShop) {
     let shop = p.shop;
     put(name);
     slot_text(shop.slots[0]);
-    line(b"; empty slots ", b"%\n", empties(shop), 0, 0, 0);
+    put(b"; empty slots ");
+    number(empties(shop) as u64);
+    byte(10);
 }
 
 // The run of a compiled shop beside its preview. The save has seven of item 7, ten of Timer10 and a flag set; 2048 is none.
@@ -174,17 +185,17 @@ pub fn meet(
     cw: &[u16; 65536],
     bw: &[u16; 20480],
     kept: Counts,
-    at: u32,
+    at: u16,
     seven: i16,
     ten: i16,
-    flag: usize,
+    flag: u16,
     shop: Shop,
 ) {
     let mut items: [i16; 16] = [0; 16];
     items[7] = seven;
     items[1] = ten;
     let mut flags: [u8; 2048] = [0; 2048];
-    set_flag(&mut flags, flag);
+    set_flag(&mut flags, flag as usize);
     let mut vars: [i32; 1024] = [9; 1024];
     let p = previewed(shop, &items, &flags, &vars);
     let r = ran(ws, val, cw, bw, kept, at, &items, &flags, &mut vars, 82);
@@ -214,7 +225,7 @@ fn ran(
     cw: &[u16; 65536],
     bw: &[u16; 20480],
     kept: Counts,
-    at: u32,
+    at: u16,
     items: &[i16],
     flags: &[u8; 2048],
     vars: &mut [i32; 1024],
@@ -231,7 +242,7 @@ fn ran(
         cw,
         bw,
         kept,
-        BlockNo(at),
+        BlockNo(at as u32),
         items,
         &atcs,
         flags,
@@ -290,7 +301,7 @@ fn hold(vars: &[i32; 1024], first: usize, xs: &[i32; 20]) -> bool {
     true
 }
 
-// A run that is refused, with the first n counts of items.
+// A run that is refused, with so many of the counts of items.
 pub fn stop(
     name: &[u8],
     ws: &[u16; 98304],
@@ -298,11 +309,12 @@ pub fn stop(
     cw: &[u16; 65536],
     bw: &[u16; 20480],
     kept: Counts,
-    at: u32,
+    at: u16,
     items: &[i16],
-    n: usize,
-    budget: u32,
+    count: u16,
+    budget: u16,
 ) {
+    let n = count as usize;
     if items.len() < n {
         return;
     }
@@ -318,7 +330,7 @@ pub fn stop(
         &items[0..n],
         &flags,
         &mut vars,
-        budget,
+        budget as u32,
     );
     stop_text(name, r, vars[5]);
 }
@@ -336,16 +348,17 @@ fn stop_text(name: &[u8], r: Ran, five: i32) {
     );
 }
 
-// The script of the image in the first n bytes; one of no blocks where it is refused.
+// The script of the image in so many of the bytes; one of no blocks where it is refused.
 pub fn read(
     name: &[u8],
     bytes: &[u8],
-    n: usize,
+    count: u16,
     ws: &mut [u16; 98304],
     val: &mut [i32; 32768],
     cw: &mut [u16; 65536],
     bw: &mut [u16; 20480],
 ) -> Counts {
+    let n = count as usize;
     if bytes.len() < n {
         return counts(0, 0, 0);
     }
@@ -365,13 +378,14 @@ fn counts_of(name: &[u8], r: Image) -> Counts {
 pub fn again(
     name: &[u8],
     bytes: &[u8],
-    n: usize,
+    count: u16,
     ws: &[u16; 98304],
     val: &[i32; 32768],
     cw: &[u16; 65536],
     bw: &[u16; 20480],
     k: Counts,
 ) {
+    let n = count as usize;
     if bytes.len() < n {
         return;
     }
@@ -459,9 +473,11 @@ fn slot_text(slot: Slot) {
     let codes = slot.requirements;
     let limit = slot.limit;
     item_text(item);
-    line(b" ", b"%", ints::to_bits(ints::widen16(limit)), 0, 0, 0);
+    byte(b' ');
+    signed(ints::to_bits(ints::widen16(limit)));
     if 4 < slot.len {
-        line(b", requirements ", b"%", slot.len as u32, 0, 0, 0);
+        put(b", requirements ");
+        number(slot.len as u64);
     } else {
         requirements(codes, slot.len as usize);
     }

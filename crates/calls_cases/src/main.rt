@@ -73,7 +73,7 @@ fn case(
     bw: &mut [u16; 20480],
     k: Counts,
 ) -> Counts {
-    let mut a: [u32; 160] = [0; 160];
+    let mut a: [u16; 160] = [0; 160];
     let colon = numbers(line, &mut a);
     if line.len() <= colon {
         return k;
@@ -82,7 +82,7 @@ fn case(
 }
 
 // The numbers of a line, the first at 1, and where its colon is.
-fn numbers(line: &[u8], a: &mut [u32; 160]) -> usize {
+fn numbers(line: &[u8], a: &mut [u16; 160]) -> usize {
     let mut n: usize = 0;
     let mut i: usize = 1;
     while i < line.len() {
@@ -96,7 +96,7 @@ fn numbers(line: &[u8], a: &mut [u32; 160]) -> usize {
 }
 
 // A digit belongs to number n; anything else begins the next.
-fn digit(a: &mut [u32; 160], n: usize, b: u8) -> usize {
+fn digit(a: &mut [u16; 160], n: usize, b: u8) -> usize {
     if 159 <= n {
         return n;
     }
@@ -106,8 +106,13 @@ fn digit(a: &mut [u32; 160], n: usize, b: u8) -> usize {
     if 57 < b {
         return n + 1;
     }
-    a[n] = a[n] % 100000 * 10 + (b - 48) as u32;
+    a[n] = longer(a[n], b);
     n
+}
+
+// The number with one more digit, which has its value in the low four bits.
+fn longer(x: u16, b: u8) -> u16 {
+    ((x as u32 * 10 + (b % 16) as u32) % 65536) as u16
 }
 
 // ---- the calls
@@ -116,7 +121,7 @@ fn digit(a: &mut [u32; 160], n: usize, b: u8) -> usize {
 fn step(
     op: u8,
     name: &[u8],
-    a: &[u32; 160],
+    a: &[u16; 160],
     ws: &mut [u16; 98304],
     val: &mut [i32; 32768],
     cw: &mut [u16; 65536],
@@ -124,34 +129,34 @@ fn step(
     k: Counts,
 ) -> Counts {
     match op {
-        b'C' => build(name, ws, val, cw, bw, low(a[9]), k, a[8], shop_of(a)),
+        b'C' => build(name, ws, val, cw, bw, a[9], k, a[8], shop_of(a)),
         b'I' => image(name, a, ws, val, cw, bw),
         b'L' => {
-            row(cw, bw, low(a[1]), low(a[2]), low(a[3]));
+            row(cw, bw, a[1], a[2], a[3]);
             k
         }
-        b'K' => counts(low(a[1]), low(a[2]), low(a[3])),
+        b'K' => counts(a[1], a[2], a[3]),
         _ => shown(op, name, a, ws, val, cw, bw, k),
     }
 }
 
 fn image(
     name: &[u8],
-    a: &[u32; 160],
+    a: &[u16; 160],
     ws: &mut [u16; 98304],
     val: &mut [i32; 32768],
     cw: &mut [u16; 65536],
     bw: &mut [u16; 20480],
 ) -> Counts {
     let bytes = bytes_of(a);
-    read(name, &bytes, wide(a[1]), ws, val, cw, bw)
+    read(name, &bytes, a[1], ws, val, cw, bw)
 }
 
 // Those that only read the script.
 fn shown(
     op: u8,
     name: &[u8],
-    a: &[u32; 160],
+    a: &[u16; 160],
     ws: &[u16; 98304],
     val: &[i32; 32768],
     cw: &[u16; 65536],
@@ -170,15 +175,15 @@ fn shown(
 
 fn met(
     name: &[u8],
-    a: &[u32; 160],
+    a: &[u16; 160],
     ws: &[u16; 98304],
     val: &[i32; 32768],
     cw: &[u16; 65536],
     bw: &[u16; 20480],
     k: Counts,
 ) {
-    let seven = ints::from_bits16(low(a[9]));
-    let ten = ints::from_bits16(low(a[10]));
+    let seven = ints::from_bits16(a[9]);
+    let ten = ints::from_bits16(a[10]);
     meet(
         name,
         ws,
@@ -189,7 +194,7 @@ fn met(
         a[8],
         seven,
         ten,
-        wide(a[11]),
+        a[11],
         shop_of(a),
     );
 }
@@ -197,21 +202,21 @@ fn met(
 // The first so many of sixteen equal counts.
 fn stopped(
     name: &[u8],
-    a: &[u32; 160],
+    a: &[u16; 160],
     ws: &[u16; 98304],
     val: &[i32; 32768],
     cw: &[u16; 65536],
     bw: &[u16; 20480],
     k: Counts,
 ) {
-    let held = ints::from_bits16(low(a[4]));
+    let held = ints::from_bits16(a[4]);
     let items: [i16; 16] = [held; 16];
-    stop(name, ws, val, cw, bw, k, a[1], &items, wide(a[3]), a[2]);
+    stop(name, ws, val, cw, bw, k, a[1], &items, a[3], a[2]);
 }
 
 fn written(
     name: &[u8],
-    a: &[u32; 160],
+    a: &[u16; 160],
     ws: &[u16; 98304],
     val: &[i32; 32768],
     cw: &[u16; 65536],
@@ -219,25 +224,17 @@ fn written(
     k: Counts,
 ) {
     let bytes = bytes_of(a);
-    again(name, &bytes, wide(a[1]), ws, val, cw, bw, k);
+    again(name, &bytes, a[1], ws, val, cw, bw, k);
 }
 
 // ---- what they are made of
 
-fn low(x: u32) -> u16 {
-    (x % 65536) as u16
-}
-
-fn wide(x: u32) -> usize {
-    x as usize
-}
-
-fn low8(x: u32) -> u8 {
+fn low8(x: u16) -> u8 {
     (x % 256) as u8
 }
 
 // The bytes of an image, of which the number before them says how many they are.
-fn bytes_of(a: &[u32; 160]) -> [u8; 160] {
+fn bytes_of(a: &[u16; 160]) -> [u8; 160] {
     let mut out: [u8; 160] = [0; 160];
     let mut i: usize = 0;
     while i < 158 {
@@ -248,29 +245,34 @@ fn bytes_of(a: &[u32; 160]) -> [u8; 160] {
 }
 
 // One slot: item, limit, how many entries, and the first two of them.
-fn shop_of(a: &[u32; 160]) -> Shop {
-    let mut codes: [u64; 32] = [0; 32];
-    codes[0] = code(a[4], a[5]);
-    codes[1] = code(a[6], a[7]);
+fn shop_of(a: &[u16; 160]) -> Shop {
+    let codes = entries(a);
     let slot = Slot {
         item: item_of(a[1]),
-        limit: ints::from_bits16(low(a[2])),
+        limit: ints::from_bits16(a[2]),
         requirements: codes,
         len: low8(a[3]),
     };
     with_slot(empty_shop(), 0, slot)
 }
 
+fn entries(a: &[u16; 160]) -> [u64; 32] {
+    let mut codes: [u64; 32] = [0; 32];
+    codes[0] = code(a[4], a[5]);
+    codes[1] = code(a[6], a[7]);
+    codes
+}
+
 // Item 999 stands for none.
-fn item_of(x: u32) -> SlotItem {
+fn item_of(x: u16) -> SlotItem {
     if x == 999 {
         return SlotItem::Nothing;
     }
-    SlotItem::Of(ItemId(low(x)))
+    SlotItem::Of(ItemId(x))
 }
 
 // A requirement's code: its kind times 2^32, plus 2^31, plus its number.
-fn code(kind: u32, number: u32) -> u64 {
+fn code(kind: u16, number: u16) -> u64 {
     (kind % 6) as u64 * 4294967296 + 2147483648 + number as u64
 }
 
