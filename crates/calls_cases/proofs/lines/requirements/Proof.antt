@@ -1,8 +1,8 @@
--- `calls_lines::requirements` meets its contract: the invariant keeps i within the entries. Assumes nothing.
+-- `calls_cases::lines::requirements` meets its contract: the invariant keeps i within the entries. Assumes nothing.
 use Prim.Native.Nat.{_-_, _≤_}
 use borrow.Author.Needs.{needs}
-use Rattle.calls_lines.proofs.requirements.Statement.{statement}
-use Rattle.calls_lines.proofs.requirements.Tie as tie
+use Rattle.calls_cases.proofs.lines.requirements.Statement.{statement}
+use Rattle.calls_cases.proofs.lines.requirements.Tie as tie
 
 abbrev Inv-loop : tie.InvT-loop
 Inv-loop n codes i₀ i = i ≤ n

@@ -1,9 +1,9 @@
--- `calls_lines::same` meets its contract: the invariant keeps i within the bytes. Assumes nothing.
+-- `calls_cases::lines::same` meets its contract: the invariant keeps i within the bytes. Assumes nothing.
 use lib.ListN.{length}
 use Prim.Native.Nat.{_-_, _≤_}
 use borrow.Author.Needs.{needs}
-use Rattle.calls_lines.proofs.same.Statement.{statement}
-use Rattle.calls_lines.proofs.same.Tie as tie
+use Rattle.calls_cases.proofs.lines.same.Statement.{statement}
+use Rattle.calls_cases.proofs.lines.same.Tie as tie
 
 abbrev Inv-loop : tie.InvT-loop
 Inv-loop bytes out n i₀ i = i ≤ length bytes
