@@ -1,8 +1,8 @@
 -- The measures of nodes: a tree that fits by its nodes and levels is read fine wherever it stands. Assumes nothing.
-use mathlib.Core.Path.{_≡_, refl, sym}
+use mathlib.Core.Path.{_≡_, refl}
 use mathlib.Core.Bool.{Bool, true, false, cond}
 use mathlib.Core.List.{List}
-use Prim.Native.Nat.{ℕ, zero, suc, _+_, _-_, _*_, _≤_, _<_}
+use Prim.Native.Nat.{ℕ, _+_, _-_, _*_, _≤_, _<_}
 use native.Mathlib.Omega.{arith}
 use lib.Dec.{ltb}
 use lib.IntN.{ℤ, pos}
@@ -28,6 +28,7 @@ use Rattle.judge.specs.declared.Step.the-variants.{Fine}
 
 -- ---- measures
 
+-- not fine by itself: more nodes than a script can have
 abbrev pub unfitMeasure : Measure
 unfitMeasure = record { nodes = 40000; levels = 1; bytes = 1 }
 
@@ -40,7 +41,7 @@ least x m = cond (ltb x m) x m
 unfoldable pub highest : ℕ → ℕ → ℕ
 highest x y = cond (ltb x y) y x
 
--- one node above so many nodes, levels and bytes, capped
+-- one node above so many nodes, levels and bytes. Each cap is above what a script can have: 32,768 nodes, 64 levels, six bytes for each node
 abbrev pub aboveMeasure : ℕ → ℕ → ℕ → Measure
 aboveMeasure s d l = record { nodes = least (s + 1) 40000; levels = least (d + 1) 65; bytes = least (l + 1) 240000 }
 
@@ -176,6 +177,7 @@ module _ (ws : List ℕ) (vs : List ℤ) where
   operand-fits {b = b} i j T e h = rw (← e) (T .each j h .below b h)
 
   module _ (b i : ℕ) where
+    -- where there is room no sum was capped
     above-fits : (s d l : ℕ) → l ≤ 6 * s
         → ((n at o lim : ℕ) → lim ≤ 32768 → o + (d + 1) ≤ 64 → n + (s + 1) ≤ lim → Told (readExpr lim (64 - o) n) size (nodeImage (nodesIn ws vs lim) b i) lim 0 n at (Fine (n + (s + 1)) (at + (l + 1))))
         → Fits ws vs b i (aboveMeasure s d l)
@@ -249,6 +251,7 @@ module _ (ws : List ℕ) (vs : List ℤ) where
               let el : at + (a .bytes + c .bytes + 1) ≡ at + 1 + a .bytes + c .bytes = omega arith in
               rw (es, el) (node-two (nodesIn ws vs lim) b i lim n at o k (within lim n o (omega arith) (omega arith)) x kk (A .told (n + 1) (at + 1) (o + 1) lim hl (omega arith) (omega arith)) refl (C .told (n + 1 + a .nodes) (at + 1 + a .bytes) (o + 1) lim hl (omega arith) (omega arith)))
 
+  -- what measure_node answers, by the kind
   module _ (i : ℕ) (k : Kind) (low : getD ws (3 * i) 0 < 19) (kd : k ≡ kindOf (getD ws (3 * i) 0)) {r : Measure} where
     pub stands-other : k ≡ Other → r ≡ leafMeasure 1 → Stands ws vs i r
     stands-other kk e = record { below = λ b h. rw e (fits-other b i k h low kd kk) }

@@ -274,6 +274,7 @@ fn judge_expr(
 }
 
 // An expression of a command: its root has to be below the kept count of nodes, which is also their limit.
+// The tables answer where there is room for its tree; else the walk says which refusal is met first.
 fn judge_term(
     ws: &[u16; 98304],
     val: &[i32; 32768],
@@ -657,7 +658,7 @@ fn judge_blocks(
     Judged::Fine(p)
 }
 
-// With tables for a small script.
+// With tables for a small script, so that few entries are cleared.
 fn judge_few(
     ws: &[u16; 98304],
     val: &[i32; 32768],
