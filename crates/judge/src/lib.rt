@@ -658,8 +658,33 @@ fn judge_blocks(
     Judged::Fine(p)
 }
 
-// With tables for a small script, so that few entries are cleared.
-fn judge_few(
+// With tables for 64 nodes: to clear large ones takes longer than to judge a small script.
+fn judge_up_to_64(
+    ws: &[u16; 98304],
+    val: &[i32; 32768],
+    cw: &[u16; 65536],
+    bw: &[u16; 20480],
+    counts: Counts,
+) -> Judged
+    requires { ⌜ (counts .nodes ≤ 64) × KeptBy counts ⌝ }
+    ensures { λ r. ⌜ JudgedAs (memoryBy (now (ws .entry)) (now (val .entry)) (now (cw .entry)) (now (bw .entry)) counts) r ⌝ }
+{
+    let mut sizes = [0u32; 64];
+    let mut depths = [0u8; 64];
+    let mut lengths = [0u32; 64];
+    measure_nodes(
+        ws,
+        val,
+        &mut sizes,
+        &mut depths,
+        &mut lengths,
+        index_of(counts.nodes),
+    );
+    judge_blocks(ws, val, &sizes, &depths, &lengths, cw, bw, counts)
+}
+
+// With tables for 1,024 nodes.
+fn judge_up_to_1024(
     ws: &[u16; 98304],
     val: &[i32; 32768],
     cw: &[u16; 65536],
@@ -684,7 +709,7 @@ fn judge_few(
 }
 
 // With tables for any script.
-fn judge_many(
+fn judge_any(
     ws: &[u16; 98304],
     val: &[i32; 32768],
     cw: &[u16; 65536],
@@ -728,7 +753,10 @@ pub fn judge_record(
         return Judged::No(3);
     }
     if counts.nodes > 1024 {
-        return judge_many(ws, val, cw, bw, counts);
+        return judge_any(ws, val, cw, bw, counts);
     }
-    judge_few(ws, val, cw, bw, counts)
+    if counts.nodes > 64 {
+        return judge_up_to_1024(ws, val, cw, bw, counts);
+    }
+    judge_up_to_64(ws, val, cw, bw, counts)
 }

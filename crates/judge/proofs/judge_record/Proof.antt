@@ -14,17 +14,23 @@ returns-2 c = kept-commands (memoryIn (c .before .before .before .before .args .
 returns-3 : tie.Need-returns-3
 returns-3 c = kept-nodes (memoryIn (c .before .before .before .before .before .before .args .ws .now) (c .before .before .before .before .before .before .args .val .now) (c .before .before .before .before .before .before .args .cw .now) (c .before .before .before .before .before .before .args .bw .now) (c .before .before .before .before .before .before .args .counts .nodes) (c .before .before .before .before .before .before .args .counts .commands) (c .before .before .before .before .before .before .args .counts .blocks)) (c .before .before .before .before .if1 .left) (c .before .before .if2 .left) (c .if3 .taken)
 
-judge-many-requires : tie.Need-judge-many-requires
-judge-many-requires c κs = search needs
+judge-any-requires : tie.Need-judge-any-requires
+judge-any-requires c κs = search needs
 
 returns-4 : tie.Need-returns-4
 returns-4 c = search needs
 
-judge-few-requires : tie.Need-judge-few-requires
-judge-few-requires c κs = search needs
+judge-up-to-1024-requires : tie.Need-judge-up-to-1024-requires
+judge-up-to-1024-requires c κs = search needs
 
 returns-5 : tie.Need-returns-5
 returns-5 c = search needs
+
+judge-up-to-64-requires : tie.Need-judge-up-to-64-requires
+judge-up-to-64-requires c κs = search needs
+
+returns-6 : tie.Need-returns-6
+returns-6 c = search needs
 
 pub judge-record-spec : {M : Type 1} → statement M
 judge-record-spec =
@@ -33,7 +39,9 @@ judge-record-spec =
     returns
     returns-2
     returns-3
-    judge-many-requires
+    judge-any-requires
     returns-4
-    judge-few-requires
-    returns-5)
+    judge-up-to-1024-requires
+    returns-5
+    judge-up-to-64-requires
+    returns-6)

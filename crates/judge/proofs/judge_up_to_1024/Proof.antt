@@ -1,7 +1,7 @@
--- `judge::judge_few` meets its contract: the tables are filled for as many nodes as the script keeps. Assumes nothing.
+-- `judge::judge_up_to_1024` meets its contract: the tables are filled for as many nodes as the script keeps. Assumes nothing.
 use borrow.Author.Needs.{needs}
-use Rattle.judge.proofs.judge_few.Statement.{statement}
-use Rattle.judge.proofs.judge_few.Tie as tie
+use Rattle.judge.proofs.judge_up_to_1024.Statement.{statement}
+use Rattle.judge.proofs.judge_up_to_1024.Tie as tie
 
 slice-aggregate-measure-nodes : tie.Need-slice-aggregate-measure-nodes
 slice-aggregate-measure-nodes c = search needs
@@ -33,8 +33,8 @@ judge-blocks-requires c κs = (c .before .before .before .before .before .before
 returns : tie.Need-returns
 returns c = search needs
 
-pub judge-few-spec : {M : Type 1} → statement M
-judge-few-spec =
+pub judge-up-to-1024-spec : {M : Type 1} → statement M
+judge-up-to-1024-spec =
     tie.close
     (tie.spec
     slice-aggregate-measure-nodes

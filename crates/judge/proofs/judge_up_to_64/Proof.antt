@@ -1,7 +1,7 @@
--- `judge::judge_many` meets its contract: the tables are filled for as many nodes as the script keeps. Assumes nothing.
+-- `judge::judge_up_to_64` meets its contract: the tables are filled for as many nodes as the script keeps. Assumes nothing.
 use borrow.Author.Needs.{needs}
-use Rattle.judge.proofs.judge_many.Statement.{statement}
-use Rattle.judge.proofs.judge_many.Tie as tie
+use Rattle.judge.proofs.judge_up_to_64.Statement.{statement}
+use Rattle.judge.proofs.judge_up_to_64.Tie as tie
 
 slice-aggregate-measure-nodes : tie.Need-slice-aggregate-measure-nodes
 slice-aggregate-measure-nodes c = search needs
@@ -28,13 +28,13 @@ slice-aggregate-judge-blocks-3 : tie.Need-slice-aggregate-judge-blocks-3
 slice-aggregate-judge-blocks-3 c = search needs
 
 judge-blocks-requires : tie.Need-judge-blocks-requires
-judge-blocks-requires c κs = (c .before .before .before .before .before .before .before .before .before .before .before .pre, rw (c .before .before .before .before .before .before .before .index-of .ensures) at (c .before .before .before .before .before .before .measure-nodes .ensures))
+judge-blocks-requires c κs = (c .before .before .before .before .before .before .before .before .before .before .before .pre .1, rw (c .before .before .before .before .before .before .before .index-of .ensures) at (c .before .before .before .before .before .before .measure-nodes .ensures))
 
 returns : tie.Need-returns
 returns c = search needs
 
-pub judge-many-spec : {M : Type 1} → statement M
-judge-many-spec =
+pub judge-up-to-64-spec : {M : Type 1} → statement M
+judge-up-to-64-spec =
     tie.close
     (tie.spec
     slice-aggregate-measure-nodes
