@@ -1,6 +1,6 @@
 -- The slots of the shop that arrays stand for, one by one. Assumes nothing.
 use mathlib.Core.Path.{_≡_, refl, sym, ap, _∙_}
-use Prim.Native.Nat.{ℕ, zero, suc, _+_, _<_}
+use Prim.Native.Nat.{ℕ, zero, suc, _+_, _*_, _<_}
 use native.Mathlib.Nat.{zero-add, add-zero}
 use native.Mathlib.Decide.{ℕ-discrete}
 use native.Mathlib.Omega.{arith}
@@ -44,7 +44,7 @@ slot-put a b i x low same others =
 
 -- the arrays before any slot was put
 abbrev pub noArrays : Arrays
-noArrays = arraysIn (replicate slotCount (negsuc 0)) (replicate slotCount (pos 0)) (replicate 640 0) (replicate slotCount 0)
+noArrays = arraysIn (replicate slotCount (negsuc 0)) (replicate slotCount (pos 0)) (replicate (entryLimit * slotCount) 0) (replicate slotCount 0)
 
 pub shop-none : shopFrom noArrays ≡ noShop
 unfolding shopFrom slotsFrom slotAt itemFrom

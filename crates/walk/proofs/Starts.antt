@@ -1,5 +1,5 @@
 -- Before the first block: the walk of the setup block alone, nothing marked, is the parse from it. Assumes nothing.
-use mathlib.Core.Path.{_≡_, refl, sym, ap, ap₂, subst, _∙_}
+use mathlib.Core.Path.{_≡_, refl, ap, ap₂, subst, _∙_}
 use mathlib.Core.Bool.{Bool, false}
 use mathlib.Core.Option.{none}
 use mathlib.Core.List.{List, [], _∷_, map}
