@@ -2,7 +2,9 @@
 
 use locustkeno::{Save, Script};
 use oracle::image;
-use oracle::plain::{self, Block, Code, Requirement, Sheet, Slot};
+use oracle::plain::{
+    self, Binary, Block, Code, Command, Expr, Requirement, Sheet, Slot, Target, Unary,
+};
 use oracle::rules::InUse;
 
 /// One script with the shop that stands in it.
@@ -75,6 +77,32 @@ pub fn all() -> [Case; 4] {
         compiled("ten shops", 10),
         compiled("43 shops", 43),
     ]
+}
+
+/// Two blocks that follow each other for ever: a counter, a test of a flag and of what is left of an
+/// item, and writes to a slot.
+pub fn endless() -> (Sheet, plain::Script) {
+    let read = |kind, number| Expr::unary(kind, Expr::Imm16(number));
+    let set = |variable, value| Command::Set(Target::Variable(Expr::Imm16(variable)), value);
+    let one_more = Expr::binary(Binary::Add, read(Unary::Variable, 1), Expr::Imm16(1));
+    let left = Expr::binary(Binary::Subtract, Expr::Imm16(3), read(Unary::Item, 4));
+    let some = Expr::binary(Binary::Greater, read(Unary::Variable, 0), Expr::Imm16(0));
+    let both = Expr::binary(Binary::BitAnd, read(Unary::Flag, 40), some);
+    let block = |commands, next| {
+        Block::Code(Code {
+            commands,
+            next: Some(next),
+            else_block: None,
+        })
+    };
+    let first = vec![set(1, one_more), set(0, left), Command::If(both, 1)];
+    let second = vec![
+        set(600, Expr::Imm16(4)),
+        set(620, read(Unary::Variable, 0)),
+        Command::EndIf(0),
+    ];
+    let blocks = vec![block(first, 1), block(second, 0)];
+    (sheet(), plain::Script { blocks })
 }
 
 /// A save in which some of everything is held.

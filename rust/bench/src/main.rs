@@ -35,6 +35,8 @@ fn main() {
         shops::all(&case);
         program::case(&case);
     }
+    println!("-- a loop of two blocks, entered 100,000 times in all");
+    long_run();
     println!("-- hiding blocks under one large condition");
     worst::all();
     program::worst();
@@ -88,6 +90,28 @@ fn write(case: &Case) {
             ("Rust, trees, not judged", theirs),
         ],
     );
+}
+
+/// A run that only its budget ends, so that its checks take no part.
+fn long_run() {
+    let (plain_sheet, plain) = cases::endless();
+    let sheet = convert::sheet(&plain_sheet);
+    let script = Script::read(&image::write(&plain)).expect("it is a script");
+    let save = || cases::save(&plain_sheet);
+    let ours = time(1, save, |save| {
+        black_box(script.run(&sheet, 0, save, black_box(100_000)));
+    });
+    let theirs = time(1, save, |save| {
+        black_box(interpret::run(
+            &plain_sheet,
+            script.arrays(),
+            0,
+            save,
+            black_box(100_000),
+        ));
+    });
+    let sides = [("library", ours), ("Rust", theirs)];
+    row("run", "loop", &sides);
 }
 
 fn run(case: &Case) {
