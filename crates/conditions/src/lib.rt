@@ -83,14 +83,7 @@ fn mark_leaf(seen: &mut [bool], x: u16, neg: bool)
 }
 
 // Node i, below b: And and Or both join, Not toggles.
-fn mark(
-    ws: &[u16; 98304],
-    lf: &[u16; 98304],
-    seen: &mut [bool],
-    b: usize,
-    i: usize,
-    neg: bool,
-)
+fn mark(ws: &[u16; 98304], lf: &[u16; 98304], seen: &mut [bool], b: usize, i: usize, neg: bool)
     requires { ⌜ b ≤ 32768 ⌝ }
     ensures { λ _. ⌜ Gathers (now (ws .entry)) (now (lf .entry)) b (now (seen .entry)) (now (seen .exit)) (ofNode b i neg) ⌝ }
 {
@@ -299,14 +292,7 @@ fn mark_list(lf: &[u16; 98304], seen: &mut [bool], from: usize, to: usize, neg: 
 }
 
 // Root i, below n: by its list where it has one, which saves the walk over its nodes at each hiding block.
-fn mark_root(
-    ws: &[u16; 98304],
-    lf: &[u16; 98304],
-    seen: &mut [bool],
-    n: usize,
-    i: usize,
-    neg: bool,
-)
+fn mark_root(ws: &[u16; 98304], lf: &[u16; 98304], seen: &mut [bool], n: usize, i: usize, neg: bool)
     requires { ⌜ n ≤ 32768 ⌝ }
     ensures { λ _. ⌜ ((top : ℕ) → Lists (now (ws .entry)) (now (lf .entry)) n top → Gathers (now (ws .entry)) (now (lf .entry)) n (now (seen .entry)) (now (seen .exit)) (ofNode n i neg)) ⌝ }
 {
