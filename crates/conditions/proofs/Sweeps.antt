@@ -202,5 +202,5 @@ unmarked-on s k h f j l u = by (ℕ-discrete j k)
     by (yes d) = rw d (getD-set-same s k false false h)
     by (no d) = getD-set-other s k j false false d ∙ f j l (omega arith)
 
-pub unmarked-done : (m k : ℕ) (s : List Bool) → 2 * m + 2 ≤ k → length s ≡ 65536 → Unmarked k s → Cleared m s
+pub unmarked-done : (m k : ℕ) (s : List Bool) → 2 * m + 2 ≤ k → 2 * m + 2 ≤ length s → Unmarked k s → Cleared m s
 unmarked-done m k s l e f = record { long = e; none = λ j v. f j (v .low) (omega (arith, v .high)) }

@@ -304,7 +304,7 @@ module _ (ks : List ℕ) (m : ℕ) (s : List Bool) (h : Sheet) (o : Option Expr)
 
 -- no entry of m keys is marked
 pub record Cleared (m : ℕ) (s : List Bool) : Type 0 where
-  pub long : length s ≡ 65536
+  pub long : 2 * m + 2 ≤ length s
   pub none : (k : ℕ) → Valid m k → getD s k false ≡ false
 
 stands-none : (ks : List ℕ) (m : ℕ) (s : List Bool) → Cleared m s → Stands ks m s (λ q. false)

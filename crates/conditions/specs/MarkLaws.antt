@@ -88,7 +88,7 @@ stands-same ks m s f g e a = record { long = a .long; marks = λ k v. a .marks k
 
 stands-set : (ks : List ℕ) (m : ℕ) (s : List Bool) (f : Requirement → Bool) (j : ℕ) → Keys ks m → m < 32768 → Valid m j → Stands ks m s f
     → Stands ks m (set s j true) (λ q. sameReq q (entryReq ks j) || f q)
-stands-set ks m s f j keys small v a = record { long = length-set s j true ∙ a .long; marks = λ k w. mark k w (eqb k j) refl; all = λ q e. one q (sameReq q (entryReq ks j)) refl e }
+stands-set ks m s f j keys small v a = record { long = omega (arith, length-set s j true, a .long); marks = λ k w. mark k w (eqb k j) refl; all = λ q e. one q (sameReq q (entryReq ks j)) refl e }
   where
     mark : (k : ℕ) → Valid m k → (t : Bool) → eqb k j ≡ t → getD (set s j true) k false ≡ sameReq (entryReq ks k) (entryReq ks j) || f (entryReq ks k)
     mark k w true e =

@@ -3,7 +3,7 @@ use mathlib.Core.Path.{_≡_}
 use mathlib.Core.Bool.{Bool, true, false, not, cond, _||_}
 use mathlib.Core.Option.{Option, none, some}
 use mathlib.Core.List.{List}
-use Prim.Native.Nat.{ℕ, zero, suc, _+_, _*_, _-_, _/_, _%_}
+use Prim.Native.Nat.{ℕ, zero, suc, _+_, _*_, _-_, _/_, _%_, _≤_}
 use lib.ListN.{getD, set, length}
 use lib.Dec.{leb, eqb}
 use lib.IntN.{ℤ}
@@ -54,7 +54,7 @@ pub record Has (ks : List ℕ) (m : ℕ) (q : Requirement) : Type 0 where
 
 -- the marks s say of each entry whether its requirement is in f, and nothing else is
 pub record Stands (ks : List ℕ) (m : ℕ) (s : List Bool) (f : Requirement → Bool) : Type 0 where
-  pub long : length s ≡ 65536
+  pub long : 2 * m + 2 ≤ length s
   pub marks : (k : ℕ) → Valid m k → getD s k false ≡ f (entryReq ks k)
   pub all : (q : Requirement) → f q ≡ true → Has ks m q
 

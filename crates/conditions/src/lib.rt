@@ -2,8 +2,8 @@
 ghost use mathlib.Core.Path.{_≡_};
 ghost use mathlib.Core.Bool.{true, false};
 ghost use mathlib.Core.List.{List, []};
-ghost use Prim.Native.Nat.{ℕ, _+_, _*_, _-_, _<_, _≤_};
-ghost use lib.ListN.{length, getD};
+ghost use Prim.Native.Nat.{ℕ, _+_, _*_, _-_, _/_, _<_, _≤_};
+ghost use lib.ListN.{length, getD, set};
 ghost use lib.IntN.{ℤ};
 ghost use Rattle.model.specs.Limits.{entryLimit};
 ghost use Rattle.model.specs.Sheet.{Sheet};
@@ -63,25 +63,27 @@ fn is_not_op(o: Op1) -> bool
     }
 }
 
-fn mark_leaf(seen: &mut [bool; 65536], x: u16, neg: bool)
+// A mark on entry k. Nothing says here that the words of lf are entries, so that the place is tested.
+fn mark_entry(seen: &mut [bool], k: usize)
+    ensures { λ _. ⌜ now (seen .exit) ≡ set (now (seen .entry)) k true ⌝ }
+{
+    if seen.len() <= k {
+        return;
+    }
+    seen[k] = true;
+}
+
+fn mark_leaf(seen: &mut [bool], x: u16, neg: bool)
     ensures { λ _. ⌜ now (seen .exit) ≡ leafMark x neg (now (seen .entry)) ⌝ }
 {
     if x == 0 {
         return;
     }
-    let k = index_of(turn(x, neg));
-    seen[k] = true;
+    mark_entry(seen, index_of(turn(x, neg)));
 }
 
 // Node i, below b: And and Or both join, Not toggles.
-fn mark(
-    ws: &[u16; 98304],
-    lf: &[u16; 98304],
-    seen: &mut [bool; 65536],
-    b: usize,
-    i: usize,
-    neg: bool,
-)
+fn mark(ws: &[u16; 98304], lf: &[u16; 98304], seen: &mut [bool], b: usize, i: usize, neg: bool)
     requires { ⌜ b ≤ 32768 ⌝ }
     ensures { λ _. ⌜ Gathers (now (ws .entry)) (now (lf .entry)) b (now (seen .entry)) (now (seen .exit)) (ofNode b i neg) ⌝ }
 {
@@ -278,27 +280,19 @@ fn has_list(lf: &[u16; 98304], n: usize, i: usize) -> bool
     e <= 32768
 }
 
-fn mark_list(lf: &[u16; 98304], seen: &mut [bool; 65536], from: usize, to: usize, neg: bool)
+fn mark_list(lf: &[u16; 98304], seen: &mut [bool], from: usize, to: usize, neg: bool)
     requires { ⌜ (from ≤ to) × (to ≤ 98304) ⌝ }
     ensures { λ _. ⌜ now (seen .exit) ≡ markedBy (now (lf .entry)) neg from (to - from) (now (seen .entry)) ⌝ }
 {
     let mut j = from;
     while j < to {
-        let k = index_of(turn(lf[j], neg));
-        seen[k] = true;
+        mark_entry(seen, index_of(turn(lf[j], neg)));
         j += 1;
     }
 }
 
 // Root i, below n: by its list where it has one, which saves the walk over its nodes at each hiding block.
-fn mark_root(
-    ws: &[u16; 98304],
-    lf: &[u16; 98304],
-    seen: &mut [bool; 65536],
-    n: usize,
-    i: usize,
-    neg: bool,
-)
+fn mark_root(ws: &[u16; 98304], lf: &[u16; 98304], seen: &mut [bool], n: usize, i: usize, neg: bool)
     requires { ⌜ n ≤ 32768 ⌝ }
     ensures { λ _. ⌜ ((top : ℕ) → Lists (now (ws .entry)) (now (lf .entry)) n top → Gathers (now (ws .entry)) (now (lf .entry)) n (now (seen .entry)) (now (seen .exit)) (ofNode n i neg)) ⌝ }
 {
@@ -317,7 +311,7 @@ fn mark_chain(
     ws: &[u16; 98304],
     lf: &[u16; 98304],
     cells: &[u16; 8192],
-    seen: &mut [bool; 65536],
+    seen: &mut [bool],
     n: usize,
     first: usize,
 )
@@ -339,16 +333,9 @@ fn mark_chain(
 
 // ---- the contradiction filter
 
-// The array's length, for the proofs.
-fn known_marks(a: &[bool; 65536]) -> usize
-    ensures { λ _. ⌜ length (now (a .entry)) ≡ 65536 ⌝ }
-{
-    let s: &[bool] = a;
-    s.len()
-}
-
 // Whether entry k stays: it is marked, and its companion, the entry of the other sign, is not.
-fn survives(seen: &[bool; 65536], k: u16) -> bool
+fn survives(seen: &[bool], k: u16) -> bool
+    requires { ⌜ (2 ≤ k) × (2 * (k / 2) + 2 ≤ length (now seen)) ⌝ }
     ensures { λ r. ⌜ r ≡ survives (now (seen .entry)) k ⌝ }
 {
     if !seen[index_of(k)] {
@@ -357,7 +344,7 @@ fn survives(seen: &[bool; 65536], k: u16) -> bool
     !seen[index_of(turn(k, true))]
 }
 
-fn entry_code(keys: &[u64; 32768], m: u16, k: u16) -> u64
+fn entry_code(keys: &[u64], m: u16, k: u16) -> u64
     requires { ⌜ Valid m k × Keys (now keys) m ⌝ }
     ensures { λ r. ⌜ r ≡ entryCode (now (keys .entry)) k ⌝ }
 {
@@ -378,8 +365,8 @@ fn refused() -> Added
 }
 
 // The negations of the entries that stay, as a set. Most entries are not marked, so that the set is touched only where one stays.
-fn survivors(keys: &[u64; 32768], m: u16, seen: &[bool; 65536]) -> Added
-    requires { ⌜ (m < 32768) × Keys (now keys) m ⌝ }
+fn survivors(keys: &[u64], m: u16, seen: &[bool]) -> Added
+    requires { ⌜ ((m < 32768) × (2 * m + 2 ≤ length (now seen))) × Keys (now keys) m ⌝ }
     ensures { λ r. ⌜ r ≡ asSet (sweepTo (now (keys .entry)) (now (seen .entry)) (2 * m) []) ⌝ }
 {
     let mut at = no_reqs();
@@ -398,11 +385,10 @@ fn survivors(keys: &[u64; 32768], m: u16, seen: &[bool; 65536]) -> Added
 }
 
 // No mark on the entries of m keys; marks past them count nowhere.
-fn clear(seen: &mut [bool; 65536], m: u16)
-    requires { ⌜ m < 32768 ⌝ }
+fn clear(seen: &mut [bool], m: u16)
+    requires { ⌜ (m < 32768) × (2 * m + 2 ≤ length (now seen)) ⌝ }
     ensures { λ _. ⌜ Cleared m (now (seen .exit)) ⌝ }
 {
-    known_marks(seen);
     let to = 2 * index_of(m) + 2;
     let mut k = 2;
     while k < to {
@@ -416,13 +402,13 @@ pub fn parse_requirements(
     ws: &[u16; 98304],
     lf: &[u16; 98304],
     cells: &[u16; 8192],
-    keys: &[u64; 32768],
-    seen: &mut [bool; 65536],
+    keys: &[u64],
+    seen: &mut [bool],
     m: u16,
     n: usize,
     first: usize,
 ) -> Added
-    requires { ⌜ ((n ≤ 32768) × (first ≤ 8192)) × ((m < 32768) × Keys (now keys) m) ⌝ }
+    requires { ⌜ ((n ≤ 32768) × (first ≤ 8192)) × (((m < 32768) × (2 * m + 2 ≤ length (now seen))) × Keys (now keys) m) ⌝ }
     ensures { λ r. ⌜ ((h : Sheet) (vs : List ℤ) (c : ℕ) → Listed h (nodesIn (now (ws .entry)) vs c) n (now (keys .entry)) (now (lf .entry)) m → Negated (parseRequirements h (conditionOf (nodesIn (now (ws .entry)) vs c) n (now (cells .entry)) first)) r) × (r .reqs .len ≤ entryLimit) ⌝ }
 {
     clear(seen, m);

@@ -33,7 +33,7 @@ use Rattle.expr.specs.Tree.{treeBelow, below-in, below-out, tree-node, tree-cou
 use Rattle.keys.specs.Entries.{InRange, isHave, Subject, entryReq, Valid, Leaf, Keyed}
 use Rattle.shop.specs.Codes.{Narrow, code-stands}
 use Rattle.keys.specs.Turns.{turn-plain, turn-valid, turn-req, req-even}
-use Rattle.keys.specs.Search.{Table, Placed}
+use Rattle.keys.specs.Search.{Table, Room, Placed}
 use Rattle.keys.specs.Reads.{sheetBy, Numbered, half, idCode, flagCode, readCode, subjectOf, turnedWord, zeroWord, comparedWord, readOf, comparedOf, readAt, comparedAt, Reads, Reading, Words, Worded}
 use Rattle.keys.specs.declared.Word.{Word}
 use Rattle.keys.specs.declared.Key.{Key}
@@ -267,8 +267,8 @@ read-subject h ns i c r n = by (readAt h ns i) r
     by (some v) q = q .subject
 
 -- a node that reads something is not the first
-pub room : (h : Sheet) (ns : Nodes) (i m c : ℕ) → i < 32768 → m ≤ i - 1 → Reading c (readAt h ns i) → (c ≡ 0 → ⊥) → m + 1 < 32768
-room h ns i m c p q r n = let z : i ≡ 0 → ⊥ = λ e. n (first-none h ns i e c r) in omega arith
+pub room : (h : Sheet) (ns : Nodes) (i m c : ℕ) (ks kd : List ℕ) → i < 32768 → m ≤ i - 1 → i < length ks → 2 * i ≤ length kd → Reading c (readAt h ns i) → (c ≡ 0 → ⊥) → Room ks kd m
+room h ns i m c ks kd p q x y r n = let z : i ≡ 0 → ⊥ = λ e. n (first-none h ns i e c r) in record { few = omega arith; keys = omega arith; kids = omega arith }
 
 -- ---- all nodes
 
@@ -291,16 +291,16 @@ words-on h ns i ks ls m ks' kd' r w p d j q = by (ℕ-discrete j i)
     by (yes e) = rw (e, getD-set-same ls i (r .word) 0 p) (d .leaf)
     by (no n) = rw (getD-set-other ls i j (r .word) 0 n) (leaf-grows ks ks' m (r .count) (getD ls j 0) (parseRequirement h (tree ns j)) (d .stay) (d .more) (w j (omega arith)))
 
-pub none-at : (p : ℕ) → _≡_ {A = ℕ} (getD (replicate 65536 0) p 0) 0
-none-at p = by (ltb p 65536) refl
+pub none-at : (n p : ℕ) → _≡_ {A = ℕ} (getD (replicate n 0) p 0) 0
+none-at n p = by (ltb p n) refl
   where
-    by : (t : Bool) → ltb p 65536 ≡ t → _≡_ {A = ℕ} (getD (replicate 65536 0) p 0) 0
-    by true e = getD-replicate 65536 p 0 0 (ltb-true p 65536 e)
-    by false e = List·getD-eq-default (replicate {A = ℕ} 65536 0) 0 {n = p} (rw (length-replicate {A = ℕ} 65536 0) (ltb-false p 65536 e))
+    by : (t : Bool) → ltb p n ≡ t → _≡_ {A = ℕ} (getD (replicate n 0) p 0) 0
+    by true e = getD-replicate n p 0 0 (ltb-true p n e)
+    by false e = List·getD-eq-default (replicate {A = ℕ} n 0) 0 {n = p} (rw (length-replicate {A = ℕ} n 0) (ltb-false p n e))
 
 pub no-keys : (ks kd : List ℕ) → ((p : ℕ) → getD kd p 0 ≡ 0) → Table ks kd 0
 no-keys ks kd z = record {
-  keys = record { subject = λ i p q. absurd (omega arith); once = λ i j p q. absurd (omega arith) };
+  keys = record { long = omega arith; subject = λ i p q. absurd (omega arith); once = λ i j p q. absurd (omega arith) };
   up = λ p o. absurd (omega (arith, z p));
   low = λ p. omega (arith, z p);
   reached = λ i p q. absurd (omega arith);
@@ -320,19 +320,24 @@ pub record Filling (h : Sheet) (ns : Nodes) (n : ℕ) (ls ks kd : List ℕ) (m i
   pub most : n ≤ 32768
   pub few : m ≤ i - 1
   pub long : length ls ≡ 98304
+  pub keys : n ≤ length ks
+  pub kids : 2 * n ≤ length kd
   pub table : Table ks kd m
   pub words : Words h ns i ks ls m
 
-pub filling-start : (h : Sheet) (ns : Nodes) (n : ℕ) (ls ks kd : List ℕ) → n ≤ 32768 → length ls ≡ 98304 → Table ks kd 0 → Filling h ns n ls ks kd 0 0
-filling-start h ns n ls ks kd p q t = record { low = omega arith; most = p; few = omega arith; long = q; table = t; words = λ j u. absurd (omega arith) }
+pub filling-start : (h : Sheet) (ns : Nodes) (n : ℕ) (ls ks kd : List ℕ) → n ≤ 32768 → length ls ≡ 98304 → n ≤ length ks → 2 * n ≤ length kd → Table ks kd 0 → Filling h ns n ls ks kd 0 0
+filling-start h ns n ls ks kd p q x y t = record { low = omega arith; most = p; few = omega arith; long = q; keys = x; kids = y; table = t; words = λ j u. absurd (omega arith) }
 
-pub filling-on : (h : Sheet) (ns : Nodes) (n : ℕ) (ls ks kd : List ℕ) (m i : ℕ) (ks' kd' : List ℕ) (r : Word) → Filling h ns n ls ks kd m i → i < n → Worded h ns i ks m ks' kd' r
+pub filling-on : (h : Sheet) (ns : Nodes) (n : ℕ) (ls ks kd : List ℕ) (m i : ℕ) (ks' kd' : List ℕ) (r : Word) → Filling h ns n ls ks kd m i → i < n
+    → length ks' ≡ length ks → length kd' ≡ length kd → Worded h ns i ks m ks' kd' r
     → Filling h ns n (set ls i (r .word)) ks' kd' (r .count) (i + 1)
-filling-on h ns n ls ks kd m i ks' kd' r f p d = record {
+filling-on h ns n ls ks kd m i ks' kd' r f p x y d = record {
   low = omega arith;
   most = f .most;
   few = omega (arith, d .few);
   long = length-set ls i (r .word) ∙ f .long;
+  keys = omega (arith, f .keys);
+  kids = omega (arith, f .kids);
   table = d .table;
   words = words-on h ns i ks ls m ks' kd' r (f .words) (omega (arith, f .long, f .most)) d;
 }

@@ -5,7 +5,7 @@ use mathlib.Core.Option.{Option, none, some}
 use mathlib.Core.List.{List}
 use Prim.Native.Nat.{ℕ, _+_, _-_, _*_, _/_, _%_, _≤_, _<_}
 use lib.Dec.{eqb}
-use lib.ListN.{getD}
+use lib.ListN.{getD, length}
 use lib.IntN.{ℤ}
 use lib.Signed.{mag}
 use Rattle.model.specs.Limits.{wide, nodeLimit}
@@ -61,8 +61,9 @@ abbrev pub Leaf : List ℕ → ℕ → ℕ → Option Requirement → Type 0
 Leaf ks m x none = x ≡ 0
 Leaf ks m x (some r) = Stand ks m x r
 
--- m keys, no two alike
+-- m keys, each with a place in the list, no two alike
 pub record Keys (ks : List ℕ) (m : ℕ) : Type 0 where
+  pub long : m ≤ length ks - 1
   pub subject : (i : ℕ) → 0 < i → i ≤ m → Subject (getD ks i 0)
   pub once : (i j : ℕ) → 0 < i → i ≤ m → 0 < j → j ≤ m → getD ks i 0 ≡ getD ks j 0 → i ≡ j
 

@@ -5,7 +5,7 @@ use mathlib.Core.List.{List}
 use Prim.Native.Nat.{ℕ, _+_, _-_, _*_, _/_, _%_, _≤_, _<_}
 use native.Mathlib.Decide.{ℕ-discrete}
 use native.Mathlib.Omega.{arith}
-use lib.ListN.{getD, set, length}
+use lib.ListN.{getD, set, length, length-set}
 use lib.Seq.{getD-set-same, getD-set-other}
 use Rattle.keys.specs.Entries.{Subject, Keys}
 use Rattle.keys.specs.declared.Found.{Found}
@@ -25,6 +25,12 @@ pub record Table (ks kd : List ℕ) (m : ℕ) : Type 0 where
   pub up : (p : ℕ) → 0 < getD kd p 0 → p < 2 * getD kd p 0
   pub low : (p : ℕ) → getD kd p 0 ≤ m
   pub reached : (i : ℕ) → 0 < i → i ≤ m → Reaches kd i (getD ks i 0) 0
+
+-- one key more than m has its place, and so have the links of m keys
+pub record Room (ks kd : List ℕ) (m : ℕ) : Type 0 where
+  pub few : m + 1 < 32768
+  pub keys : m + 1 < length ks
+  pub kids : 2 * m + 2 ≤ length kd
 
 -- links that lead somewhere stay
 abbrev pub Keeps : List ℕ → List ℕ → Type 0
@@ -116,7 +122,7 @@ pub record Placed (ks : List ℕ) (m c : ℕ) (ks' kd' : List ℕ) (r : Key) : T
 pub placed-there : (ks kd : List ℕ) (m c i : ℕ) → Table ks kd m → Is ks m c i → Placed ks m c ks kd (record { at = i; count = m })
 placed-there ks kd m c i t s = record { table = t; is = s; stay = λ i h. refl; more = omega arith; few = omega arith }
 
-module _ (ks kd : List ℕ) (m c p : ℕ) (t : Table ks kd m) (f : Free ks kd m c p) (s : Subject c) (x : length ks ≡ 32768) (y : length kd ≡ 65536) (z : m + 1 < 32768) where
+module _ (ks kd : List ℕ) (m c p : ℕ) (t : Table ks kd m) (f : Free ks kd m c p) (s : Subject c) (x : Room ks kd m) where
   abbrev ks' : List ℕ
   ks' = set ks (m + 1) c
 
@@ -124,13 +130,13 @@ module _ (ks kd : List ℕ) (m c p : ℕ) (t : Table ks kd m) (f : Free ks kd m 
   kd' = set kd p (m + 1)
 
   new : getD ks' (m + 1) 0 ≡ c
-  new = getD-set-same ks (m + 1) c 0 (omega arith)
+  new = getD-set-same ks (m + 1) c 0 (x .keys)
 
   old : (i : ℕ) → i ≤ m → getD ks' i 0 ≡ getD ks i 0
   old i h = getD-set-other ks (m + 1) i c 0 (λ e. omega arith)
 
   link-new : getD kd' p 0 ≡ m + 1
-  link-new = getD-set-same kd p (m + 1) 0 (omega (arith, f .most))
+  link-new = getD-set-same kd p (m + 1) 0 (omega (arith, f .most, x .kids))
 
   link-old : (q : ℕ) → (q ≡ p → ⊥) → getD kd' q 0 ≡ getD kd q 0
   link-old q n = getD-set-other kd p q (m + 1) 0 n
@@ -173,7 +179,7 @@ module _ (ks kd : List ℕ) (m c p : ℕ) (t : Table ks kd m) (f : Free ks kd m 
   pub placed-new : Placed ks m c (set ks (m + 1) c) (set kd p (m + 1)) (record { at = m + 1; count = m + 1 })
   placed-new = record {
     table = record {
-      keys = record { subject = λ i o h. subjects i h o; once = λ i j o h q g e. onces i h j g o q e };
+      keys = record { long = omega (arith, x .keys, length-set ks (m + 1) c); subject = λ i o h. subjects i h o; once = λ i j o h q g e. onces i h j g o q e };
       up = links (λ q v. 0 < v → q < 2 * v) (t .up) (λ o. omega (arith, f .most));
       low = links (λ q v. v ≤ m + 1) (λ q. omega (arith, t .low q)) (omega arith);
       reached = λ i o h. reach i h o;
@@ -196,6 +202,6 @@ module _ (ks kd : List ℕ) (m n c : ℕ) (r : Found) (e : n ≡ m) (t : Table k
   pub key-there : r .there ≡ true → Placed ks m c ks kd (record { at = r .at; count = m })
   key-there h = placed-there ks kd m c (r .at) t (hit h)
 
-  pub key-new : (k : ℕ) → k ≡ m + 1 → r .there ≡ false → Subject c → length ks ≡ 32768 → length kd ≡ 65536 → m + 1 < 32768
+  pub key-new : (k : ℕ) → k ≡ m + 1 → r .there ≡ false → Subject c → Room ks kd m
       → Placed ks m c (set ks k c) (set kd (r .at) (m + 1)) (record { at = m + 1; count = m + 1 })
-  key-new k f h u x y z = rw f (placed-new ks kd m c (r .at) t (miss h) u x y z)
+  key-new k f h u x = rw f (placed-new ks kd m c (r .at) t (miss h) u x)

@@ -2,7 +2,7 @@
 ghost use mathlib.Core.Path.{_≡_};
 ghost use mathlib.Core.Bool.{cond};
 ghost use mathlib.Core.List.{List};
-ghost use Prim.Native.Nat.{ℕ, _+_, _-_, _<_, _≤_};
+ghost use Prim.Native.Nat.{ℕ, _+_, _*_, _-_, _<_, _≤_};
 ghost use lib.Dec.{ltb};
 ghost use lib.ListN.{length, getD};
 ghost use Rattle.model.specs.Sheet.{Sheet};
@@ -11,7 +11,7 @@ ghost use Rattle.model.specs.Parse.{value};
 ghost use Rattle.shop.specs.Shapes.{shift};
 ghost use Rattle.expr.specs.Tree.{treeBelow};
 ghost use Rattle.keys.specs.Entries.{InRange, turned, Subject, Leaf, Keyed};
-ghost use Rattle.keys.specs.Search.{Table, Search, Placed};
+ghost use Rattle.keys.specs.Search.{Table, Search, Room, Placed};
 ghost use Rattle.keys.specs.Reads.{sheetBy, Numbered, idCode, flagCode, readCode, subjectOf, zeroWord, comparedWord, Reading, readAt, comparedAt, Words, Worded};
 use memory::index_of;
 use memory::kind_of;
@@ -40,8 +40,8 @@ struct Word {
 // ---- keys
 
 // The search goes by the bits of the code, lowest first: codes are below 2^35, so that it takes at most 36 steps whatever the script.
-fn find(keys: &[u64; 32768], kids: &[u16; 65536], m: usize, code: u64) -> Found
-    requires { ⌜ (m < 32768) × Table (now keys) (now kids) m ⌝ }
+fn find(keys: &[u64], kids: &[u16], m: usize, code: u64) -> Found
+    requires { ⌜ ((m < 32768) × (2 * m + 2 ≤ length (now kids))) × Table (now keys) (now kids) m ⌝ }
     ensures { λ r. ⌜ Search (now (keys .entry)) (now (kids .entry)) m code r ⌝ }
 {
     let mut at = 0;
@@ -63,28 +63,11 @@ fn find(keys: &[u64; 32768], kids: &[u16; 65536], m: usize, code: u64) -> Found
     }
 }
 
-// The arrays' lengths, for the proofs.
-fn known_keys(a: &[u64; 32768]) -> usize
-    ensures { λ _. ⌜ length (now (a .entry)) ≡ 32768 ⌝ }
-{
-    let s: &[u64] = a;
-    s.len()
-}
-
-fn known_kids(a: &[u16; 65536]) -> usize
-    ensures { λ _. ⌜ length (now (a .entry)) ≡ 65536 ⌝ }
-{
-    let s: &[u16] = a;
-    s.len()
-}
-
 // The key of a code: a new one where it has none.
-fn key_of(keys: &mut [u64; 32768], kids: &mut [u16; 65536], m: u16, code: u64) -> Key
-    requires { ⌜ (m + 1 < 32768) × (Subject code × Table (now keys) (now kids) m) ⌝ }
+fn key_of(keys: &mut [u64], kids: &mut [u16], m: u16, code: u64) -> Key
+    requires { ⌜ Room (now keys) (now kids) m × (Subject code × Table (now keys) (now kids) m) ⌝ }
     ensures { λ r. ⌜ Placed (now (keys .entry)) m code (now (keys .exit)) (now (kids .exit)) r ⌝ }
 {
-    known_keys(keys);
-    known_kids(kids);
     let f = find(keys, kids, index_of(m), code);
     if f.there {
         return Key {
@@ -273,14 +256,14 @@ fn word_at(
     ws: &[u16; 98304],
     val: &[i32; 32768],
     lf: &[u16; 98304],
-    keys: &mut [u64; 32768],
-    kids: &mut [u16; 65536],
+    keys: &mut [u64],
+    kids: &mut [u16],
     items: u16,
     atcs: u16,
     m: u16,
     i: usize,
 ) -> Word
-    requires { ⌜ ((i < 32768) × (m ≤ i - 1)) × (Table (now keys) (now kids) m × Words (sheetBy items atcs) (nodesIn (now ws) (now val) 0) i (now keys) (now lf) m) ⌝ }
+    requires { ⌜ (((i < 32768) × (m ≤ i - 1)) × ((i < length (now keys)) × (2 * i ≤ length (now kids)))) × (Table (now keys) (now kids) m × Words (sheetBy items atcs) (nodesIn (now ws) (now val) 0) i (now keys) (now lf) m) ⌝ }
     ensures { λ r. ⌜ Worded (sheetBy items atcs) (nodesIn (now (ws .entry)) (now (val .entry)) 0) i (now (keys .entry)) m (now (keys .exit)) (now (kids .exit)) r ⌝ }
 {
     let code = read_at(ws, val, items, atcs, i);
@@ -309,13 +292,13 @@ fn fill_words(
     ws: &[u16; 98304],
     val: &[i32; 32768],
     lf: &mut [u16; 98304],
-    keys: &mut [u64; 32768],
-    kids: &mut [u16; 65536],
+    keys: &mut [u64],
+    kids: &mut [u16],
     items: u16,
     atcs: u16,
     n: usize,
 ) -> u16
-    requires { ⌜ (n ≤ 32768) × Table (now keys) (now kids) 0 ⌝ }
+    requires { ⌜ ((n ≤ 32768) × ((n ≤ length (now keys)) × (2 * n ≤ length (now kids)))) × Table (now keys) (now kids) 0 ⌝ }
     ensures { λ m. ⌜ ((c : ℕ) → Keyed (sheetBy items atcs) (nodesIn (now (ws .entry)) (now (val .entry)) c) n (now (keys .exit)) (now (lf .exit)) m) ⌝ }
 {
     known_words(lf);
@@ -330,19 +313,55 @@ fn fill_words(
     m
 }
 
+// With links for few nodes: zeroing a large table takes longer than keying a small script.
+fn key_few(
+    ws: &[u16; 98304],
+    val: &[i32; 32768],
+    lf: &mut [u16; 98304],
+    keys: &mut [u64],
+    items: u16,
+    atcs: u16,
+    n: usize,
+) -> u16
+    requires { ⌜ (n ≤ 1024) × (n ≤ length (now keys)) ⌝ }
+    ensures { λ m. ⌜ ((c : ℕ) → Keyed (sheetBy items atcs) (nodesIn (now (ws .entry)) (now (val .entry)) c) n (now (keys .exit)) (now (lf .exit)) m) ⌝ }
+{
+    let mut kids = [0u16; 2048];
+    fill_words(ws, val, lf, keys, &mut kids, items, atcs, n)
+}
+
+// With links for any script.
+fn key_many(
+    ws: &[u16; 98304],
+    val: &[i32; 32768],
+    lf: &mut [u16; 98304],
+    keys: &mut [u64],
+    items: u16,
+    atcs: u16,
+    n: usize,
+) -> u16
+    requires { ⌜ (n ≤ 32768) × (n ≤ length (now keys)) ⌝ }
+    ensures { λ m. ⌜ ((c : ℕ) → Keyed (sheetBy items atcs) (nodesIn (now (ws .entry)) (now (val .entry)) c) n (now (keys .exit)) (now (lf .exit)) m) ⌝ }
+{
+    let mut kids = [0u16; 65536];
+    fill_words(ws, val, lf, keys, &mut kids, items, atcs, n)
+}
+
 // The words of the script's n nodes and the keys that they speak of, items and atcs being known: how many keys.
 pub fn key_nodes(
     ws: &[u16; 98304],
     val: &[i32; 32768],
     lf: &mut [u16; 98304],
-    keys: &mut [u64; 32768],
+    keys: &mut [u64],
     items: u16,
     atcs: u16,
     n: usize,
 ) -> u16
-    requires { ⌜ n ≤ 32768 ⌝ }
+    requires { ⌜ (n ≤ 32768) × (n ≤ length (now keys)) ⌝ }
     ensures { λ m. ⌜ ((c : ℕ) → Keyed (sheetBy items atcs) (nodesIn (now (ws .entry)) (now (val .entry)) c) n (now (keys .exit)) (now (lf .exit)) m) ⌝ }
 {
-    let mut kids: [u16; 65536] = [0; 65536];
-    fill_words(ws, val, lf, keys, &mut kids, items, atcs, n)
+    if n <= 1024 {
+        return key_few(ws, val, lf, keys, items, atcs, n);
+    }
+    key_many(ws, val, lf, keys, items, atcs, n)
 }

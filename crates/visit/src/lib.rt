@@ -142,14 +142,14 @@ fn hidden_of(
     ws: &[u16; 98304],
     lf: &[u16; 98304],
     cells: &[u16; 8192],
-    keys: &[u64; 32768],
-    seen: &mut [bool; 65536],
+    keys: &[u64],
+    seen: &mut [bool],
     keyed: u16,
     n: usize,
     c: usize,
     t: VarTable,
 ) -> Added
-    requires { ⌜ ((n ≤ 32768) × (c ≤ 8192)) × ((keyed < 32768) × Keys (now keys) keyed) ⌝ }
+    requires { ⌜ ((n ≤ 32768) × (c ≤ 8192)) × (((keyed < 32768) × (2 * keyed + 2 ≤ length (now seen))) × Keys (now keys) keyed) ⌝ }
     ensures { λ r. ⌜ (r .reqs .len ≤ entryLimit) × ((h : Sheet) (vs : List ℤ) (k : ℕ) → Listed h (nodesIn (now (ws .entry)) vs k) n (now (keys .entry)) (now (lf .entry)) keyed → Hidden h (parseRequirements h (conditionOf (nodesIn (now (ws .entry)) vs k) n (now (cells .entry)) c)) t r) ⌝ }
 {
     if !hides(t) {
@@ -211,8 +211,8 @@ pub fn visit(
     cw: &[u16; 65536],
     bw: &[u16; 20480],
     lf: &[u16; 98304],
-    keys: &[u64; 32768],
-    seen: &mut [bool; 65536],
+    keys: &[u64],
+    seen: &mut [bool],
     marks: &mut [bool; 4096],
     cells: &mut [u16; 8192],
     items: &mut [i32; 20],
@@ -226,7 +226,7 @@ pub fn visit(
     b: u16,
     c: u16,
 ) -> Visited
-    requires { ⌜ (keyed < 32768) × Keys (now keys) keyed ⌝ }
+    requires { ⌜ ((keyed < 32768) × (2 * keyed + 2 ≤ length (now seen))) × Keys (now keys) keyed ⌝ }
     requires { ⌜ Open (memoryIn (now ws) (now val) (now cw) (now bw) (k .nodes) (k .commands) (k .blocks)) (now marks) (shopFrom (arraysIn (now items) (now limits) (now codes) (now lens))) w b c ⌝ }
     ensures { λ r. ⌜ ((h : Sheet) → itemCount h ≡ known → KeyedIn h (memoryIn (now (ws .entry)) (now (val .entry)) (now (cw .entry)) (now (bw .entry)) (k .nodes) (k .commands) (k .blocks)) (now (keys .entry)) (now (lf .entry)) keyed → Entered h (memoryIn (now (ws .entry)) (now (val .entry)) (now (cw .entry)) (now (bw .entry)) (k .nodes) (k .commands) (k .blocks)) (now (marks .entry)) (now (cells .entry)) (shopFrom (arraysIn (now (items .entry)) (now (limits .entry)) (now (codes .entry)) (now (lens .entry)))) w b c (now (marks .exit)) (now (cells .exit)) (shopFrom (arraysIn (now (items .exit)) (now (limits .exit)) (now (codes .exit)) (now (lens .exit)))) r) ⌝ }
 {

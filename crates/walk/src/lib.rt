@@ -110,8 +110,8 @@ fn walk_all(
     cw: &[u16; 65536],
     bw: &[u16; 20480],
     lf: &[u16; 98304],
-    keys: &[u64; 32768],
-    seen: &mut [bool; 65536],
+    keys: &[u64],
+    seen: &mut [bool],
     marks: &mut [bool; 4096],
     cells: &mut [u16; 8192],
     stack: &mut [u16; 8194],
@@ -124,7 +124,7 @@ fn walk_all(
     known: u16,
     first: Walk,
 ) -> Walk
-    requires { ⌜ Keying known (memoryIn (now ws) (now val) (now cw) (now bw) (k .nodes) (k .commands) (k .blocks)) (now keys) (now lf) keyed ⌝ }
+    requires { ⌜ (2 * keyed + 2 ≤ length (now seen)) × Keying known (memoryIn (now ws) (now val) (now cw) (now bw) (k .nodes) (k .commands) (k .blocks)) (now keys) (now lf) keyed ⌝ }
     requires { ⌜ Ready (memoryIn (now ws) (now val) (now cw) (now bw) (k .nodes) (k .commands) (k .blocks)) (now marks) (now stack) (shopFrom (arraysIn (now items) (now limits) (now codes) (now lens))) first 1 ⌝ }
     ensures { λ r. ⌜ ((h : Sheet) → itemCount h ≡ known → KeyedIn h (memoryIn (now (ws .entry)) (now (val .entry)) (now (cw .entry)) (now (bw .entry)) (k .nodes) (k .commands) (k .blocks)) (now (keys .entry)) (now (lf .entry)) keyed → Came (walksIn h (memoryIn (now (ws .entry)) (now (val .entry)) (now (cw .entry)) (now (bw .entry)) (k .nodes) (k .commands) (k .blocks)) (now (marks .entry)) (now (cells .entry)) (now (stack .entry)) 1 (shopFrom (arraysIn (now (items .entry)) (now (limits .entry)) (now (codes .entry)) (now (lens .entry)))) first) (shopFrom (arraysIn (now (items .exit)) (now (limits .exit)) (now (codes .exit)) (now (lens .exit)))) r) ⌝ }
 {
@@ -170,14 +170,15 @@ fn walk_all(
     w
 }
 
-// The walk from block setup, over keys that are there and slots that are empty; the large arrays are made here and lent to the loop.
+// The walk from block setup, over keys that are there and slots that are empty; the arrays of the loop are made here and lent to it.
 fn walk_from(
     ws: &[u16; 98304],
     val: &[i32; 32768],
     cw: &[u16; 65536],
     bw: &[u16; 20480],
     lf: &[u16; 98304],
-    keys: &[u64; 32768],
+    keys: &[u64],
+    seen: &mut [bool],
     items: &mut [i32; 20],
     limits: &mut [i16; 20],
     codes: &mut [u64; 640],
@@ -187,11 +188,10 @@ fn walk_from(
     known: u16,
     setup: u16,
 ) -> Walk
-    requires { ⌜ Keying known (memoryIn (now ws) (now val) (now cw) (now bw) (k .nodes) (k .commands) (k .blocks)) (now keys) (now lf) keyed ⌝ }
+    requires { ⌜ (2 * keyed + 2 ≤ length (now seen)) × Keying known (memoryIn (now ws) (now val) (now cw) (now bw) (k .nodes) (k .commands) (k .blocks)) (now keys) (now lf) keyed ⌝ }
     requires { ⌜ Accepted (memoryIn (now ws) (now val) (now cw) (now bw) (k .nodes) (k .commands) (k .blocks)) × (shopFrom (arraysIn (now items) (now limits) (now codes) (now lens)) ≡ noShop) ⌝ }
     ensures { λ r. ⌜ ((h : Sheet) → itemCount h ≡ known → KeyedIn h (memoryIn (now (ws .entry)) (now (val .entry)) (now (cw .entry)) (now (bw .entry)) (k .nodes) (k .commands) (k .blocks)) (now (keys .entry)) (now (lf .entry)) keyed → Walked h (memoryIn (now (ws .entry)) (now (val .entry)) (now (cw .entry)) (now (bw .entry)) (k .nodes) (k .commands) (k .blocks)) setup (shopFrom (arraysIn (now (items .exit)) (now (limits .exit)) (now (codes .exit)) (now (lens .exit)))) r) ⌝ }
 {
-    let mut seen = [false; 65536];
     let mut marks = [false; 4096];
     let mut cells = [0u16; 8192];
     let mut stack = [0u16; 8194];
@@ -203,7 +203,7 @@ fn walk_from(
         bw,
         lf,
         keys,
-        &mut seen,
+        seen,
         &mut marks,
         &mut cells,
         &mut stack,
@@ -215,6 +215,125 @@ fn walk_from(
         keyed,
         known,
         start(),
+    )
+}
+
+// The walk in tables that are long enough for the keys of the script's nodes and for their entries.
+fn walk_over(
+    ws: &[u16; 98304],
+    val: &[i32; 32768],
+    cw: &[u16; 65536],
+    bw: &[u16; 20480],
+    keys: &mut [u64],
+    seen: &mut [bool],
+    items: &mut [i32; 20],
+    limits: &mut [i16; 20],
+    codes: &mut [u64; 640],
+    lens: &mut [u8; 20],
+    k: Counts,
+    known: u16,
+    atcs: u16,
+    setup: u16,
+) -> Walk
+    requires { ⌜ ((k .nodes ≤ length (now keys)) × ((0 < length (now keys)) × (2 * length (now keys) ≤ length (now seen)))) × (Accepted (memoryIn (now ws) (now val) (now cw) (now bw) (k .nodes) (k .commands) (k .blocks)) × ((setup < k .blocks) × (shopFrom (arraysIn (now items) (now limits) (now codes) (now lens)) ≡ noShop))) ⌝ }
+    ensures { λ r. ⌜ ((h : Sheet) → itemCount h ≡ known → h .atcCount ≡ atcs → Walked h (memoryIn (now (ws .entry)) (now (val .entry)) (now (cw .entry)) (now (bw .entry)) (k .nodes) (k .commands) (k .blocks)) setup (shopFrom (arraysIn (now (items .exit)) (now (limits .exit)) (now (codes .exit)) (now (lens .exit)))) r) ⌝ }
+{
+    let mut lf = [0u16; 98304];
+    let n = index_of(k.nodes);
+    let keyed = key_nodes(ws, val, &mut lf, keys, known, atcs, n);
+    flatten_roots(ws, cw, bw, &mut lf, n, index_of(k.blocks));
+    walk_from(
+        ws,
+        val,
+        cw,
+        bw,
+        &lf,
+        keys,
+        seen,
+        items,
+        limits,
+        codes,
+        lens,
+        k,
+        keyed,
+        known,
+        setup,
+    )
+}
+
+// With tables for few nodes: zeroing large ones takes longer than parsing a small script.
+fn walk_few(
+    ws: &[u16; 98304],
+    val: &[i32; 32768],
+    cw: &[u16; 65536],
+    bw: &[u16; 20480],
+    items: &mut [i32; 20],
+    limits: &mut [i16; 20],
+    codes: &mut [u64; 640],
+    lens: &mut [u8; 20],
+    k: Counts,
+    known: u16,
+    atcs: u16,
+    setup: u16,
+) -> Walk
+    requires { ⌜ (k .nodes ≤ 1024) × (Accepted (memoryIn (now ws) (now val) (now cw) (now bw) (k .nodes) (k .commands) (k .blocks)) × ((setup < k .blocks) × (shopFrom (arraysIn (now items) (now limits) (now codes) (now lens)) ≡ noShop))) ⌝ }
+    ensures { λ r. ⌜ ((h : Sheet) → itemCount h ≡ known → h .atcCount ≡ atcs → Walked h (memoryIn (now (ws .entry)) (now (val .entry)) (now (cw .entry)) (now (bw .entry)) (k .nodes) (k .commands) (k .blocks)) setup (shopFrom (arraysIn (now (items .exit)) (now (limits .exit)) (now (codes .exit)) (now (lens .exit)))) r) ⌝ }
+{
+    let mut keys = [0u64; 1024];
+    let mut seen = [false; 2048];
+    walk_over(
+        ws,
+        val,
+        cw,
+        bw,
+        &mut keys,
+        &mut seen,
+        items,
+        limits,
+        codes,
+        lens,
+        k,
+        known,
+        atcs,
+        setup,
+    )
+}
+
+// With tables for any script.
+fn walk_many(
+    ws: &[u16; 98304],
+    val: &[i32; 32768],
+    cw: &[u16; 65536],
+    bw: &[u16; 20480],
+    items: &mut [i32; 20],
+    limits: &mut [i16; 20],
+    codes: &mut [u64; 640],
+    lens: &mut [u8; 20],
+    k: Counts,
+    known: u16,
+    atcs: u16,
+    setup: u16,
+) -> Walk
+    requires { ⌜ Accepted (memoryIn (now ws) (now val) (now cw) (now bw) (k .nodes) (k .commands) (k .blocks)) × ((setup < k .blocks) × (shopFrom (arraysIn (now items) (now limits) (now codes) (now lens)) ≡ noShop)) ⌝ }
+    ensures { λ r. ⌜ ((h : Sheet) → itemCount h ≡ known → h .atcCount ≡ atcs → Walked h (memoryIn (now (ws .entry)) (now (val .entry)) (now (cw .entry)) (now (bw .entry)) (k .nodes) (k .commands) (k .blocks)) setup (shopFrom (arraysIn (now (items .exit)) (now (limits .exit)) (now (codes .exit)) (now (lens .exit)))) r) ⌝ }
+{
+    let mut keys = [0u64; 32768];
+    let mut seen = [false; 65536];
+    walk_over(
+        ws,
+        val,
+        cw,
+        bw,
+        &mut keys,
+        &mut seen,
+        items,
+        limits,
+        codes,
+        lens,
+        k,
+        known,
+        atcs,
+        setup,
     )
 }
 
@@ -236,25 +355,34 @@ pub fn walk(
     requires { ⌜ Accepted (memoryIn (now ws) (now val) (now cw) (now bw) (k .nodes) (k .commands) (k .blocks)) × ((setup < k .blocks) × (shopFrom (arraysIn (now items) (now limits) (now codes) (now lens)) ≡ noShop)) ⌝ }
     ensures { λ r. ⌜ ((h : Sheet) → itemCount h ≡ known → h .atcCount ≡ atcs → Walked h (memoryIn (now (ws .entry)) (now (val .entry)) (now (cw .entry)) (now (bw .entry)) (k .nodes) (k .commands) (k .blocks)) setup (shopFrom (arraysIn (now (items .exit)) (now (limits .exit)) (now (codes .exit)) (now (lens .exit)))) r) ⌝ }
 {
-    let mut lf = [0u16; 98304];
-    let mut keys = [0u64; 32768];
-    let n = index_of(k.nodes);
-    let keyed = key_nodes(ws, val, &mut lf, &mut keys, known, atcs, n);
-    flatten_roots(ws, cw, bw, &mut lf, n, index_of(k.blocks));
-    walk_from(
+    if k.nodes <= 1024 {
+        return walk_few(
+            ws,
+            val,
+            cw,
+            bw,
+            items,
+            limits,
+            codes,
+            lens,
+            k,
+            known,
+            atcs,
+            setup,
+        );
+    }
+    walk_many(
         ws,
         val,
         cw,
         bw,
-        &lf,
-        &keys,
         items,
         limits,
         codes,
         lens,
         k,
-        keyed,
         known,
+        atcs,
         setup,
     )
 }

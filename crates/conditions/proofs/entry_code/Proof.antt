@@ -13,19 +13,25 @@ index-of-requires c κs = search needs
 mul-key : tie.Need-mul-key
 mul-key c = search needs
 
-element-copy-out-key : tie.Need-element-copy-out-key
-element-copy-out-key c = search needs
+shared-slice-read-key : tie.Need-shared-slice-read-key
+shared-slice-read-key c = omega (arith, c .before .before .before .pre .0 .low, c .before .before .before .pre .0 .high, c .before .before .before .pre .1 .long, c .before .index-of .ensures)
 
 returns : tie.Need-returns
-returns c = entry-have (now (c .before .before .before .args .keys)) (c .before .before .before .args .m) (c .before .before .before .args .k) _ (c .before .before .before .pre .0) (c .before .before .before .pre .1) (c .before .before .index-of .ensures) (c .if1 .taken)
+returns c = entry-have (now (c .before .before .before .before .args .keys)) (c .before .before .before .before .args .m) (c .before .before .before .before .args .k) _ (c .before .before .before .before .pre .0) (c .before .before .before .before .pre .1) (c .before .before .index-of .ensures) (c .if1 .taken)
 
 add-result : tie.Need-add-result
-add-result c = omega (arith, key-small (now (c .before .before .before .args .keys)) (c .before .before .before .args .m) (c .before .before .before .args .k) (c .before .before .index-of .result) (c .before .before .before .pre .0) (c .before .before .before .pre .1) (c .before .before .index-of .ensures))
+add-result c = omega (arith, key-small (now (c .before .before .before .before .args .keys)) (c .before .before .before .before .args .m) (c .before .before .before .before .args .k) (c .before .before .index-of .result) (c .before .before .before .before .pre .0) (c .before .before .before .before .pre .1) (c .before .before .index-of .ensures))
 
 returns-2 : tie.Need-returns-2
-returns-2 c = entry-missing (now (c .before .before .before .args .keys)) (c .before .before .before .args .m) (c .before .before .before .args .k) _ (c .before .before .before .pre .0) (c .before .before .before .pre .1) (c .before .before .index-of .ensures) (c .if1 .left)
+returns-2 c = entry-missing (now (c .before .before .before .before .args .keys)) (c .before .before .before .before .args .m) (c .before .before .before .before .args .k) _ (c .before .before .before .before .pre .0) (c .before .before .before .before .pre .1) (c .before .before .index-of .ensures) (c .if1 .left)
 
 pub entry-code-spec : {M : Type 1} → statement M
 entry-code-spec =
     tie.close
-    (tie.spec index-of-requires mul-key element-copy-out-key returns add-result returns-2)
+    (tie.spec
+    index-of-requires
+    mul-key
+    shared-slice-read-key
+    returns
+    add-result
+    returns-2)

@@ -4,19 +4,20 @@ use Rattle.conditions.specs.Lists.{markedBy}
 use Rattle.conditions.proofs.Flattening.{marked-none, marked-on}
 use denote.Ref.{now}
 use native.Mathlib.Omega.{arith}
-use mathlib.Core.Path.{_≡_}
+use mathlib.Core.Path.{_≡_, refl, _∙_}
+use lib.ListN.{length}
 use borrow.Author.Needs.{needs}
 use Rattle.conditions.proofs.mark_list.Statement.{statement}
 use Rattle.conditions.proofs.mark_list.Tie as tie
 
 abbrev Inv-loop : tie.InvT-loop
-Inv-loop lf seen₀ from to neg j₀ seen j = ((from ≤ j) × (j ≤ to)) × (seen ≡ markedBy lf neg from (j - from) seen₀)
+Inv-loop lf seen₀ from to neg j₀ seen j = ((from ≤ j) × (j ≤ to)) × ((seen ≡ markedBy lf neg from (j - from) seen₀) × (length seen ≡ length seen₀))
 
 abbrev μ-loop : tie.MeasureT-loop
 μ-loop lf seen₀ from to neg j₀ seen j = to - j
 
 loop-holds : tie.Need-loop-holds Inv-loop μ-loop
-loop-holds c = ((omega arith, c .pre .0), marked-none (now (c .args .lf)) (c .args .neg) (c .args .from) (now (c .args .seen)))
+loop-holds c = ((omega arith, c .before .pre .0), (marked-none (now (c .before .args .lf)) (c .before .args .neg) (c .before .args .from) (now (c .before .args .seen)), refl))
 
 mul-turn : tie.Need-mul-turn Inv-loop μ-loop
 mul-turn c = search needs
@@ -30,20 +31,23 @@ turn-requires c κs = search needs
 index-of-requires : tie.Need-index-of-requires Inv-loop μ-loop
 index-of-requires c κs = search needs
 
-element-write-seen : tie.Need-element-write-seen Inv-loop μ-loop
-element-write-seen c = search needs
+mark-entry-requires : tie.Need-mark-entry-requires Inv-loop μ-loop
+mark-entry-requires c κs = search needs
 
 add-j : tie.Need-add-j Inv-loop μ-loop
 add-j c = search needs
 
 loop-less : tie.Need-loop-less Inv-loop μ-loop
-loop-less c = omega (arith, c .before .before .before .loop-test .taken)
+loop-less c = omega (arith, c .before .before .before .before .before .before .before .loop-test .taken)
 
 loop-again : tie.Need-loop-again Inv-loop μ-loop
-loop-again c = ((omega (arith, c .before .before .before .before .loop .inv .0 .0), omega (arith, c .before .before .before .loop-test .taken)), marked-on (now (c .before .before .before .before .before .args .lf)) (c .before .before .before .before .before .args .neg) (c .before .before .before .before .before .args .from) (c .before .before .before .before .loop .j) (now (c .before .before .before .before .before .args .seen)) (c .before .before .before .before .loop .seen) _ _ (c .before .before .before .before .loop .inv .0 .0) (c .before .before .before .before .loop .inv .1) (c .before .turn .ensures) (c .index-of .ensures))
+loop-again c = ((omega (arith, c .before .before .before .before .before .before .before .before .loop .inv .0 .0), omega (arith, c .before .before .before .before .before .before .before .loop-test .taken)), (c .before .before .mark-entry .ensures ∙ marked-on (now (c .before .before .before .before .before .before .before .before .before .before .args .lf)) (c .before .before .before .before .before .before .before .before .before .before .args .neg) (c .before .before .before .before .before .before .before .before .before .before .args .from) (c .before .before .before .before .before .before .before .before .loop .j) (now (c .before .before .before .before .before .before .before .before .before .before .args .seen)) (c .before .before .before .before .before .before .before .before .loop .seen) _ _ (c .before .before .before .before .before .before .before .before .loop .inv .0 .0) (c .before .before .before .before .before .before .before .before .loop .inv .1 .0) (c .before .before .before .before .turn .ensures) (c .before .before .before .index-of .ensures), c .before .seen .given ∙ c .before .before .before .before .before .before .before .before .loop .inv .1 .1))
+
+same-length : tie.Need-same-length Inv-loop μ-loop
+same-length c = c .before .loop .inv .1 .1
 
 returns : tie.Need-returns Inv-loop μ-loop
-returns c = let z : c .before .before .args .to ≡ c .before .loop .j = omega (arith, c .loop-test .left, c .before .loop .inv .0 .1) in rw z (c .before .loop .inv .1)
+returns c = let z : c .before .before .before .args .to ≡ c .before .loop .j = omega (arith, c .loop-test .left, c .before .loop .inv .0 .1) in rw z (c .before .loop .inv .1 .0)
 
 pub mark-list-spec : {M : Type 1} → statement M
 mark-list-spec =
@@ -56,8 +60,9 @@ mark-list-spec =
     element-copy-out-turn
     turn-requires
     index-of-requires
-    element-write-seen
+    mark-entry-requires
     add-j
     loop-less
     loop-again
+    same-length
     returns)

@@ -27,7 +27,7 @@ add-survives : tie.Need-add-survives Inv-loop μ-loop
 add-survives c = search needs
 
 survives-requires : tie.Need-survives-requires Inv-loop μ-loop
-survives-requires c κs = search needs
+survives-requires c κs = (omega arith, omega (arith, c .loop-test .taken, c .before .before .before .before .before .pre .0 .1))
 
 add-turn : tie.Need-add-turn Inv-loop μ-loop
 add-turn c = search needs
@@ -36,7 +36,7 @@ turn-requires : tie.Need-turn-requires Inv-loop μ-loop
 turn-requires c κs = search needs
 
 entry-code-requires : tie.Need-entry-code-requires Inv-loop μ-loop
-entry-code-requires c κs = (entry-at _ _ _ (c .before .before .before .before .loop .at) (c .before .before .before .before .loop .j) (c .before .before .before .before .loop .inv) (c .before .before .before .loop-test .taken) _ (c .turn .ensures), c .before .before .before .before .before .before .pre .1)
+entry-code-requires c κs = (entry-at _ _ _ (c .before .before .before .before .loop .at) (c .before .before .before .before .loop .j) (c .before .before .before .before .loop .inv) (c .before .before .before .loop-test .taken) _ (c .turn .ensures), c .before .before .before .before .before .before .before .before .pre .1)
 
 insert-requires : tie.Need-insert-requires Inv-loop μ-loop
 insert-requires c κs = search needs

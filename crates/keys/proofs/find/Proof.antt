@@ -13,7 +13,7 @@ abbrev μ-loop : tie.MeasureT-loop
 μ-loop keys kids m code at₀ bits₀ at bits = m - at
 
 loop-holds : tie.Need-loop-holds Inv-loop μ-loop
-loop-holds c = seek-start _ _ _ _ (c .pre .1)
+loop-holds c = seek-start _ _ _ _ (c .before .before .pre .1)
 
 mul-link : tie.Need-mul-link Inv-loop μ-loop
 mul-link c = search needs
@@ -24,29 +24,29 @@ add-link c = search needs
 mul-index-of : tie.Need-mul-index-of Inv-loop μ-loop
 mul-index-of c = search needs
 
-element-copy-out-index-of : tie.Need-element-copy-out-index-of Inv-loop μ-loop
-element-copy-out-index-of c = search needs
+shared-slice-read-index-of : tie.Need-shared-slice-read-index-of Inv-loop μ-loop
+shared-slice-read-index-of c = omega (arith, c .before .loop .inv .most, c .before .before .before .before .pre .0 .1)
 
 index-of-requires : tie.Need-index-of-requires Inv-loop μ-loop
 index-of-requires c κs = search needs
 
 returns : tie.Need-returns Inv-loop μ-loop
-returns c = free-answer _ _ _ _ _ (seek-free _ _ _ _ (c .before .before .before .before .pre .1) (c .before .before .before .loop .at) (c .before .before .before .loop .bits) (c .before .before .before .loop .inv) _ (c .before .index-of .ensures) (c .if1 .taken))
+returns c = free-answer _ _ _ _ _ (seek-free _ _ _ _ (c .before .before .before .before .before .before .pre .1) (c .before .before .before .loop .at) (c .before .before .before .loop .bits) (c .before .before .before .loop .inv) _ (c .before .index-of .ensures) (c .if1 .taken))
 
 mul-if2 : tie.Need-mul-if2 Inv-loop μ-loop
-mul-if2 c = omega (arith, seek-low _ _ _ _ (c .before .before .before .before .pre .1) (c .before .before .before .loop .at) (c .before .before .before .loop .bits) (c .before .before .before .loop .inv) _ (c .before .index-of .ensures))
+mul-if2 c = omega (arith, seek-low _ _ _ _ (c .before .before .before .before .before .before .pre .1) (c .before .before .before .loop .at) (c .before .before .before .loop .bits) (c .before .before .before .loop .inv) _ (c .before .index-of .ensures))
 
-element-copy-out-if2 : tie.Need-element-copy-out-if2 Inv-loop μ-loop
-element-copy-out-if2 c = omega (arith, seek-low _ _ _ _ (c .before .before .before .before .pre .1) (c .before .before .before .loop .at) (c .before .before .before .loop .bits) (c .before .before .before .loop .inv) _ (c .before .index-of .ensures))
+shared-slice-read-if2 : tie.Need-shared-slice-read-if2 Inv-loop μ-loop
+shared-slice-read-if2 c = omega (arith, seek-low _ _ _ _ (c .before .before .before .before .before .before .before .pre .1) (c .before .before .before .before .loop .at) (c .before .before .before .before .loop .bits) (c .before .before .before .before .loop .inv) _ (c .before .before .index-of .ensures), c .before .before .before .before .before .before .before .pre .1 .keys .long)
 
 returns-2 : tie.Need-returns-2 Inv-loop μ-loop
-returns-2 c = let i : 0 < c .before .before .before .index-of .result = omega arith in there-answer _ _ _ _ _ (record { some = i; most = seek-low _ _ _ _ (c .before .before .before .before .before .before .pre .1) (c .before .before .before .before .before .loop .at) (c .before .before .before .before .before .loop .bits) (c .before .before .before .before .before .loop .inv) _ (c .before .before .before .index-of .ensures); code = c .if2 .taken })
+returns-2 c = let i : 0 < c .before .before .before .index-of .result = omega arith in there-answer _ _ _ _ _ (record { some = i; most = seek-low _ _ _ _ (c .before .before .before .before .before .before .before .before .pre .1) (c .before .before .before .before .before .loop .at) (c .before .before .before .before .before .loop .bits) (c .before .before .before .before .before .loop .inv) _ (c .before .before .before .index-of .ensures); code = c .if2 .taken })
 
 loop-less : tie.Need-loop-less Inv-loop μ-loop
-loop-less c = omega (arith, seek-up _ _ _ _ (c .before .before .before .before .before .before .pre .1) (c .before .before .before .before .before .loop .at) (c .before .before .before .before .before .loop .bits) (c .before .before .before .before .before .loop .inv) _ (c .before .before .before .index-of .ensures) (omega arith), seek-low _ _ _ _ (c .before .before .before .before .before .before .pre .1) (c .before .before .before .before .before .loop .at) (c .before .before .before .before .before .loop .bits) (c .before .before .before .before .before .loop .inv) _ (c .before .before .before .index-of .ensures))
+loop-less c = omega (arith, seek-up _ _ _ _ (c .before .before .before .before .before .before .before .before .pre .1) (c .before .before .before .before .before .loop .at) (c .before .before .before .before .before .loop .bits) (c .before .before .before .before .before .loop .inv) _ (c .before .before .before .index-of .ensures) (omega arith), seek-low _ _ _ _ (c .before .before .before .before .before .before .before .before .pre .1) (c .before .before .before .before .before .loop .at) (c .before .before .before .before .before .loop .bits) (c .before .before .before .before .before .loop .inv) _ (c .before .before .before .index-of .ensures))
 
 loop-again : tie.Need-loop-again Inv-loop μ-loop
-loop-again c = seek-on _ _ _ _ (c .before .before .before .before .before .before .pre .1) (c .before .before .before .before .before .loop .at) (c .before .before .before .before .before .loop .bits) (c .before .before .before .before .before .loop .inv) _ (c .before .before .before .index-of .ensures) (omega arith) (c .if2 .left)
+loop-again c = seek-on _ _ _ _ (c .before .before .before .before .before .before .before .before .pre .1) (c .before .before .before .before .before .loop .at) (c .before .before .before .before .before .loop .bits) (c .before .before .before .before .before .loop .inv) _ (c .before .before .before .index-of .ensures) (omega arith) (c .if2 .left)
 
 pub find-spec : {M : Type 1} → statement M
 find-spec =
@@ -58,11 +58,11 @@ find-spec =
     mul-link
     add-link
     mul-index-of
-    element-copy-out-index-of
+    shared-slice-read-index-of
     index-of-requires
     returns
     mul-if2
-    element-copy-out-if2
+    shared-slice-read-if2
     returns-2
     loop-less
     loop-again)

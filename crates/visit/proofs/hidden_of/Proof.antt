@@ -20,8 +20,11 @@ returns c = (let e = ap (λ (a : Added). a .reqs .len) (c .none-hidden .ensures)
 parse-requirements-requires : tie.Need-parse-requirements-requires
 parse-requirements-requires c κs = search needs
 
+same-length : tie.Need-same-length
+same-length c = c .before .seen .given
+
 returns-2 : tie.Need-returns-2
-returns-2 c = (c .parse-requirements .ensures .1, λ h vs k kd. negated-hidden h _ _ _ (c .parse-requirements .ensures .0 h vs k kd))
+returns-2 c = (c .before .before .parse-requirements .ensures .1, λ h vs k kd. negated-hidden h _ _ _ (c .before .before .parse-requirements .ensures .0 h vs k kd))
 
 pub hidden-of-spec : {M : Type 1} → statement M
 hidden-of-spec =
@@ -31,4 +34,5 @@ hidden-of-spec =
     none-hidden-requires
     returns
     parse-requirements-requires
+    same-length
     returns-2)

@@ -1,36 +1,25 @@
--- The keys and the lists hold for every sheet of so many items and atcs. Assumes nothing.
-use Rattle.walk.proofs.Turns.{few-blocks, few-nodes}
-use Rattle.walk.proofs.Starts.{by-counts, keying, keyed-in}
-use native.Mathlib.Omega.{arith}
+-- `walk::walk` meets its contract: the sizes differ in nothing that is promised. Assumes nothing.
 use borrow.Author.Needs.{needs}
 use Rattle.walk.proofs.walk.Statement.{statement}
 use Rattle.walk.proofs.walk.Tie as tie
 
-index-of-requires : tie.Need-index-of-requires
-index-of-requires c κs = search needs
-
-key-nodes-requires : tie.Need-key-nodes-requires
-key-nodes-requires c κs = let n = few-nodes _ (c .before .before .before .pre .0) in omega (arith, c .before .before .index-of .ensures)
-
-index-of-requires-2 : tie.Need-index-of-requires-2
-index-of-requires-2 c κs = search needs
-
-flatten-roots-requires : tie.Need-flatten-roots-requires
-flatten-roots-requires c κs = let n = few-nodes _ (c .before .before .before .before .before .before .pre .0) in let b = few-blocks _ (c .before .before .before .before .before .before .pre .0) in (omega (arith, c .before .before .before .before .before .index-of .ensures), omega (arith, c .index-of2 .ensures))
-
-walk-from-requires : tie.Need-walk-from-requires
-walk-from-requires c κs = let a = c .before .before .before .before .before .before .before .before .before .before .before .before .before in (keying (a .args .known) (a .args .atcs) _ _ _ _ (by-counts (a .args .known) (a .args .atcs) _ _ _ _ _ _ (c .before .before .before .before .before .before .before .before .before .before .before .before .index-of .ensures) (c .before .before .before .before .before .before .before .before .before .key-nodes .ensures) (c .before .before .before .before .before .before .flatten-roots .ensures)), (a .pre .0, a .pre .1 .1))
+walk-few-requires : tie.Need-walk-few-requires
+walk-few-requires c κs = (c .before .before .before .before .if1 .taken, c .before .before .before .before .before .before .pre)
 
 returns : tie.Need-returns
-returns c = λ h e f. c .walk-from .ensures h e (keyed-in _ _ _ _ _ _ _ _ (c .before .before .before .before .before .before .before .before .before .before .before .before .before .index-of .ensures) (c .before .before .before .before .before .before .before .before .before .before .key-nodes .ensures) (c .before .before .before .before .before .before .before .flatten-roots .ensures) h e f)
+returns c = c .walk-few .ensures
+
+walk-many-requires : tie.Need-walk-many-requires
+walk-many-requires c κs = c .before .before .before .before .before .before .pre
+
+returns-2 : tie.Need-returns-2
+returns-2 c = c .walk-many .ensures
 
 pub walk-spec : {M : Type 1} → statement M
 walk-spec =
     tie.close
     (tie.spec
-    index-of-requires
-    key-nodes-requires
-    index-of-requires-2
-    flatten-roots-requires
-    walk-from-requires
-    returns)
+    walk-few-requires
+    returns
+    walk-many-requires
+    returns-2)

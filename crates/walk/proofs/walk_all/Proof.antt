@@ -4,7 +4,7 @@ use mathlib.Core.List.{List}
 use Prim.Native.Nat.{ℕ}
 use native.Mathlib.Omega.{arith}
 use lib.IntN.{ℤ}
-use lib.ListN.{take}
+use lib.ListN.{length, take}
 use borrow.Author.Needs.{needs}
 use borrow.Author.Tests.{not-true, not-false}
 use Rattle.model.specs.Sheet.{Sheet, itemCount}
@@ -26,21 +26,25 @@ shop items limits codes lens = shopFrom (arraysIn items limits codes lens)
 abbrev Inv-loop : tie.InvT-loop
 Inv-loop ws val cw bw lf keys seen₀ marks₀ cells₀ stack₀ items₀ limits₀ codes₀ lens₀ k keyed known w₀ depth₀ seen marks cells stack items limits codes lens w depth =
     Ready (memoryIn ws val cw bw (k .nodes) (k .commands) (k .blocks)) marks stack (shop items limits codes lens) w depth
-    × ((h : Sheet) → itemCount h ≡ known → KeyedIn h (memoryIn ws val cw bw (k .nodes) (k .commands) (k .blocks)) keys lf keyed
+    × (((h : Sheet) → itemCount h ≡ known → KeyedIn h (memoryIn ws val cw bw (k .nodes) (k .commands) (k .blocks)) keys lf keyed
     → walksIn h (memoryIn ws val cw bw (k .nodes) (k .commands) (k .blocks)) marks cells stack depth (shop items limits codes lens) w
     ≡ walksIn h (memoryIn ws val cw bw (k .nodes) (k .commands) (k .blocks)) marks₀ cells₀ stack₀ 1 (shop items₀ limits₀ codes₀ lens₀) w₀)
+    × (length seen ≡ length seen₀))
 
 abbrev μ-loop : tie.MeasureT-loop
 μ-loop ws val cw bw lf keys seen₀ marks₀ cells₀ stack₀ items₀ limits₀ codes₀ lens₀ k keyed known w₀ depth₀ seen marks cells stack items limits codes lens w depth = unmarked (take (k .blocks) marks)
 
 loop-holds : tie.Need-loop-holds Inv-loop μ-loop
-loop-holds c = (c .pre .1, λ h e q. refl)
+loop-holds c = (c .before .before .pre .1, (λ h e q. refl, refl))
 
 top-unmarked-requires : tie.Need-top-unmarked-requires Inv-loop μ-loop
 top-unmarked-requires c κs = let r = c .before .before .before .loop .inv .0 in (few-blocks _ (r .accepted), omega (arith, r .room))
 
+same-length : tie.Need-same-length Inv-loop μ-loop
+same-length c = c .before .before .before .before .before .loop .inv .1 .1
+
 returns : tie.Need-returns Inv-loop μ-loop
-returns c = let a = c .before .before .before .before .before .loop in λ h e q. came-end (a .inv .0) h (a .cells) _ (a .inv .1 h e q) (sym (c .before .top-unmarked .ensures) ∙ c .if1 .taken)
+returns c = let a = c .before .before .before .before .before .loop in λ h e q. came-end (a .inv .0) h (a .cells) _ (a .inv .1 .0 h e q) (sym (c .before .top-unmarked .ensures) ∙ c .if1 .taken)
 
 sub-d : tie.Need-sub-d Inv-loop μ-loop
 sub-d c = search needs
@@ -60,64 +64,61 @@ is-code-requires c κs = few-blocks _ (c .before .before .before .before .before
 stopped-requires : tie.Need-stopped-requires Inv-loop μ-loop
 stopped-requires c κs = search needs
 
+same-length-2 : tie.Need-same-length-2 Inv-loop μ-loop
+same-length-2 c = c .before .before .before .before .before .before .before .before .before .loop .inv .1 .1
+
 returns-2 : tie.Need-returns-2 Inv-loop μ-loop
-returns-2 c =
-    let y = c .before in
-    let a = y .before .before .before .before .before .before .before .before .loop in
+returns-2 c = let a = c .before .before .before .before .before .before .before .before .before .loop in
     λ h e q.
-    came-stopped (a .inv .0) (y .before .before .before .before .top-unmarked .ensures) (y .before .before .before .if1 .left) refl refl h (a .cells) _ _ (c .stopped .result) (a .inv .1 h e q)
-    (sym (y .before .is-code .ensures) ∙ not-true _ (y .if2 .taken)) (c .stopped .ensures)
+    came-stopped (a .inv .0) (c .before .before .before .before .before .top-unmarked .ensures) (c .before .before .before .before .if1 .left) refl refl h (a .cells) _ _ (c .stopped .result) (a .inv .1 .0 h e q)
+    (sym (c .before .before .is-code .ensures) ∙ not-true _ (c .before .if2 .taken)) (c .stopped .ensures)
 
 mul-visit : tie.Need-mul-visit Inv-loop μ-loop
-mul-visit c = let y = c .before .before .before .before .before .before .before in omega (arith, top-fits (y .before .before .before .before .before .before .before .before .loop .inv .0) (y .before .before .before .before .top-unmarked .ensures))
+mul-visit c = omega (arith, top-fits (c .before .before .before .before .before .before .before .before .before .before .before .before .before .before .before .loop .inv .0) (c .before .before .before .before .before .before .before .before .before .before .before .top-unmarked .ensures))
 
 add-visit : tie.Need-add-visit Inv-loop μ-loop
-add-visit c = let y = c .before .before .before .before .before .before .before in omega (arith, top-fits (y .before .before .before .before .before .before .before .before .loop .inv .0) (y .before .before .before .before .top-unmarked .ensures))
+add-visit c = omega (arith, top-fits (c .before .before .before .before .before .before .before .before .before .before .before .before .before .before .before .loop .inv .0) (c .before .before .before .before .before .before .before .before .before .before .before .top-unmarked .ensures))
 
 mul-visit-2 : tie.Need-mul-visit-2 Inv-loop μ-loop
-mul-visit-2 c = let y = c .before .before .before .before .before .before .before in omega (arith, top-fits (y .before .before .before .before .before .before .before .before .loop .inv .0) (y .before .before .before .before .top-unmarked .ensures))
+mul-visit-2 c = omega (arith, top-fits (c .before .before .before .before .before .before .before .before .before .before .before .before .before .before .before .loop .inv .0) (c .before .before .before .before .before .before .before .before .before .before .before .top-unmarked .ensures))
 
 element-copy-out-visit : tie.Need-element-copy-out-visit Inv-loop μ-loop
-element-copy-out-visit c = let y = c .before .before .before .before .before .before .before in omega (arith, top-fits (y .before .before .before .before .before .before .before .before .loop .inv .0) (y .before .before .before .before .top-unmarked .ensures))
+element-copy-out-visit c = omega (arith, top-fits (c .before .before .before .before .before .before .before .before .before .before .before .before .before .before .before .loop .inv .0) (c .before .before .before .before .before .before .before .before .before .before .before .top-unmarked .ensures))
 
 visit-requires : tie.Need-visit-requires Inv-loop μ-loop
-visit-requires c κs =
-    let y = c .before .before .before .before .before .before .before .before in
-    let a = y .before .before .before .before .before .before .before .before .loop in
-    let s = y .before .before .before .before .before .before .before .before .before .pre .0 in
-    ((s .keyed .keyed .most, s .keyed .keyed .keys), opens (a .inv .0) (y .before .before .before .before .top-unmarked .ensures) (y .before .before .before .if1 .left) refl refl (is-code _ _ (sym (y .before .is-code .ensures) ∙ not-false _ (y .if2 .left))))
+visit-requires c κs = let a = c .before .before .before .before .before .before .before .before .before .before .before .before .before .before .before .before .loop in
+    let s = c .before .before .before .before .before .before .before .before .before .before .before .before .before .before .before .before .before .before .before .pre .0 .1 in
+    (((s .keyed .keyed .most, omega (arith, c .before .before .before .before .before .before .before .before .before .before .before .before .before .before .before .before .before .before .before .pre .0 .0, a .inv .1 .1)), s .keyed .keyed .keys), opens (a .inv .0) (c .before .before .before .before .before .before .before .before .before .before .before .before .top-unmarked .ensures) (c .before .before .before .before .before .before .before .before .before .before .before .if1 .left) refl refl (is-code _ _ (sym (c .before .before .before .before .before .before .before .before .before .is-code .ensures) ∙ not-false _ (c .before .before .before .before .before .before .before .before .if2 .left))))
+
+same-length-3 : tie.Need-same-length-3 Inv-loop μ-loop
+same-length-3 c = c .before .before .before .before .seen .given ∙ c .before .before .before .before .before .before .before .before .before .before .before .before .before .before .before .before .before .before .before .before .before .before .loop .inv .1 .1
 
 returns-3 : tie.Need-returns-3 Inv-loop μ-loop
-returns-3 c =
-    let y = c .before .before .before .before .before .before .before .before .before .before .before .before in
-    let a = y .before .before .before .before .before .before .before .before .loop in
-    λ h e q. came-refused (a .inv .0) (y .before .before .before .before .top-unmarked .ensures) (y .before .before .before .if1 .left) refl refl (is-code _ _ (sym (y .before .is-code .ensures) ∙ not-false _ (y .if2 .left))) (c .before .before .before .visit .ensures h e q) _ (a .inv .1 h e q) (c .if3 .taken)
+returns-3 c = let a = c .before .before .before .before .before .before .before .before .before .before .before .before .before .before .before .before .before .before .before .before .before .before .loop in
+    λ h e q. came-refused (a .inv .0) (c .before .before .before .before .before .before .before .before .before .before .before .before .before .before .before .before .before .before .top-unmarked .ensures) (c .before .before .before .before .before .before .before .before .before .before .before .before .before .before .before .before .before .if1 .left) refl refl (is-code _ _ (sym (c .before .before .before .before .before .before .before .before .before .before .before .before .before .before .before .is-code .ensures) ∙ not-false _ (c .before .before .before .before .before .before .before .before .before .before .before .before .before .before .if2 .left))) (c .before .before .before .before .before .visit .ensures h e q) _ (a .inv .1 .0 h e q) (c .if3 .taken)
 
 push-requires : tie.Need-push-requires Inv-loop μ-loop
-push-requires c κs =
-    let y = c .before .before .before .before .before .before .before .before .before .before .before .before .before in
-    let a = y .before .before .before .before .before .before .before .before .loop in
-    let s = y .before .before .before .before .before .before .before .before .before .pre .0 in
-    (push-room (a .inv .0) (y .before .before .before .before .top-unmarked .ensures) (y .before .before .before .if1 .left) refl refl (is-code _ _ (sym (y .before .is-code .ensures) ∙ not-false _ (y .if2 .left))) (c .before .before .before .before .visit .ensures (s .sheet) (s .count) (s .keyed)) (c .before .if3 .left), a .inv .0 .tall)
+push-requires c κs = let a = c .before .before .before .before .before .before .before .before .before .before .before .before .before .before .before .before .before .before .before .before .before .before .before .loop in
+    let s = c .before .before .before .before .before .before .before .before .before .before .before .before .before .before .before .before .before .before .before .before .before .before .before .before .before .before .pre .0 .1 in
+    (push-room (a .inv .0) (c .before .before .before .before .before .before .before .before .before .before .before .before .before .before .before .before .before .before .before .top-unmarked .ensures) (c .before .before .before .before .before .before .before .before .before .before .before .before .before .before .before .before .before .before .if1 .left) refl refl (is-code _ _ (sym (c .before .before .before .before .before .before .before .before .before .before .before .before .before .before .before .before .is-code .ensures) ∙ not-false _ (c .before .before .before .before .before .before .before .before .before .before .before .before .before .before .before .if2 .left))) (c .before .before .before .before .before .before .visit .ensures (s .sheet) (s .count) (s .keyed)) (c .before .if3 .left), a .inv .0 .tall)
 
 loop-less : tie.Need-loop-less Inv-loop μ-loop
-loop-less c =
-    let y = c .before .before .before .before .before .before .before .before .before .before .before .before .before .before in
-    let a = y .before .before .before .before .before .before .before .before .loop in
-    let s = y .before .before .before .before .before .before .before .before .before .pre .0 in
-    omega (arith, less (a .inv .0) (y .before .before .before .before .top-unmarked .ensures) (y .before .before .before .if1 .left) refl refl (is-code _ _ (sym (y .before .is-code .ensures) ∙ not-false _ (y .if2 .left))) (c .before .before .before .before .before .visit .ensures (s .sheet) (s .count) (s .keyed)) (c .before .before .if3 .left))
+loop-less c = let a = c .before .before .before .before .before .before .before .before .before .before .before .before .before .before .before .before .before .before .before .before .before .before .before .before .loop in
+    let s = c .before .before .before .before .before .before .before .before .before .before .before .before .before .before .before .before .before .before .before .before .before .before .before .before .before .before .before .pre .0 .1 in
+    omega (arith, less (a .inv .0) (c .before .before .before .before .before .before .before .before .before .before .before .before .before .before .before .before .before .before .before .before .top-unmarked .ensures) (c .before .before .before .before .before .before .before .before .before .before .before .before .before .before .before .before .before .before .before .if1 .left) refl refl (is-code _ _ (sym (c .before .before .before .before .before .before .before .before .before .before .before .before .before .before .before .before .before .is-code .ensures) ∙ not-false _ (c .before .before .before .before .before .before .before .before .before .before .before .before .before .before .before .before .if2 .left))) (c .before .before .before .before .before .before .before .visit .ensures (s .sheet) (s .count) (s .keyed)) (c .before .before .if3 .left))
 
 loop-again : tie.Need-loop-again Inv-loop μ-loop
-loop-again c =
-    let y = c .before .before .before .before .before .before .before .before .before .before .before .before .before .before in
-    let a = y .before .before .before .before .before .before .before .before .loop in
-    let s = y .before .before .before .before .before .before .before .before .before .pre .0 in (
-      again (a .inv .0) (y .before .before .before .before .top-unmarked .ensures) (y .before .before .before .if1 .left) refl refl (is-code _ _ (sym (y .before .is-code .ensures) ∙ not-false _ (y .if2 .left))) (c .before .before .before .before .before .visit .ensures (s .sheet) (s .count) (s .keyed)) (c .before .before .if3 .left) (c .push .ensures),
-      λ h e q. same (a .inv .0) (y .before .before .before .before .top-unmarked .ensures) (y .before .before .before .if1 .left) refl refl (is-code _ _ (sym (y .before .is-code .ensures) ∙ not-false _ (y .if2 .left))) (c .before .before .before .before .before .visit .ensures h e q) (c .before .before .if3 .left) (c .push .ensures) ∙ a .inv .1 h e q,
+loop-again c = let a = c .before .before .before .before .before .before .before .before .before .before .before .before .before .before .before .before .before .before .before .before .before .before .before .before .loop in
+    let s = c .before .before .before .before .before .before .before .before .before .before .before .before .before .before .before .before .before .before .before .before .before .before .before .before .before .before .before .pre .0 .1 in (
+      again (a .inv .0) (c .before .before .before .before .before .before .before .before .before .before .before .before .before .before .before .before .before .before .before .before .top-unmarked .ensures) (c .before .before .before .before .before .before .before .before .before .before .before .before .before .before .before .before .before .before .before .if1 .left) refl refl (is-code _ _ (sym (c .before .before .before .before .before .before .before .before .before .before .before .before .before .before .before .before .before .is-code .ensures) ∙ not-false _ (c .before .before .before .before .before .before .before .before .before .before .before .before .before .before .before .before .if2 .left))) (c .before .before .before .before .before .before .before .visit .ensures (s .sheet) (s .count) (s .keyed)) (c .before .before .if3 .left) (c .push .ensures),
+      (λ h e q. same (a .inv .0) (c .before .before .before .before .before .before .before .before .before .before .before .before .before .before .before .before .before .before .before .before .top-unmarked .ensures) (c .before .before .before .before .before .before .before .before .before .before .before .before .before .before .before .before .before .before .before .if1 .left) refl refl (is-code _ _ (sym (c .before .before .before .before .before .before .before .before .before .before .before .before .before .before .before .before .before .is-code .ensures) ∙ not-false _ (c .before .before .before .before .before .before .before .before .before .before .before .before .before .before .before .before .if2 .left))) (c .before .before .before .before .before .before .before .visit .ensures h e q) (c .before .before .if3 .left) (c .push .ensures) ∙ a .inv .1 .0 h e q, c .before .before .before .before .before .before .seen .given ∙ a .inv .1 .1),
     )
 
+same-length-4 : tie.Need-same-length-4 Inv-loop μ-loop
+same-length-4 c = c .before .loop .inv .1 .1
+
 returns-4 : tie.Need-returns-4 Inv-loop μ-loop
-returns-4 c = let a = c .before .loop in λ h e q. came-end (a .inv .0) h (a .cells) _ (a .inv .1 h e q) (omega (arith, top-most (take (c .before .before .args .k .blocks) (a .marks)) (a .stack) (a .depth)))
+returns-4 c = let a = c .before .loop in λ h e q. came-end (a .inv .0) h (a .cells) _ (a .inv .1 .0 h e q) (omega (arith, top-most (take (c .before .before .before .before .args .k .blocks) (a .marks)) (a .stack) (a .depth)))
 
 pub walk-all-spec : {M : Type 1} → statement M
 walk-all-spec =
@@ -127,6 +128,7 @@ walk-all-spec =
     μ-loop
     loop-holds
     top-unmarked-requires
+    same-length
     returns
     sub-d
     mul-b
@@ -134,14 +136,17 @@ walk-all-spec =
     element-copy-out-b
     is-code-requires
     stopped-requires
+    same-length-2
     returns-2
     mul-visit
     add-visit
     mul-visit-2
     element-copy-out-visit
     visit-requires
+    same-length-3
     returns-3
     push-requires
     loop-less
     loop-again
+    same-length-4
     returns-4)
