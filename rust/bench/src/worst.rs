@@ -3,7 +3,9 @@
 //! Each hiding block asks for the requirements of the whole condition that leads to it, and every
 //! requirement there contradicts another one, so that none is left and the parse goes on. An If in
 //! each hiding block joins the condition on to the next one. Few blocks under a large condition and
-//! many under a small one are both quick; what lies between is tried in steps.
+//! many under a small one are both quick; what lies between is tried in steps. Two other shapes are
+//! blocks that hide all twenty slots under 32 requirements that stay, and a condition in which one
+//! flag is named again and again.
 
 use crate::clock::{row, time};
 use compare::convert;
@@ -44,15 +46,39 @@ fn block(commands: Vec<Command>, next: Option<usize>) -> Block {
     })
 }
 
-/// A large condition over `flags` flags, and `hiding` blocks under it.
-fn script(flags: usize, hiding: usize) -> plain::Script {
-    let mut blocks = vec![block(vec![Command::If(pairs(1, flags), 0)], Some(1))];
+/// A condition, and `hiding` blocks under it that hide `slots` slots each.
+fn under(condition: Expr, hiding: usize, slots: i16) -> plain::Script {
+    let mut blocks = vec![block(vec![Command::If(condition, 0)], Some(1))];
     for k in 1..=hiding {
-        let hides = Command::Set(Target::Variable(Expr::Imm16(620)), Expr::Imm16(0));
-        let next = (k < hiding).then_some(k + 1);
-        blocks.push(block(vec![hides, Command::If(Expr::Other, 0)], next));
+        let hides = |slot| Command::Set(Target::Variable(Expr::Imm16(620 + slot)), Expr::Imm16(0));
+        let mut commands: Vec<Command> = (0..slots).map(hides).collect();
+        commands.push(Command::If(Expr::Other, 0));
+        blocks.push(block(commands, (k < hiding).then_some(k + 1)));
     }
     plain::Script { blocks }
+}
+
+/// A large condition over `flags` flags, and `hiding` blocks under it.
+fn script(flags: usize, hiding: usize) -> plain::Script {
+    under(pairs(1, flags), hiding, 1)
+}
+
+/// Blocks that hide all slots, under 32 flags that stay and 300 that do not.
+fn all_slots() -> plain::Script {
+    let stay = (1..=32)
+        .map(flag)
+        .reduce(|left, right| Expr::binary(Binary::BitAnd, left, right));
+    let stay = stay.expect("there are 32");
+    let condition = Expr::binary(Binary::BitAnd, stay, pairs(33, 332));
+    under(condition, 700, 20)
+}
+
+/// `many` times the same flag, joined as evenly as it goes.
+fn again(many: usize) -> Expr {
+    if many == 1 {
+        return flag(1);
+    }
+    Expr::binary(Binary::BitAnd, again(many / 2), again(many - many / 2))
 }
 
 /// How many flags a script with so many hiding blocks has room for: seven nodes each, and three for
@@ -96,5 +122,17 @@ pub fn all() {
         let ours = time(1, || (), |()| drop(black_box(script.parse(&sheet, 0))));
         let name = format!("{hiding} hide");
         row("parse", &name, &[("library", ours)]);
+    }
+    others();
+}
+
+/// The other two shapes.
+fn others() {
+    let sheet = convert::sheet(&sheet());
+    let again = under(again(6_800), 4_000, 1);
+    for (name, plain) in [("all slots", all_slots()), ("one flag", again)] {
+        let script = Script::read(&image::write(&plain)).expect("it is within the limits");
+        let ours = time(1, || (), |()| drop(black_box(script.parse(&sheet, 0))));
+        row("parse", name, &[("library", ours)]);
     }
 }
