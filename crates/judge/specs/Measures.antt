@@ -1,5 +1,5 @@
 -- The measures of nodes: a tree that fits by its nodes and levels is read fine wherever it stands. Assumes nothing.
-use mathlib.Core.Path.{_≡_, refl}
+use mathlib.Core.Path.{_≡_, refl, _∙_}
 use mathlib.Core.Bool.{Bool, true, false, cond}
 use mathlib.Core.List.{List}
 use Prim.Native.Nat.{ℕ, _+_, _-_, _*_, _≤_, _<_}
@@ -48,9 +48,9 @@ aboveMeasure s d l = record { nodes = least (s + 1) 40000; levels = least (d + 1
 unfoldable pub immMeasure : ℕ → ℕ → Measure
 immMeasure v lim = cond (ltb v lim) (leafMeasure (1 + length (word v))) unfitMeasure
 
--- what the tables hold of node j
-abbrev pub measureAt : List ℕ → List ℕ → List ℕ → ℕ → Measure
-measureAt ss ds ls j = record { nodes = getD ss j 0; levels = getD ds j 0; bytes = getD ls j 0 }
+-- what the table holds of node j: three words
+abbrev pub measureAt : List ℕ → ℕ → Measure
+measureAt t j = record { nodes = getD t (3 * j) 0; levels = getD t (3 * j + 1) 0; bytes = getD t (3 * j + 2) 0 }
 
 -- ---- what they promise
 
@@ -65,16 +65,10 @@ pub record Fits (ws : List ℕ) (vs : List ℤ) (b i : ℕ) (m : Measure) : Type
 pub record Stands (ws : List ℕ) (vs : List ℤ) (i : ℕ) (m : Measure) : Type 0 where
   pub below : (b : ℕ) → i < b → Fits ws vs b i m
 
--- the tables have room for n nodes
-pub record Long (ss ds ls : List ℕ) (n : ℕ) : Type 0 where
-  pub sizes : n ≤ length ss
-  pub depths : n ≤ length ds
-  pub lengths : n ≤ length ls
-
--- the tables hold the measures of the first n nodes
-pub record Tables (ws : List ℕ) (vs : List ℤ) (ss ds ls : List ℕ) (n : ℕ) : Type 0 where
-  pub long : Long ss ds ls n
-  pub each : (j : ℕ) → j < n → Stands ws vs j (measureAt ss ds ls j)
+-- the table holds the measures of the first n nodes
+pub record Table (ws : List ℕ) (vs : List ℤ) (t : List ℕ) (n : ℕ) : Type 0 where
+  pub long : 3 * n ≤ length t
+  pub each : (j : ℕ) → j < n → Stands ws vs j (measureAt t j)
 
 -- ---- capped numbers
 
@@ -161,6 +155,39 @@ module _ (v lim u : ℕ) {r : Measure} (e : u ≡ v) where
   unfolding immMeasure
   imm-unfit h er = rw (← e, le-ltb u lim h) er
 
+-- ---- a measure put into the table
+
+module _ (t : List ℕ) (i : ℕ) (m : Measure) where
+  abbrev first : List ℕ
+  first = set t (3 * i) (m .nodes)
+
+  abbrev second : List ℕ
+  second = set first (3 * i + 1) (m .levels)
+
+  abbrev pub put : List ℕ
+  put = set second (3 * i + 2) (m .bytes)
+
+  put-length : length put ≡ length t
+  put-length = length-set second (3 * i + 2) (m .bytes) ∙ length-set first (3 * i + 1) (m .levels) ∙ length-set t (3 * i) (m .nodes)
+
+  put-same : 3 * (i + 1) ≤ length t → measureAt put i ≡ m
+  put-same h =
+      rw (
+        getD-set-other second (3 * i + 2) (3 * i) (m .bytes) 0 (omega arith),
+        getD-set-other first (3 * i + 1) (3 * i) (m .levels) 0 (omega arith),
+        getD-set-same t (3 * i) (m .nodes) 0 (omega arith),
+        getD-set-other second (3 * i + 2) (3 * i + 1) (m .bytes) 0 (omega arith),
+        getD-set-same first (3 * i + 1) (m .levels) 0 (omega (arith, length-set t (3 * i) (m .nodes))),
+        getD-set-same second (3 * i + 2) (m .bytes) 0 (omega (arith, length-set first (3 * i + 1) (m .levels), length-set t (3 * i) (m .nodes))),
+      )
+
+  -- words before stay
+  put-before : (k : ℕ) → k < 3 * i → getD put k 0 ≡ getD t k 0
+  put-before k h = rw (getD-set-other second (3 * i + 2) k (m .bytes) 0 (omega arith), getD-set-other first (3 * i + 1) k (m .levels) 0 (omega arith), getD-set-other t (3 * i) k (m .nodes) 0 (omega arith))
+
+  put-other : (j : ℕ) → j < i → measureAt put j ≡ measureAt t j
+  put-other j h = rw (put-before (3 * j) (omega arith), put-before (3 * j + 1) (omega arith), put-before (3 * j + 2) (omega arith))
+
 -- ---- nodes
 
 module _ (ws : List ℕ) (vs : List ℤ) where
@@ -173,7 +200,7 @@ module _ (ws : List ℕ) (vs : List ℤ) where
   pub stands-not : (i : ℕ) {r : Measure} → r ≡ unfitMeasure → Stands ws vs i r
   stands-not i e = record { below = λ b h. fits-not b i e }
 
-  pub operand-fits : {ss ds ls : List ℕ} {b : ℕ} (i j : ℕ) → Tables ws vs ss ds ls b → j ≡ i → j < b → Fits ws vs b i (measureAt ss ds ls j)
+  pub operand-fits : {t : List ℕ} {b : ℕ} (i j : ℕ) → Table ws vs t b → j ≡ i → j < b → Fits ws vs b i (measureAt t j)
   operand-fits {b = b} i j T e h = rw (← e) (T .each j h .below b h)
 
   module _ (b i : ℕ) where
@@ -269,57 +296,47 @@ module _ (ws : List ℕ) (vs : List ℤ) where
         → r ≡ aboveMeasure (a .nodes + c .nodes) d (a .bytes + c .bytes) → Stands ws vs i r
     stands-two x kk a c A C d ed e = record { below = λ b h. rw (e, ed) (fits-two b i k h low kd x kk a c A C) }
 
-  -- ---- tables
+  -- ---- the table
 
-  pub tables-none : (ss ds ls : List ℕ) → Tables ws vs ss ds ls 0
-  tables-none ss ds ls = record { long = record { sizes = omega arith; depths = omega arith; lengths = omega arith }; each = λ j h. absurd (omega arith) }
+  pub table-none : (t : List ℕ) → Table ws vs t 0
+  table-none t = record { long = omega arith; each = λ j h. absurd (omega arith) }
 
-  pub tables-more : (ss ds ls : List ℕ) (i : ℕ) (m : Measure) → Long ss ds ls (i + 1) → Tables ws vs ss ds ls i → Stands ws vs i m
-      → Tables ws vs (set ss i (m .nodes)) (set ds i (m .levels)) (set ls i (m .bytes)) (i + 1)
-  tables-more ss ds ls i m L T S = record {
-    long = record { sizes = omega (arith, L .sizes, length-set ss i (m .nodes)); depths = omega (arith, L .depths, length-set ds i (m .levels)); lengths = omega (arith, L .lengths, length-set ls i (m .bytes)) };
+  pub table-more : (t : List ℕ) (i : ℕ) (m : Measure) → 3 * (i + 1) ≤ length t → Table ws vs t i → Stands ws vs i m → Table ws vs (put t i m) (i + 1)
+  table-more t i m L T S = record {
+    long = omega (arith, put-length t i m);
     each = λ j h. by j h (ltb j i) refl;
   }
     where
-      by : (j : ℕ) → j < i + 1 → (t : Bool) → ltb j i ≡ t → Stands ws vs j (measureAt (set ss i (m .nodes)) (set ds i (m .levels)) (set ls i (m .bytes)) j)
-      by j h true e =
-          let lt = ltb-true j i e in
-          let ne : j ≡ i → ⊥ = λ q. omega arith in
-          rw (getD-set-other ss i j (m .nodes) 0 ne, getD-set-other ds i j (m .levels) 0 ne, getD-set-other ls i j (m .bytes) 0 ne) (T .each j lt)
+      by : (j : ℕ) → j < i + 1 → (b : Bool) → ltb j i ≡ b → Stands ws vs j (measureAt (put t i m) j)
+      by j h true e = rw (put-other t i m j (ltb-true j i e)) (T .each j (ltb-true j i e))
       by j h false e =
           let q : j ≡ i = omega (arith, ltb-false j i e) in
-          rw (q, getD-set-same ss i (m .nodes) 0 (omega (arith, L .sizes)), getD-set-same ds i (m .levels) 0 (omega (arith, L .depths)), getD-set-same ls i (m .bytes) 0 (omega (arith, L .lengths))) S
+          rw (q, put-same t i m L) S
 
   -- a command's expression that has room
-  pub root-fine : {ss ds ls : List ℕ} {l : ℕ} (i j n at : ℕ) → Tables ws vs ss ds ls l → l ≤ 32768 → j ≡ i → i < l → getD ds j 0 < 65 → n ≤ l → getD ss j 0 ≤ l - n
-      → Told (readExpr l 64 n) size (nodeImage (nodesIn ws vs l) l i) l 0 n at (Fine (n + getD ss j 0) (at + getD ls j 0))
+  pub root-fine : {t : List ℕ} {l : ℕ} (i j n at : ℕ) → Table ws vs t l → l ≤ 32768 → j ≡ i → i < l → getD t (3 * j + 1) 0 < 65 → n ≤ l → getD t (3 * j) 0 ≤ l - n
+      → Told (readExpr l 64 n) size (nodeImage (nodesIn ws vs l) l i) l 0 n at (Fine (n + getD t (3 * j) 0) (at + getD t (3 * j + 2) 0))
   root-fine {l = l} i j n at T hl e h hd hn hs = operand-fits i j T e (omega arith) .told n at 0 l hl (omega arith) (omega arith)
 
--- the first i of n nodes are measured, in tables as long as they were
-pub record Measuring (ws : List ℕ) (vs : List ℤ) (ss₀ ds₀ ls₀ : List ℕ) (n : ℕ) (ss ds ls : List ℕ) (i : ℕ) : Type 0 where
+-- the first i of n nodes are measured, in a table as long as it was
+pub record Measuring (ws : List ℕ) (vs : List ℤ) (t₀ : List ℕ) (n : ℕ) (t : List ℕ) (i : ℕ) : Type 0 where
   pub low : i ≤ n
-  pub sizes : length ss ≡ length ss₀
-  pub depths : length ds ≡ length ds₀
-  pub lengths : length ls ≡ length ls₀
-  pub tables : Tables ws vs ss ds ls i
+  pub same : length t ≡ length t₀
+  pub table : Table ws vs t i
 
-module _ (ws : List ℕ) (vs : List ℤ) {ss₀ ds₀ ls₀ : List ℕ} {n : ℕ} where
-  pub measuring-start : Measuring ws vs ss₀ ds₀ ls₀ n ss₀ ds₀ ls₀ 0
-  measuring-start = record { low = omega arith; sizes = refl; depths = refl; lengths = refl; tables = tables-none ws vs ss₀ ds₀ ls₀ }
+module _ (ws : List ℕ) (vs : List ℤ) {t₀ : List ℕ} {n : ℕ} where
+  pub measuring-start : Measuring ws vs t₀ n t₀ 0
+  measuring-start = record { low = omega arith; same = refl; table = table-none ws vs t₀ }
 
-  module _ {ss ds ls : List ℕ} {i : ℕ} (M : Measuring ws vs ss₀ ds₀ ls₀ n ss ds ls i) where
-    pub measuring-more : (m : Measure) → Long ss₀ ds₀ ls₀ n → i < n → Stands ws vs i m → Measuring ws vs ss₀ ds₀ ls₀ n (set ss i (m .nodes)) (set ds i (m .levels)) (set ls i (m .bytes)) (i + 1)
+  module _ {t : List ℕ} {i : ℕ} (M : Measuring ws vs t₀ n t i) where
+    pub measuring-more : (m : Measure) → 3 * n ≤ length t₀ → i < n → Stands ws vs i m → Measuring ws vs t₀ n (put t i m) (i + 1)
     measuring-more m L h S =
-        let a = M .sizes in
-        let b = M .depths in
-        let c = M .lengths in
+        let a = M .same in
         record {
           low = omega arith;
-          sizes = omega (arith, length-set ss i (m .nodes));
-          depths = omega (arith, length-set ds i (m .levels));
-          lengths = omega (arith, length-set ls i (m .bytes));
-          tables = tables-more ws vs ss ds ls i m (record { sizes = omega (arith, L .sizes); depths = omega (arith, L .depths); lengths = omega (arith, L .lengths) }) (M .tables) S;
+          same = put-length t i m ∙ a;
+          table = table-more ws vs t i m (omega arith) (M .table) S;
         }
 
-    pub measuring-done : n ≤ i → Tables ws vs ss ds ls n
-    measuring-done h = let e : n ≡ i = omega (arith, M .low) in rw e (M .tables)
+    pub measuring-done : n ≤ i → Table ws vs t n
+    measuring-done h = let e : n ≡ i = omega (arith, M .low) in rw e (M .table)

@@ -11,7 +11,7 @@ ghost use Rattle.model.specs.Image.{readExpr, readTerm, readBlockNo, readLink, 
 ghost use Rattle.model.specs.Memory.{nodesIn, memoryIn};
 ghost use Rattle.model.specs.Record.{nodeImage, rootImage, commandTail, commandImageIn, commandsImageIn, blockTail};
 ghost use Rattle.judge.specs.Stages.{readLinks, StandingBy, Staged, blockImageIn, JudgedAs};
-ghost use Rattle.judge.specs.Measures.{unfitMeasure, leafMeasure, aboveMeasure, immMeasure, least, highest, Long, Tables, Fits, Stands};
+ghost use Rattle.judge.specs.Measures.{unfitMeasure, leafMeasure, aboveMeasure, immMeasure, least, highest, Table, Fits, Stands};
 ghost use Rattle.judge.specs.Told.{Told, ShortWord, limitsBy, nodesBy, codedBy, memoryBy, KeptBy, ReadyBy, Walking, uncounted, immJudged};
 use memory::Counts;
 use memory::index_of;
@@ -115,16 +115,16 @@ fn leaf(bytes: u32) -> Measure
 }
 
 // The operand i of node b, as it was measured.
-fn measured(sizes: &[u32], depths: &[u8], lengths: &[u32], b: usize, i: u16) -> Measure
-    requires { ⌜ Long (now sizes) (now depths) (now lengths) b ⌝ }
-    ensures { λ r. ⌜ ((ws : List ℕ) (vs : List ℤ) → Tables ws vs (now (sizes .entry)) (now (depths .entry)) (now (lengths .entry)) b → Fits ws vs b i r) ⌝ }
+fn measured(table: &[u32], b: usize, i: u16) -> Measure
+    requires { ⌜ 3 * b ≤ length (now table) ⌝ }
+    ensures { λ r. ⌜ ((ws : List ℕ) (vs : List ℤ) → Table ws vs (now (table .entry)) b → Fits ws vs b i r) ⌝ }
 {
     let j = index_of(i);
     if j < b {
         return Measure {
-            nodes: sizes[j],
-            levels: depths[j] as u32,
-            bytes: lengths[j],
+            nodes: table[3 * j],
+            levels: table[3 * j + 1],
+            bytes: table[3 * j + 2],
         };
     }
     unfit()
@@ -171,15 +171,8 @@ fn measure_imm(z: i32, limit: u64) -> Measure
 }
 
 // Node i, what lies below it being measured.
-fn measure_node(
-    ws: &[u16; 98304],
-    val: &[i32; 32768],
-    sizes: &[u32],
-    depths: &[u8],
-    lengths: &[u32],
-    i: usize,
-) -> Measure
-    requires { ⌜ (i < 32768) × Tables (now ws) (now val) (now sizes) (now depths) (now lengths) i ⌝ }
+fn measure_node(ws: &[u16; 98304], val: &[i32; 32768], table: &[u32], i: usize) -> Measure
+    requires { ⌜ (i < 32768) × Table (now ws) (now val) (now table) i ⌝ }
     ensures { λ r. ⌜ Stands (now (ws .entry)) (now (val .entry)) i r ⌝ }
 {
     let code = ws[3 * i];
@@ -189,8 +182,8 @@ fn measure_node(
     let k = kind_of(code);
     match k {
         Kind::Two(_) => {
-            let a = measured(sizes, depths, lengths, i, ws[3 * i + 1]);
-            let b = measured(sizes, depths, lengths, i, ws[3 * i + 2]);
+            let a = measured(table, i, ws[3 * i + 1]);
+            let b = measured(table, i, ws[3 * i + 2]);
             above(
                 a.nodes + b.nodes,
                 higher(a.levels, b.levels),
@@ -198,7 +191,7 @@ fn measure_node(
             )
         }
         Kind::One(_) => {
-            let a = measured(sizes, depths, lengths, i, ws[3 * i + 1]);
+            let a = measured(table, i, ws[3 * i + 1]);
             above(a.nodes, a.levels, a.bytes)
         }
         Kind::Imm16 => measure_imm(val[i], 65536),
@@ -207,24 +200,17 @@ fn measure_node(
     }
 }
 
-// The first n nodes, from the lowest on, since operands lie below.
-fn measure_nodes(
-    ws: &[u16; 98304],
-    val: &[i32; 32768],
-    sizes: &mut [u32],
-    depths: &mut [u8],
-    lengths: &mut [u32],
-    n: usize,
-)
-    requires { ⌜ (n ≤ 32768) × Long (now sizes) (now depths) (now lengths) n ⌝ }
-    ensures { λ _. ⌜ Tables (now (ws .entry)) (now (val .entry)) (now (sizes .exit)) (now (depths .exit)) (now (lengths .exit)) n ⌝ }
+// The first n nodes, from the lowest on, since operands lie below: three words of the table each.
+fn measure_nodes(ws: &[u16; 98304], val: &[i32; 32768], table: &mut [u32], n: usize)
+    requires { ⌜ (n ≤ 32768) × (3 * n ≤ length (now table)) ⌝ }
+    ensures { λ _. ⌜ Table (now (ws .entry)) (now (val .entry)) (now (table .exit)) n ⌝ }
 {
     let mut i = 0;
     while i < n {
-        let m = measure_node(ws, val, sizes, depths, lengths, i);
-        sizes[i] = m.nodes;
-        depths[i] = m.levels as u8;
-        lengths[i] = m.bytes;
+        let m = measure_node(ws, val, table, i);
+        table[3 * i] = m.nodes;
+        table[3 * i + 1] = m.levels;
+        table[3 * i + 2] = m.bytes;
         i += 1;
     }
 }
@@ -274,29 +260,27 @@ fn judge_expr(
 }
 
 // An expression of a command: its root has to be below the kept count of nodes, which is also their limit.
-// The tables answer where there is room for its tree; else the walk says which refusal is met first.
+// The table answers where there is room for its tree; else the walk says which refusal is met first.
 fn judge_term(
     ws: &[u16; 98304],
     val: &[i32; 32768],
-    sizes: &[u32],
-    depths: &[u8],
-    lengths: &[u32],
+    table: &[u32],
     counts: Counts,
     i: u16,
     n: u16,
     at: usize,
 ) -> Step
-    requires { ⌜ ReadyBy counts n at 200000 × Tables (now ws) (now val) (now sizes) (now depths) (now lengths) (counts .nodes) ⌝ }
+    requires { ⌜ ReadyBy counts n at 200000 × Table (now ws) (now val) (now table) (counts .nodes) ⌝ }
     ensures { λ r. ⌜ Told (readTerm (limitsBy counts) n) size (rootImage (nodesBy (now (ws .entry)) (now (val .entry)) counts) i) (counts .nodes) 0 n at r ⌝ }
 {
     if i >= counts.nodes {
         return Step::No(2);
     }
     let j = index_of(i);
-    let m = sizes[j];
-    if depths[j] < 65 {
+    let m = table[3 * j];
+    if table[3 * j + 1] < 65 {
         if m <= (counts.nodes - n) as u32 {
-            return Step::Fine(n + (m as u16), at + lengths[j] as usize);
+            return Step::Fine(n + (m as u16), at + table[3 * j + 2] as usize);
         }
     }
     judge_expr(ws, val, counts.nodes, i, n, at, counts.nodes, 0)
@@ -330,21 +314,19 @@ fn judge_link(k: u16, blocks: u16, n: u16, at: usize) -> Step
 fn judge_pair(
     ws: &[u16; 98304],
     val: &[i32; 32768],
-    sizes: &[u32],
-    depths: &[u8],
-    lengths: &[u32],
+    table: &[u32],
     counts: Counts,
     i: u16,
     j: u16,
     n: u16,
     at: usize,
 ) -> Step
-    requires { ⌜ ReadyBy counts n at 200000 × Tables (now ws) (now val) (now sizes) (now depths) (now lengths) (counts .nodes) ⌝ }
+    requires { ⌜ ReadyBy counts n at 200000 × Table (now ws) (now val) (now table) (counts .nodes) ⌝ }
     ensures { λ r. ⌜ Told (setOf (limitsBy counts) n 0) commandNodes (rootImage (nodesBy (now (ws .entry)) (now (val .entry)) counts) i ++ rootImage (nodesBy (now (ws .entry)) (now (val .entry)) counts) j) (counts .nodes) 0 n at r ⌝ }
 {
-    let a = judge_term(ws, val, sizes, depths, lengths, counts, i, n, at);
+    let a = judge_term(ws, val, table, counts, i, n, at);
     match a {
-        Step::Fine(m, p) => judge_term(ws, val, sizes, depths, lengths, counts, j, m, p),
+        Step::Fine(m, p) => judge_term(ws, val, table, counts, j, m, p),
         Step::No(e) => Step::No(e),
     }
 }
@@ -353,16 +335,14 @@ fn judge_pair(
 fn judge_set(
     ws: &[u16; 98304],
     val: &[i32; 32768],
-    sizes: &[u32],
-    depths: &[u8],
-    lengths: &[u32],
+    table: &[u32],
     cw: &[u16; 65536],
     counts: Counts,
     i: usize,
     n: u16,
     at: usize,
 ) -> Step
-    requires { ⌜ (i < counts .commands) × (ReadyBy counts n at 199000 × Tables (now ws) (now val) (now sizes) (now depths) (now lengths) (counts .nodes)) ⌝ }
+    requires { ⌜ (i < counts .commands) × (ReadyBy counts n at 199000 × Table (now ws) (now val) (now table) (counts .nodes)) ⌝ }
     ensures { λ r. ⌜ Told (commandOf (limitsBy counts) n 2) commandNodes (commandTail (codedBy (now (ws .entry)) (now (val .entry)) (now (cw .entry)) counts) i 2) (counts .nodes) 3 n at r ⌝ }
 {
     let target = cw[4 * i + 3];
@@ -370,9 +350,7 @@ fn judge_set(
         return judge_pair(
             ws,
             val,
-            sizes,
-            depths,
-            lengths,
+            table,
             counts,
             cw[4 * i + 1],
             cw[4 * i + 2],
@@ -381,17 +359,7 @@ fn judge_set(
         );
     }
     if target == 1 {
-        return judge_term(
-            ws,
-            val,
-            sizes,
-            depths,
-            lengths,
-            counts,
-            cw[4 * i + 2],
-            n,
-            at + 1,
-        );
+        return judge_term(ws, val, table, counts, cw[4 * i + 2], n, at + 1);
     }
     Step::No(2)
 }
@@ -400,29 +368,17 @@ fn judge_set(
 fn judge_if(
     ws: &[u16; 98304],
     val: &[i32; 32768],
-    sizes: &[u32],
-    depths: &[u8],
-    lengths: &[u32],
+    table: &[u32],
     cw: &[u16; 65536],
     counts: Counts,
     i: usize,
     n: u16,
     at: usize,
 ) -> Step
-    requires { ⌜ (i < counts .commands) × (ReadyBy counts n at 199000 × Tables (now ws) (now val) (now sizes) (now depths) (now lengths) (counts .nodes)) ⌝ }
+    requires { ⌜ (i < counts .commands) × (ReadyBy counts n at 199000 × Table (now ws) (now val) (now table) (counts .nodes)) ⌝ }
     ensures { λ r. ⌜ Told (commandOf (limitsBy counts) n 3) commandNodes (commandTail (codedBy (now (ws .entry)) (now (val .entry)) (now (cw .entry)) counts) i 3) (counts .nodes) 3 n at r ⌝ }
 {
-    let a = judge_term(
-        ws,
-        val,
-        sizes,
-        depths,
-        lengths,
-        counts,
-        cw[4 * i + 1],
-        n,
-        at,
-    );
+    let a = judge_term(ws, val, table, counts, cw[4 * i + 1], n, at);
     match a {
         Step::Fine(m, p) => judge_block_no(cw[4 * i + 3], counts.blocks, m, p),
         Step::No(e) => Step::No(e),
@@ -433,9 +389,7 @@ fn judge_if(
 fn judge_tail(
     ws: &[u16; 98304],
     val: &[i32; 32768],
-    sizes: &[u32],
-    depths: &[u8],
-    lengths: &[u32],
+    table: &[u32],
     cw: &[u16; 65536],
     counts: Counts,
     i: usize,
@@ -443,14 +397,14 @@ fn judge_tail(
     n: u16,
     at: usize,
 ) -> Step
-    requires { ⌜ (i < counts .commands) × (ReadyBy counts n at 199000 × Tables (now ws) (now val) (now sizes) (now depths) (now lengths) (counts .nodes)) ⌝ }
+    requires { ⌜ (i < counts .commands) × (ReadyBy counts n at 199000 × Table (now ws) (now val) (now table) (counts .nodes)) ⌝ }
     ensures { λ r. ⌜ Told (commandOf (limitsBy counts) n k) commandNodes (commandTail (codedBy (now (ws .entry)) (now (val .entry)) (now (cw .entry)) counts) i k) (counts .nodes) 3 n at r ⌝ }
 {
     match k {
         0 => Step::Fine(n, at),
         1 => judge_block_no(cw[4 * i + 3], counts.blocks, n, at),
-        2 => judge_set(ws, val, sizes, depths, lengths, cw, counts, i, n, at),
-        3 => judge_if(ws, val, sizes, depths, lengths, cw, counts, i, n, at),
+        2 => judge_set(ws, val, table, cw, counts, i, n, at),
+        3 => judge_if(ws, val, table, cw, counts, i, n, at),
         4 => judge_block_no(cw[4 * i + 3], counts.blocks, n, at),
         _ => Step::Fine(n, at),
     }
@@ -460,16 +414,14 @@ fn judge_tail(
 fn judge_command(
     ws: &[u16; 98304],
     val: &[i32; 32768],
-    sizes: &[u32],
-    depths: &[u8],
-    lengths: &[u32],
+    table: &[u32],
     cw: &[u16; 65536],
     counts: Counts,
     i: usize,
     n: u16,
     at: usize,
 ) -> Step
-    requires { ⌜ ReadyBy counts n at 198000 × Tables (now ws) (now val) (now sizes) (now depths) (now lengths) (counts .nodes) ⌝ }
+    requires { ⌜ ReadyBy counts n at 198000 × Table (now ws) (now val) (now table) (counts .nodes) ⌝ }
     ensures { λ r. ⌜ Told (readCommand (limitsBy counts) n) commandNodes (commandImageIn (codedBy (now (ws .entry)) (now (val .entry)) (now (cw .entry)) counts) i) (counts .nodes) 4 n at r ⌝ }
 {
     let there = index_of(counts.commands);
@@ -480,16 +432,14 @@ fn judge_command(
     if k >= 6 {
         return Step::No(2);
     }
-    judge_tail(ws, val, sizes, depths, lengths, cw, counts, i, k, n, at + 1)
+    judge_tail(ws, val, table, cw, counts, i, k, n, at + 1)
 }
 
 // So many commands, from the first on; they may run past the arrays.
 fn judge_commands(
     ws: &[u16; 98304],
     val: &[i32; 32768],
-    sizes: &[u32],
-    depths: &[u8],
-    lengths: &[u32],
+    table: &[u32],
     cw: &[u16; 65536],
     counts: Counts,
     first: u16,
@@ -497,7 +447,7 @@ fn judge_commands(
     n: u16,
     at: usize,
 ) -> Step
-    requires { ⌜ (held ≤ 16384) × (ReadyBy counts n at 110000 × Tables (now ws) (now val) (now sizes) (now depths) (now lengths) (counts .nodes)) ⌝ }
+    requires { ⌜ (held ≤ 16384) × (ReadyBy counts n at 110000 × Table (now ws) (now val) (now table) (counts .nodes)) ⌝ }
     ensures { λ r. ⌜ Told (readCommands (limitsBy counts) held n) commandsNodes (commandsImageIn (codedBy (now (ws .entry)) (now (val .entry)) (now (cw .entry)) counts) held first) (counts .nodes) (4 * held) n at r ⌝ }
 {
     let f = index_of(first);
@@ -506,7 +456,7 @@ fn judge_commands(
     let mut p = at;
     let mut i: usize = 0;
     while i < end {
-        let r = judge_command(ws, val, sizes, depths, lengths, cw, counts, f + i, k, p);
+        let r = judge_command(ws, val, table, cw, counts, f + i, k, p);
         match r {
             Step::Fine(k1, p1) => {
                 k = k1;
@@ -537,9 +487,7 @@ fn judge_links(x: u16, y: u16, blocks: u16, n: u16, at: usize) -> Step
 fn judge_code(
     ws: &[u16; 98304],
     val: &[i32; 32768],
-    sizes: &[u32],
-    depths: &[u8],
-    lengths: &[u32],
+    table: &[u32],
     cw: &[u16; 65536],
     bw: &[u16; 20480],
     counts: Counts,
@@ -548,7 +496,7 @@ fn judge_code(
     m: u16,
     at: usize,
 ) -> Stage
-    requires { ⌜ StandingBy counts i n m at 109000 × Tables (now ws) (now val) (now sizes) (now depths) (now lengths) (counts .nodes) ⌝ }
+    requires { ⌜ StandingBy counts i n m at 109000 × Table (now ws) (now val) (now table) (counts .nodes) ⌝ }
     ensures { λ r. ⌜ Staged (blockOf (limitsBy counts) m n 1) (blockTail (memoryBy (now (ws .entry)) (now (val .entry)) (now (cw .entry)) (now (bw .entry)) counts) i 1) (counts .nodes) (counts .commands) 9 n m at r ⌝ }
 {
     let held = bw[5 * i + 2];
@@ -557,19 +505,7 @@ fn judge_code(
     if held > room {
         return Stage::No(3);
     }
-    let a = judge_commands(
-        ws,
-        val,
-        sizes,
-        depths,
-        lengths,
-        cw,
-        counts,
-        bw[5 * i + 1],
-        held,
-        n,
-        at + len,
-    );
+    let a = judge_commands(ws, val, table, cw, counts, bw[5 * i + 1], held, n, at + len);
     match a {
         Step::Fine(k, p) => {
             let b = judge_links(bw[5 * i + 3], bw[5 * i + 4], counts.blocks, k, p);
@@ -586,9 +522,7 @@ fn judge_code(
 fn judge_block(
     ws: &[u16; 98304],
     val: &[i32; 32768],
-    sizes: &[u32],
-    depths: &[u8],
-    lengths: &[u32],
+    table: &[u32],
     cw: &[u16; 65536],
     bw: &[u16; 20480],
     counts: Counts,
@@ -597,26 +531,13 @@ fn judge_block(
     m: u16,
     at: usize,
 ) -> Stage
-    requires { ⌜ StandingBy counts i n m at 108000 × Tables (now ws) (now val) (now sizes) (now depths) (now lengths) (counts .nodes) ⌝ }
+    requires { ⌜ StandingBy counts i n m at 108000 × Table (now ws) (now val) (now table) (counts .nodes) ⌝ }
     ensures { λ r. ⌜ Staged (readBlock (limitsBy counts) m n) (blockImageIn (memoryBy (now (ws .entry)) (now (val .entry)) (now (cw .entry)) (now (bw .entry)) counts) i) (counts .nodes) (counts .commands) 10 n m at r ⌝ }
 {
     let kind = bw[5 * i];
     match kind {
         0 => Stage::Fine(n, m, at + 1),
-        1 => judge_code(
-            ws,
-            val,
-            sizes,
-            depths,
-            lengths,
-            cw,
-            bw,
-            counts,
-            i,
-            n,
-            m,
-            at + 1,
-        ),
+        1 => judge_code(ws, val, table, cw, bw, counts, i, n, m, at + 1),
         2 => Stage::Fine(n, m, at + 1),
         _ => Stage::No(2),
     }
@@ -626,14 +547,12 @@ fn judge_block(
 fn judge_blocks(
     ws: &[u16; 98304],
     val: &[i32; 32768],
-    sizes: &[u32],
-    depths: &[u8],
-    lengths: &[u32],
+    table: &[u32],
     cw: &[u16; 65536],
     bw: &[u16; 20480],
     counts: Counts,
 ) -> Judged
-    requires { ⌜ KeptBy counts × Tables (now ws) (now val) (now sizes) (now depths) (now lengths) (counts .nodes) ⌝ }
+    requires { ⌜ KeptBy counts × Table (now ws) (now val) (now table) (counts .nodes) ⌝ }
     ensures { λ r. ⌜ JudgedAs (memoryBy (now (ws .entry)) (now (val .entry)) (now (cw .entry)) (now (bw .entry)) counts) r ⌝ }
 {
     let end = index_of(counts.blocks);
@@ -642,7 +561,7 @@ fn judge_blocks(
     let mut p = short_length(counts.blocks);
     let mut i: usize = 0;
     while i < end {
-        let r = judge_block(ws, val, sizes, depths, lengths, cw, bw, counts, i, n, m, p);
+        let r = judge_block(ws, val, table, cw, bw, counts, i, n, m, p);
         match r {
             Stage::Fine(n1, m1, p1) => {
                 n = n1;
@@ -658,7 +577,7 @@ fn judge_blocks(
     Judged::Fine(p)
 }
 
-// With tables for 64 nodes: to clear large ones takes longer than to judge a small script.
+// With a table for 64 nodes: to clear a large one takes longer than to judge a small script.
 fn judge_up_to_64(
     ws: &[u16; 98304],
     val: &[i32; 32768],
@@ -669,21 +588,12 @@ fn judge_up_to_64(
     requires { ⌜ (counts .nodes ≤ 64) × KeptBy counts ⌝ }
     ensures { λ r. ⌜ JudgedAs (memoryBy (now (ws .entry)) (now (val .entry)) (now (cw .entry)) (now (bw .entry)) counts) r ⌝ }
 {
-    let mut sizes = [0u32; 64];
-    let mut depths = [0u8; 64];
-    let mut lengths = [0u32; 64];
-    measure_nodes(
-        ws,
-        val,
-        &mut sizes,
-        &mut depths,
-        &mut lengths,
-        index_of(counts.nodes),
-    );
-    judge_blocks(ws, val, &sizes, &depths, &lengths, cw, bw, counts)
+    let mut table = [0u32; 192];
+    measure_nodes(ws, val, &mut table, index_of(counts.nodes));
+    judge_blocks(ws, val, &table, cw, bw, counts)
 }
 
-// With tables for 1,024 nodes.
+// With a table for 1,024 nodes.
 fn judge_up_to_1024(
     ws: &[u16; 98304],
     val: &[i32; 32768],
@@ -694,21 +604,12 @@ fn judge_up_to_1024(
     requires { ⌜ (counts .nodes ≤ 1024) × KeptBy counts ⌝ }
     ensures { λ r. ⌜ JudgedAs (memoryBy (now (ws .entry)) (now (val .entry)) (now (cw .entry)) (now (bw .entry)) counts) r ⌝ }
 {
-    let mut sizes = [0u32; 1024];
-    let mut depths = [0u8; 1024];
-    let mut lengths = [0u32; 1024];
-    measure_nodes(
-        ws,
-        val,
-        &mut sizes,
-        &mut depths,
-        &mut lengths,
-        index_of(counts.nodes),
-    );
-    judge_blocks(ws, val, &sizes, &depths, &lengths, cw, bw, counts)
+    let mut table = [0u32; 3072];
+    measure_nodes(ws, val, &mut table, index_of(counts.nodes));
+    judge_blocks(ws, val, &table, cw, bw, counts)
 }
 
-// With tables for any script.
+// With a table for any script.
 fn judge_any(
     ws: &[u16; 98304],
     val: &[i32; 32768],
@@ -719,18 +620,9 @@ fn judge_any(
     requires { ⌜ KeptBy counts ⌝ }
     ensures { λ r. ⌜ JudgedAs (memoryBy (now (ws .entry)) (now (val .entry)) (now (cw .entry)) (now (bw .entry)) counts) r ⌝ }
 {
-    let mut sizes = [0u32; 32768];
-    let mut depths = [0u8; 32768];
-    let mut lengths = [0u32; 32768];
-    measure_nodes(
-        ws,
-        val,
-        &mut sizes,
-        &mut depths,
-        &mut lengths,
-        index_of(counts.nodes),
-    );
-    judge_blocks(ws, val, &sizes, &depths, &lengths, cw, bw, counts)
+    let mut table = [0u32; 98304];
+    measure_nodes(ws, val, &mut table, index_of(counts.nodes));
+    judge_blocks(ws, val, &table, cw, bw, counts)
 }
 
 // The judgement of a script record, in the place of refusals 2 to 5: the kept counts first, then block by block as its image would be read.

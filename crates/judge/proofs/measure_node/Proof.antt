@@ -21,7 +21,7 @@ unfit-requires : tie.Need-unfit-requires
 unfit-requires c κs = search needs
 
 returns : tie.Need-returns
-returns c = stands-not (c .before .before .before .before .before .before .args .ws .now) (c .before .before .before .before .before .before .args .val .now) (c .before .before .before .before .before .before .args .i) (c .unfit .ensures)
+returns c = stands-not (c .before .before .before .before .args .ws .now) (c .before .before .before .before .args .val .now) (c .before .before .before .before .args .i) (c .unfit .ensures)
 
 kind-of-requires : tie.Need-kind-of-requires
 kind-of-requires c κs = search needs
@@ -60,16 +60,16 @@ measured-requires-2 : tie.Need-measured-requires-2
 measured-requires-2 c κs = search needs
 
 add-above : tie.Need-add-above
-add-above c = omega (arith, (c .before .before .before .before .measured .ensures (c .before .before .before .before .before .before .before .before .before .before .before .before .before .before .args .ws .now) (c .before .before .before .before .before .before .before .before .before .before .before .before .before .before .args .val .now) (c .before .before .before .before .before .before .before .before .before .before .before .before .before .before .pre .1)) .few, (c .before .before .before .before .measured .ensures (c .before .before .before .before .before .before .before .before .before .before .before .before .before .before .args .ws .now) (c .before .before .before .before .before .before .before .before .before .before .before .before .before .before .args .val .now) (c .before .before .before .before .before .before .before .before .before .before .before .before .before .before .pre .1)) .short, (c .before .before .measured2 .ensures (c .before .before .before .before .before .before .before .before .before .before .before .before .before .before .args .ws .now) (c .before .before .before .before .before .before .before .before .before .before .before .before .before .before .args .val .now) (c .before .before .before .before .before .before .before .before .before .before .before .before .before .before .pre .1)) .few, (c .before .before .measured2 .ensures (c .before .before .before .before .before .before .before .before .before .before .before .before .before .before .args .ws .now) (c .before .before .before .before .before .before .before .before .before .before .before .before .before .before .args .val .now) (c .before .before .before .before .before .before .before .before .before .before .before .before .before .before .pre .1)) .short)
+add-above c = omega (arith, (c .before .before .before .before .measured .ensures (c .before .before .before .before .before .before .before .before .before .before .before .before .args .ws .now) (c .before .before .before .before .before .before .before .before .before .before .before .before .args .val .now) (c .before .before .before .before .before .before .before .before .before .before .before .before .pre .1)) .few, (c .before .before .before .before .measured .ensures (c .before .before .before .before .before .before .before .before .before .before .before .before .args .ws .now) (c .before .before .before .before .before .before .before .before .before .before .before .before .args .val .now) (c .before .before .before .before .before .before .before .before .before .before .before .before .pre .1)) .short, (c .before .before .measured2 .ensures (c .before .before .before .before .before .before .before .before .before .before .before .before .args .ws .now) (c .before .before .before .before .before .before .before .before .before .before .before .before .args .val .now) (c .before .before .before .before .before .before .before .before .before .before .before .before .pre .1)) .few, (c .before .before .measured2 .ensures (c .before .before .before .before .before .before .before .before .before .before .before .before .args .ws .now) (c .before .before .before .before .before .before .before .before .before .before .before .before .args .val .now) (c .before .before .before .before .before .before .before .before .before .before .before .before .pre .1)) .short)
 
 higher-requires : tie.Need-higher-requires
 higher-requires c κs = search needs
 
 add-above-2 : tie.Need-add-above-2
-add-above-2 c = omega (arith, (c .before .before .before .before .before .before .before .measured .ensures (c .before .before .before .before .before .before .before .before .before .before .before .before .before .before .before .before .before .args .ws .now) (c .before .before .before .before .before .before .before .before .before .before .before .before .before .before .before .before .before .args .val .now) (c .before .before .before .before .before .before .before .before .before .before .before .before .before .before .before .before .before .pre .1)) .few, (c .before .before .before .before .before .before .before .measured .ensures (c .before .before .before .before .before .before .before .before .before .before .before .before .before .before .before .before .before .args .ws .now) (c .before .before .before .before .before .before .before .before .before .before .before .before .before .before .before .before .before .args .val .now) (c .before .before .before .before .before .before .before .before .before .before .before .before .before .before .before .before .before .pre .1)) .short, (c .before .before .before .before .before .measured2 .ensures (c .before .before .before .before .before .before .before .before .before .before .before .before .before .before .before .before .before .args .ws .now) (c .before .before .before .before .before .before .before .before .before .before .before .before .before .before .before .before .before .args .val .now) (c .before .before .before .before .before .before .before .before .before .before .before .before .before .before .before .before .before .pre .1)) .few, (c .before .before .before .before .before .measured2 .ensures (c .before .before .before .before .before .before .before .before .before .before .before .before .before .before .before .before .before .args .ws .now) (c .before .before .before .before .before .before .before .before .before .before .before .before .before .before .before .before .before .args .val .now) (c .before .before .before .before .before .before .before .before .before .before .before .before .before .before .before .before .before .pre .1)) .short)
+add-above-2 c = omega (arith, (c .before .before .before .before .before .before .before .measured .ensures (c .before .before .before .before .before .before .before .before .before .before .before .before .before .before .before .args .ws .now) (c .before .before .before .before .before .before .before .before .before .before .before .before .before .before .before .args .val .now) (c .before .before .before .before .before .before .before .before .before .before .before .before .before .before .before .pre .1)) .few, (c .before .before .before .before .before .before .before .measured .ensures (c .before .before .before .before .before .before .before .before .before .before .before .before .before .before .before .args .ws .now) (c .before .before .before .before .before .before .before .before .before .before .before .before .before .before .before .args .val .now) (c .before .before .before .before .before .before .before .before .before .before .before .before .before .before .before .pre .1)) .short, (c .before .before .before .before .before .measured2 .ensures (c .before .before .before .before .before .before .before .before .before .before .before .before .before .before .before .args .ws .now) (c .before .before .before .before .before .before .before .before .before .before .before .before .before .before .before .args .val .now) (c .before .before .before .before .before .before .before .before .before .before .before .before .before .before .before .pre .1)) .few, (c .before .before .before .before .before .measured2 .ensures (c .before .before .before .before .before .before .before .before .before .before .before .before .before .before .before .args .ws .now) (c .before .before .before .before .before .before .before .before .before .before .before .before .before .before .before .args .val .now) (c .before .before .before .before .before .before .before .before .before .before .before .before .before .before .before .pre .1)) .short)
 
 above-requires : tie.Need-above-requires
-above-requires c κs = (omega (arith, (c .before .before .before .before .before .before .before .measured .ensures (c .before .before .before .before .before .before .before .before .before .before .before .before .before .before .before .before .before .args .ws .now) (c .before .before .before .before .before .before .before .before .before .before .before .before .before .before .before .before .before .args .val .now) (c .before .before .before .before .before .before .before .before .before .before .before .before .before .before .before .before .before .pre .1)) .few, (c .before .before .before .before .before .before .before .measured .ensures (c .before .before .before .before .before .before .before .before .before .before .before .before .before .before .before .before .before .args .ws .now) (c .before .before .before .before .before .before .before .before .before .before .before .before .before .before .before .before .before .args .val .now) (c .before .before .before .before .before .before .before .before .before .before .before .before .before .before .before .before .before .pre .1)) .short, (c .before .before .before .before .before .measured2 .ensures (c .before .before .before .before .before .before .before .before .before .before .before .before .before .before .before .before .before .args .ws .now) (c .before .before .before .before .before .before .before .before .before .before .before .before .before .before .before .before .before .args .val .now) (c .before .before .before .before .before .before .before .before .before .before .before .before .before .before .before .before .before .pre .1)) .few, (c .before .before .before .before .before .measured2 .ensures (c .before .before .before .before .before .before .before .before .before .before .before .before .before .before .before .before .before .args .ws .now) (c .before .before .before .before .before .before .before .before .before .before .before .before .before .before .before .before .before .args .val .now) (c .before .before .before .before .before .before .before .before .before .before .before .before .before .before .before .before .before .pre .1)) .short), (rw (c .before .before .higher .ensures) (highest-low (c .before .before .before .before .before .before .before .measured .result .levels) (c .before .before .before .before .before .measured2 .result .levels) 65 ((c .before .before .before .before .before .before .before .measured .ensures (c .before .before .before .before .before .before .before .before .before .before .before .before .before .before .before .before .before .args .ws .now) (c .before .before .before .before .before .before .before .before .before .before .before .before .before .before .before .before .before .args .val .now) (c .before .before .before .before .before .before .before .before .before .before .before .before .before .before .before .before .before .pre .1)) .levels) ((c .before .before .before .before .before .measured2 .ensures (c .before .before .before .before .before .before .before .before .before .before .before .before .before .before .before .before .before .args .ws .now) (c .before .before .before .before .before .before .before .before .before .before .before .before .before .before .before .before .before .args .val .now) (c .before .before .before .before .before .before .before .before .before .before .before .before .before .before .before .before .before .pre .1)) .levels)), omega (arith, (c .before .before .before .before .before .before .before .measured .ensures (c .before .before .before .before .before .before .before .before .before .before .before .before .before .before .before .before .before .args .ws .now) (c .before .before .before .before .before .before .before .before .before .before .before .before .before .before .before .before .before .args .val .now) (c .before .before .before .before .before .before .before .before .before .before .before .before .before .before .before .before .before .pre .1)) .few, (c .before .before .before .before .before .before .before .measured .ensures (c .before .before .before .before .before .before .before .before .before .before .before .before .before .before .before .before .before .args .ws .now) (c .before .before .before .before .before .before .before .before .before .before .before .before .before .before .before .before .before .args .val .now) (c .before .before .before .before .before .before .before .before .before .before .before .before .before .before .before .before .before .pre .1)) .short, (c .before .before .before .before .before .measured2 .ensures (c .before .before .before .before .before .before .before .before .before .before .before .before .before .before .before .before .before .args .ws .now) (c .before .before .before .before .before .before .before .before .before .before .before .before .before .before .before .before .before .args .val .now) (c .before .before .before .before .before .before .before .before .before .before .before .before .before .before .before .before .before .pre .1)) .few, (c .before .before .before .before .before .measured2 .ensures (c .before .before .before .before .before .before .before .before .before .before .before .before .before .before .before .before .before .args .ws .now) (c .before .before .before .before .before .before .before .before .before .before .before .before .before .before .before .before .before .args .val .now) (c .before .before .before .before .before .before .before .before .before .before .before .before .before .before .before .before .before .pre .1)) .short)))
+above-requires c κs = (omega (arith, (c .before .before .before .before .before .before .before .measured .ensures (c .before .before .before .before .before .before .before .before .before .before .before .before .before .before .before .args .ws .now) (c .before .before .before .before .before .before .before .before .before .before .before .before .before .before .before .args .val .now) (c .before .before .before .before .before .before .before .before .before .before .before .before .before .before .before .pre .1)) .few, (c .before .before .before .before .before .before .before .measured .ensures (c .before .before .before .before .before .before .before .before .before .before .before .before .before .before .before .args .ws .now) (c .before .before .before .before .before .before .before .before .before .before .before .before .before .before .before .args .val .now) (c .before .before .before .before .before .before .before .before .before .before .before .before .before .before .before .pre .1)) .short, (c .before .before .before .before .before .measured2 .ensures (c .before .before .before .before .before .before .before .before .before .before .before .before .before .before .before .args .ws .now) (c .before .before .before .before .before .before .before .before .before .before .before .before .before .before .before .args .val .now) (c .before .before .before .before .before .before .before .before .before .before .before .before .before .before .before .pre .1)) .few, (c .before .before .before .before .before .measured2 .ensures (c .before .before .before .before .before .before .before .before .before .before .before .before .before .before .before .args .ws .now) (c .before .before .before .before .before .before .before .before .before .before .before .before .before .before .before .args .val .now) (c .before .before .before .before .before .before .before .before .before .before .before .before .before .before .before .pre .1)) .short), (rw (c .before .before .higher .ensures) (highest-low (c .before .before .before .before .before .before .before .measured .result .levels) (c .before .before .before .before .before .measured2 .result .levels) 65 ((c .before .before .before .before .before .before .before .measured .ensures (c .before .before .before .before .before .before .before .before .before .before .before .before .before .before .before .args .ws .now) (c .before .before .before .before .before .before .before .before .before .before .before .before .before .before .before .args .val .now) (c .before .before .before .before .before .before .before .before .before .before .before .before .before .before .before .pre .1)) .levels) ((c .before .before .before .before .before .measured2 .ensures (c .before .before .before .before .before .before .before .before .before .before .before .before .before .before .before .args .ws .now) (c .before .before .before .before .before .before .before .before .before .before .before .before .before .before .before .args .val .now) (c .before .before .before .before .before .before .before .before .before .before .before .before .before .before .before .pre .1)) .levels)), omega (arith, (c .before .before .before .before .before .before .before .measured .ensures (c .before .before .before .before .before .before .before .before .before .before .before .before .before .before .before .args .ws .now) (c .before .before .before .before .before .before .before .before .before .before .before .before .before .before .before .args .val .now) (c .before .before .before .before .before .before .before .before .before .before .before .before .before .before .before .pre .1)) .few, (c .before .before .before .before .before .before .before .measured .ensures (c .before .before .before .before .before .before .before .before .before .before .before .before .before .before .before .args .ws .now) (c .before .before .before .before .before .before .before .before .before .before .before .before .before .before .before .args .val .now) (c .before .before .before .before .before .before .before .before .before .before .before .before .before .before .before .pre .1)) .short, (c .before .before .before .before .before .measured2 .ensures (c .before .before .before .before .before .before .before .before .before .before .before .before .before .before .before .args .ws .now) (c .before .before .before .before .before .before .before .before .before .before .before .before .before .before .before .args .val .now) (c .before .before .before .before .before .before .before .before .before .before .before .before .before .before .before .pre .1)) .few, (c .before .before .before .before .before .measured2 .ensures (c .before .before .before .before .before .before .before .before .before .before .before .before .before .before .before .args .ws .now) (c .before .before .before .before .before .before .before .before .before .before .before .before .before .before .before .args .val .now) (c .before .before .before .before .before .before .before .before .before .before .before .before .before .before .before .pre .1)) .short)))
 
 enum-told-2 : tie.Need-enum-told-2
 enum-told-2 c = search needs
@@ -90,7 +90,7 @@ measured-requires-3 : tie.Need-measured-requires-3
 measured-requires-3 c κs = search needs
 
 above-requires-2 : tie.Need-above-requires-2
-above-requires-2 c κs = (omega (arith, (c .measured3 .ensures (c .before .before .before .before .before .before .before .before .before .before .args .ws .now) (c .before .before .before .before .before .before .before .before .before .before .args .val .now) (c .before .before .before .before .before .before .before .before .before .before .pre .1)) .few), ((c .measured3 .ensures (c .before .before .before .before .before .before .before .before .before .before .args .ws .now) (c .before .before .before .before .before .before .before .before .before .before .args .val .now) (c .before .before .before .before .before .before .before .before .before .before .pre .1)) .levels, omega (arith, (c .measured3 .ensures (c .before .before .before .before .before .before .before .before .before .before .args .ws .now) (c .before .before .before .before .before .before .before .before .before .before .args .val .now) (c .before .before .before .before .before .before .before .before .before .before .pre .1)) .few, (c .measured3 .ensures (c .before .before .before .before .before .before .before .before .before .before .args .ws .now) (c .before .before .before .before .before .before .before .before .before .before .args .val .now) (c .before .before .before .before .before .before .before .before .before .before .pre .1)) .short)))
+above-requires-2 c κs = (omega (arith, (c .measured3 .ensures (c .before .before .before .before .before .before .before .before .args .ws .now) (c .before .before .before .before .before .before .before .before .args .val .now) (c .before .before .before .before .before .before .before .before .pre .1)) .few), ((c .measured3 .ensures (c .before .before .before .before .before .before .before .before .args .ws .now) (c .before .before .before .before .before .before .before .before .args .val .now) (c .before .before .before .before .before .before .before .before .pre .1)) .levels, omega (arith, (c .measured3 .ensures (c .before .before .before .before .before .before .before .before .args .ws .now) (c .before .before .before .before .before .before .before .before .args .val .now) (c .before .before .before .before .before .before .before .before .pre .1)) .few, (c .measured3 .ensures (c .before .before .before .before .before .before .before .before .args .ws .now) (c .before .before .before .before .before .before .before .before .args .val .now) (c .before .before .before .before .before .before .before .before .pre .1)) .short)))
 
 enum-told-3 : tie.Need-enum-told-3
 enum-told-3 c = search needs
@@ -123,19 +123,19 @@ leaf-requires : tie.Need-leaf-requires
 leaf-requires c κs = search needs
 
 returns-2 : tie.Need-returns-2
-returns-2 c = stands-two (c .before .before .before .before .before .before .before .before .before .before .before .before .before .before .before .before .before .before .args .ws .now) (c .before .before .before .before .before .before .before .before .before .before .before .before .before .before .before .before .before .before .args .val .now) (c .before .before .before .before .before .before .before .before .before .before .before .before .before .before .before .before .before .before .args .i) (c .before .before .before .before .before .before .before .before .before .before .before .before .kind-of .result) (c .before .before .before .before .before .before .before .before .before .before .before .before .before .if1 .left) (c .before .before .before .before .before .before .before .before .before .before .before .before .kind-of .ensures) _ (c .before .before .before .before .before .before .before .before .before .before .enum-told .given .1) (c .before .before .before .before .before .before .before .before .measured .result) (c .before .before .before .before .before .before .measured2 .result) (c .before .before .before .before .before .before .before .before .measured .ensures (c .before .before .before .before .before .before .before .before .before .before .before .before .before .before .before .before .before .before .args .ws .now) (c .before .before .before .before .before .before .before .before .before .before .before .before .before .before .before .before .before .before .args .val .now) (c .before .before .before .before .before .before .before .before .before .before .before .before .before .before .before .before .before .before .pre .1)) (c .before .before .before .before .before .before .measured2 .ensures (c .before .before .before .before .before .before .before .before .before .before .before .before .before .before .before .before .before .before .args .ws .now) (c .before .before .before .before .before .before .before .before .before .before .before .before .before .before .before .before .before .before .args .val .now) (c .before .before .before .before .before .before .before .before .before .before .before .before .before .before .before .before .before .before .pre .1)) _ (c .before .before .before .higher .ensures) (c .above .ensures)
+returns-2 c = stands-two (c .before .before .before .before .before .before .before .before .before .before .before .before .before .before .before .before .args .ws .now) (c .before .before .before .before .before .before .before .before .before .before .before .before .before .before .before .before .args .val .now) (c .before .before .before .before .before .before .before .before .before .before .before .before .before .before .before .before .args .i) (c .before .before .before .before .before .before .before .before .before .before .before .before .kind-of .result) (c .before .before .before .before .before .before .before .before .before .before .before .before .before .if1 .left) (c .before .before .before .before .before .before .before .before .before .before .before .before .kind-of .ensures) _ (c .before .before .before .before .before .before .before .before .before .before .enum-told .given .1) (c .before .before .before .before .before .before .before .before .measured .result) (c .before .before .before .before .before .before .measured2 .result) (c .before .before .before .before .before .before .before .before .measured .ensures (c .before .before .before .before .before .before .before .before .before .before .before .before .before .before .before .before .args .ws .now) (c .before .before .before .before .before .before .before .before .before .before .before .before .before .before .before .before .args .val .now) (c .before .before .before .before .before .before .before .before .before .before .before .before .before .before .before .before .pre .1)) (c .before .before .before .before .before .before .measured2 .ensures (c .before .before .before .before .before .before .before .before .before .before .before .before .before .before .before .before .args .ws .now) (c .before .before .before .before .before .before .before .before .before .before .before .before .before .before .before .before .args .val .now) (c .before .before .before .before .before .before .before .before .before .before .before .before .before .before .before .before .pre .1)) _ (c .before .before .before .higher .ensures) (c .above .ensures)
 
 returns-3 : tie.Need-returns-3
-returns-3 c = stands-one (c .before .before .before .before .before .before .before .before .before .before .before .args .ws .now) (c .before .before .before .before .before .before .before .before .before .before .before .args .val .now) (c .before .before .before .before .before .before .before .before .before .before .before .args .i) (c .before .before .before .before .before .kind-of .result) (c .before .before .before .before .before .before .if1 .left) (c .before .before .before .before .before .kind-of .ensures) _ (c .before .before .before .enum-told2 .given .1) (c .before .measured3 .result) (c .before .measured3 .ensures (c .before .before .before .before .before .before .before .before .before .before .before .args .ws .now) (c .before .before .before .before .before .before .before .before .before .before .before .args .val .now) (c .before .before .before .before .before .before .before .before .before .before .before .pre .1)) (c .above2 .ensures)
+returns-3 c = stands-one (c .before .before .before .before .before .before .before .before .before .args .ws .now) (c .before .before .before .before .before .before .before .before .before .args .val .now) (c .before .before .before .before .before .before .before .before .before .args .i) (c .before .before .before .before .before .kind-of .result) (c .before .before .before .before .before .before .if1 .left) (c .before .before .before .before .before .kind-of .ensures) _ (c .before .before .before .enum-told2 .given .1) (c .before .measured3 .result) (c .before .measured3 .ensures (c .before .before .before .before .before .before .before .before .before .args .ws .now) (c .before .before .before .before .before .before .before .before .before .args .val .now) (c .before .before .before .before .before .before .before .before .before .pre .1)) (c .above2 .ensures)
 
 returns-4 : tie.Need-returns-4
-returns-4 c = stands-imm16 (c .before .before .before .before .before .before .before .before .before .before .args .ws .now) (c .before .before .before .before .before .before .before .before .before .before .args .val .now) (c .before .before .before .before .before .before .before .before .before .before .args .i) (c .before .before .before .before .kind-of .result) (c .before .before .before .before .before .if1 .left) (c .before .before .before .before .kind-of .ensures) (c .before .before .enum-told3 .given .1) (zig-low _ (record { sfits = c .before .measure-imm-arg .given })) (rw (toZ-ofZ {w = w32} (record { sfits = c .before .measure-imm-arg .given })) at (c .measure-imm .ensures))
+returns-4 c = stands-imm16 (c .before .before .before .before .before .before .before .before .args .ws .now) (c .before .before .before .before .before .before .before .before .args .val .now) (c .before .before .before .before .before .before .before .before .args .i) (c .before .before .before .before .kind-of .result) (c .before .before .before .before .before .if1 .left) (c .before .before .before .before .kind-of .ensures) (c .before .before .enum-told3 .given .1) (zig-low _ (record { sfits = c .before .measure-imm-arg .given })) (rw (toZ-ofZ {w = w32} (record { sfits = c .before .measure-imm-arg .given })) at (c .measure-imm .ensures))
 
 returns-5 : tie.Need-returns-5
-returns-5 c = stands-imm32 (c .before .before .before .before .before .before .before .before .before .before .args .ws .now) (c .before .before .before .before .before .before .before .before .before .before .args .val .now) (c .before .before .before .before .before .before .before .before .before .before .args .i) (c .before .before .before .before .kind-of .result) (c .before .before .before .before .before .if1 .left) (c .before .before .before .before .kind-of .ensures) (c .before .before .enum-told4 .given .1) (zig-low _ (record { sfits = c .before .measure-imm-arg2 .given })) (rw (toZ-ofZ {w = w32} (record { sfits = c .before .measure-imm-arg2 .given })) at (c .measure-imm2 .ensures))
+returns-5 c = stands-imm32 (c .before .before .before .before .before .before .before .before .args .ws .now) (c .before .before .before .before .before .before .before .before .args .val .now) (c .before .before .before .before .before .before .before .before .args .i) (c .before .before .before .before .kind-of .result) (c .before .before .before .before .before .if1 .left) (c .before .before .before .before .kind-of .ensures) (c .before .before .enum-told4 .given .1) (zig-low _ (record { sfits = c .before .measure-imm-arg2 .given })) (rw (toZ-ofZ {w = w32} (record { sfits = c .before .measure-imm-arg2 .given })) at (c .measure-imm2 .ensures))
 
 returns-6 : tie.Need-returns-6
-returns-6 c = stands-other (c .before .before .before .before .before .before .before .before .before .args .ws .now) (c .before .before .before .before .before .before .before .before .before .args .val .now) (c .before .before .before .before .before .before .before .before .before .args .i) (c .before .before .before .kind-of .result) (c .before .before .before .before .if1 .left) (c .before .before .before .kind-of .ensures) (c .before .enum-told5 .given .1) (c .leaf .ensures)
+returns-6 c = stands-other (c .before .before .before .before .before .before .before .args .ws .now) (c .before .before .before .before .before .before .before .args .val .now) (c .before .before .before .before .before .before .before .args .i) (c .before .before .before .kind-of .result) (c .before .before .before .before .if1 .left) (c .before .before .before .kind-of .ensures) (c .before .enum-told5 .given .1) (c .leaf .ensures)
 
 pub measure-node-spec : {M : Type 1} → statement M
 measure-node-spec =
