@@ -20,7 +20,7 @@ use Rattle.model.specs.Laws.Reading.{passed}
 use Rattle.model.specs.Laws.Refused.{Proper, proper-cond, proper-within}
 use Rattle.model.specs.Laws.Checks.{and-left, and-right}
 use Rattle.memory.specs.RecordLaws.{judged-sound}
-use Rattle.judge.specs.Told.{Kept}
+use Rattle.terms.specs.Told.{Kept}
 use Rattle.judge.specs.Stages.{Accepted, JudgedAs}
 use Rattle.judge.specs.declared.Judged.{Judged}
 use Rattle.judge.specs.declared.Judged.the-variants.{Fine, No}

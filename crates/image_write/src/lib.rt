@@ -6,17 +6,17 @@ ghost use Rattle.model.specs.Laws.Reading.{room};
 ghost use Rattle.model.specs.Memory.{nodesIn, memoryIn};
 ghost use Rattle.model.specs.Record.{nodeImage, rootImage, commandTail, commandImageIn, commandsImageIn, blockTail, blocksImageIn, recordImage};
 ghost use Rattle.model.specs.RecordCalls.{writeIn};
-ghost use Rattle.judge.specs.Told.{nodesBy, codedBy, memoryBy, KeptBy};
-ghost use Rattle.judge.specs.Stages.{blockImageIn};
+ghost use Rattle.terms.specs.Told.{nodesBy};
+ghost use Rattle.judge.specs.Stages.{codedBy, memoryBy, KeptBy, blockImageIn};
 ghost use Rattle.image_write.specs.Stored.{Stored, Room};
 ghost use Rattle.image_write.specs.Call.{wrote, lengthIn};
 use judge::Judged;
-use judge::folded;
 use judge::judge_record;
 use memory::Counts;
 use memory::index_of;
 use memory::kind_of;
 use model::Kind;
+use terms::folded;
 
 // The refusal's number, or 0 and the length of the image in bytes.
 pub struct Written {

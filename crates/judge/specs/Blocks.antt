@@ -14,13 +14,13 @@ use Rattle.model.specs.Memory.{Memory, blockWord}
 use Rattle.model.specs.Record.{commandsImageIn, blockTail}
 use Rattle.model.specs.Laws.Reading.{read-word}
 use Rattle.model.specs.Laws.Image.{said-commands}
-use Rattle.judge.specs.Told.{ShortWord, Good, Told, uncounted}
-use Rattle.judge.specs.Numbers.{read-over, word-1}
-use Rattle.judge.specs.Pieces.{none, good-of, no-of, looser, first-no, paired}
+use Rattle.terms.specs.Told.{ShortWord, Good, Told}
+use Rattle.terms.specs.Numbers.{read-over, word-1}
+use Rattle.terms.specs.Pieces.{none, good-of, no-of, looser, first-no, paired}
 use Rattle.judge.specs.Commands.{code-word}
-use Rattle.judge.specs.Stages.{both, readLinks, GoodBlock, Shows, Staged}
-use Rattle.judge.specs.declared.Step.{Step}
-use Rattle.judge.specs.declared.Step.the-variants.{Fine, No}
+use Rattle.judge.specs.Stages.{uncounted, both, readLinks, GoodBlock, Shows, Staged}
+use Rattle.terms.specs.declared.Step.{Step}
+use Rattle.terms.specs.declared.Step.the-variants.{Fine, No}
 use Rattle.judge.specs.declared.Stage.{Stage}
 use Rattle.judge.specs.declared.Stage.the-variants.{Fine as Passed, No as Stopped}
 

@@ -9,11 +9,11 @@ use Rattle.model.specs.Script.{Command, commandNodes, commandsNodes}
 use Rattle.model.specs.Image.{Limits, readCommand, readCommands}
 use Rattle.model.specs.Memory.{Coded}
 use Rattle.model.specs.Record.{commandImageIn, commandsImageIn}
-use Rattle.judge.specs.Told.{Good, Told}
-use Rattle.judge.specs.Pieces.{fine, none, good-of, no-of, first-no}
+use Rattle.terms.specs.Told.{Good, Told}
+use Rattle.terms.specs.Pieces.{fine, none, good-of, no-of, first-no}
 use Rattle.judge.specs.Loop.{Part, Next, part-start, part-next, part-no, part-done, part-bytes}
-use Rattle.judge.specs.declared.Step.{Step}
-use Rattle.judge.specs.declared.Step.the-variants.{Fine, No}
+use Rattle.terms.specs.declared.Step.{Step}
+use Rattle.terms.specs.declared.Step.the-variants.{Fine, No}
 
 -- of h commands from the first on i were judged
 pub record Walked (l : Limits) (co : Coded) (h first n at i k p : ℕ) : Type 0 where

@@ -8,19 +8,15 @@ use lib.ListN.{getD}
 use Rattle.model.specs.Reading.{got, word}
 use Rattle.model.specs.Expr.{size}
 use Rattle.model.specs.Script.{Command, return, goto, setVariable, setOther, ifElse, endIf, otherCommand, commandNodes}
-use Rattle.model.specs.Image.{Limits, readTerm, readExpr, readBlockNo, setOf, commandOf, readCommand}
+use Rattle.model.specs.Image.{Limits, readTerm, readBlockNo, setOf, commandOf, readCommand}
 use Rattle.model.specs.Memory.{Nodes, Coded, commandWord}
-use Rattle.model.specs.Record.{nodeImage, rootImage, targetImage, commandTail, commandImageIn}
-use Rattle.judge.specs.Told.{Told, uncounted}
-use Rattle.judge.specs.Numbers.{read-over, word-1}
-use Rattle.judge.specs.Pieces.{fine, none, good-of, no-of, looser, headed, wrapped, first-no, paired}
-use Rattle.judge.specs.declared.Step.{Step}
-use Rattle.judge.specs.declared.Step.the-variants.{Fine, No}
-
--- a command's expression is the node at its root
-pub term-told : (l : Limits) (ns : Nodes) (i n at : ℕ) {r : Step} → ns .count ≡ l .nodes → Told (readExpr (l .nodes) 64 n) size (nodeImage ns (ns .count) i) (l .nodes) 0 n at r → Told (readTerm l n) size (rootImage ns i) (l .nodes) 0 n at r
-unfolding readTerm rootImage
-term-told l ns i n at e p = p
+use Rattle.model.specs.Record.{rootImage, targetImage, commandTail, commandImageIn}
+use Rattle.terms.specs.Told.{Told}
+use Rattle.judge.specs.Stages.{uncounted}
+use Rattle.terms.specs.Numbers.{read-over, word-1}
+use Rattle.terms.specs.Pieces.{fine, none, good-of, no-of, looser, headed, wrapped, first-no, paired}
+use Rattle.terms.specs.declared.Step.{Step}
+use Rattle.terms.specs.declared.Step.the-variants.{Fine, No}
 
 module _ (l : Limits) where
   -- target and value

@@ -10,9 +10,10 @@ use Rattle.model.specs.Reading.{got, refused, word}
 use Rattle.model.specs.Image.{readBlockNo, linkOf, readLink}
 use Rattle.model.specs.Memory.{linkIn}
 use Rattle.model.specs.Laws.Reading.{read-word}
-use Rattle.judge.specs.Told.{ShortWord, Told, uncounted}
-use Rattle.judge.specs.Pieces.{fine, none}
-use Rattle.judge.specs.declared.Step.the-variants.{Fine, No}
+use Rattle.terms.specs.Told.{ShortWord, Told}
+use Rattle.judge.specs.Stages.{uncounted}
+use Rattle.terms.specs.Pieces.{fine, none}
+use Rattle.terms.specs.declared.Step.the-variants.{Fine, No}
 
 link-read : (b k : ℕ) (t : List ℕ) → k ≤ b → linkOf b k t ≡ got (linkIn k) t
 unfolding linkOf

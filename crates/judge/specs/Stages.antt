@@ -1,20 +1,38 @@
--- What the judge promises of blocks and of the whole record: the answer is what reading the image gives. Assumes nothing: these are definitions.
+-- What the judge promises of commands, of blocks and of the whole record: the answer is what reading the image gives. Assumes nothing: these are definitions.
 use mathlib.Core.Path.{_≡_}
 use mathlib.Core.Option.{Option}
 use mathlib.Core.List.{List, [], _++_}
 use Prim.Native.Nat.{ℕ, _+_, _*_, _≤_, _<_}
+use lib.IntN.{ℤ}
 use lib.ListN.{length}
 use Rattle.memory.specs.declared.Counts.{Counts}
 use Rattle.model.specs.Reading.{Answer, got, refused, onward, word}
 use Rattle.model.specs.Script.{Block, blockNodes, blockCommands}
 use Rattle.model.specs.Image.{image, readLink}
-use Rattle.model.specs.Memory.{Memory, blockWord}
+use Rattle.model.specs.Memory.{Coded, Memory, codedIn, memoryIn, blockWord}
 use Rattle.model.specs.Record.{blockTail, recordImage, judgedRecord}
-use Rattle.judge.specs.Told.{Kept}
+use Rattle.terms.specs.Told.{Kept}
 use Rattle.judge.specs.declared.Stage.{Stage}
 use Rattle.judge.specs.declared.Stage.the-variants.{Fine as Passed, No as Stopped}
 use Rattle.judge.specs.declared.Judged.{Judged}
 use Rattle.judge.specs.declared.Judged.the-variants.{Fine, No}
+
+-- ---- a record as the functions get it: arrays, and the kept counts by value
+
+abbrev pub codedBy : List ℕ → List ℤ → List ℕ → Counts → Coded
+codedBy ws vs cw k = codedIn ws vs cw (k .nodes) (k .commands)
+
+abbrev pub memoryBy : List ℕ → List ℤ → List ℕ → List ℕ → Counts → Memory
+memoryBy ws vs cw bw k = memoryIn ws vs cw bw (k .nodes) (k .commands) (k .blocks)
+
+abbrev pub KeptBy : Counts → Type 0
+KeptBy k = Kept (k .nodes) (k .commands) (k .blocks)
+
+-- ---- commands and blocks
+
+-- what holds no nodes
+abbrev pub uncounted : {A : Type 0} → A → ℕ
+uncounted a = 0
 
 -- next and else, one after the other
 abbrev pub Links : Type 0

@@ -13,7 +13,7 @@ use Rattle.model.specs.Memory.{Memory, blockWord}
 use Rattle.model.specs.Record.{blockTail, blocksImageIn, recordImage, keptOk, judgedRecord}
 use Rattle.model.specs.Laws.Reading.{read-word}
 use Rattle.model.specs.Laws.Image.{write-image}
-use Rattle.judge.specs.Told.{Kept, ShortWord}
+use Rattle.terms.specs.Told.{Kept, ShortWord}
 use Rattle.judge.specs.Loop.{Part, Next, part-start, part-next, part-no, part-done, part-bytes}
 use Rattle.judge.specs.Stages.{GoodBlock, Staged, JudgedAs}
 use Rattle.judge.specs.Blocks.{block-of, stop-of}

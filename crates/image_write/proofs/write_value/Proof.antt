@@ -2,7 +2,7 @@
 use mathlib.Core.Path.{_≡_, ap, sym}
 use mir.Facts.{toZ-ofZ}
 use Rattle.model.specs.Reading.{word, zig}
-use Rattle.judge.specs.Numbers.{zig-low}
+use Rattle.terms.specs.Numbers.{zig-low}
 use Rattle.image_write.specs.Stored.{stored-as}
 use native.Mathlib.Omega.{arith}
 use borrow.Author.Needs.{needs}

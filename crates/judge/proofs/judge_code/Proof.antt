@@ -1,7 +1,7 @@
 -- `judge::judge_code` meets its contract: count, commands, next and else in turn. Assumes nothing.
 use Rattle.model.specs.Image.{limits}
 use Rattle.model.specs.Memory.{memoryIn}
-use Rattle.judge.specs.Pieces.{good-of}
+use Rattle.terms.specs.Pieces.{good-of}
 use Rattle.judge.specs.Blocks.{code-over, code-no, code-link-no, code-told}
 use native.Mathlib.Omega.{arith}
 use borrow.Author.Needs.{needs}

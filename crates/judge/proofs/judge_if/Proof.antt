@@ -1,7 +1,7 @@
 -- `judge::judge_if` meets its contract. Assumes nothing.
 use Rattle.model.specs.Image.{limits}
 use Rattle.model.specs.Memory.{codedIn}
-use Rattle.judge.specs.Pieces.{good-of}
+use Rattle.terms.specs.Pieces.{good-of}
 use Rattle.judge.specs.Commands.{if-told, if-no}
 use native.Mathlib.Omega.{arith}
 use borrow.Author.Needs.{needs}

@@ -1,5 +1,5 @@
 -- `judge::judge_links` meets its contract. Assumes nothing.
-use Rattle.judge.specs.Pieces.{good-of}
+use Rattle.terms.specs.Pieces.{good-of}
 use Rattle.judge.specs.Blocks.{links-told, links-no}
 use native.Mathlib.Omega.{arith}
 use borrow.Author.Needs.{needs}

@@ -1,7 +1,7 @@
 -- `judge::judge_pair` meets its contract. Assumes nothing.
 use Rattle.model.specs.Image.{limits}
 use Rattle.model.specs.Memory.{nodesIn}
-use Rattle.judge.specs.Pieces.{good-of}
+use Rattle.terms.specs.Pieces.{good-of}
 use Rattle.judge.specs.Commands.{pair-told, pair-no}
 use native.Mathlib.Omega.{arith}
 use borrow.Author.Needs.{needs}

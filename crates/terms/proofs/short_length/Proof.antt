@@ -1,0 +1,15 @@
+-- `terms::short_length` meets its contract. Assumes nothing.
+use native.Mathlib.Omega.{arith}
+use Rattle.terms.specs.Numbers.{short-word}
+use borrow.Author.Needs.{needs}
+use Rattle.terms.proofs.short_length.Statement.{statement}
+use Rattle.terms.proofs.short_length.Tie as tie
+
+word-length-requires : tie.Need-word-length-requires
+word-length-requires c κs = search needs
+
+returns : tie.Need-returns
+returns c = short-word _ _ (omega (arith, c .before .fits .x)) (c .word-length .ensures)
+
+pub short-length-spec : {M : Type 1} → statement M
+short-length-spec = tie.close (tie.spec word-length-requires returns)

@@ -1,0 +1,6 @@
+-- The promises of expressions and the laws that carry them. Assumes nothing.
+pub mod Told
+pub mod Numbers
+pub mod Pieces
+pub mod Nodes
+pub mod Measures
