@@ -140,7 +140,7 @@ fn none_hidden() -> Added
 // The negated requirements of the condition c as a set. They are collected only where the block hides a slot: elsewhere none will do.
 fn hidden_of(
     ws: &[u16; 98304],
-    lf: &[u16; 98304],
+    lf: &[u16],
     cells: &[u16; 8192],
     keys: &[u64],
     seen: &mut [bool],
@@ -149,7 +149,7 @@ fn hidden_of(
     c: usize,
     t: VarTable,
 ) -> Added
-    requires { ⌜ ((n ≤ 32768) × (c ≤ 8192)) × (((keyed < 32768) × (2 * keyed + 2 ≤ length (now seen))) × Keys (now keys) keyed) ⌝ }
+    requires { ⌜ (((n ≤ 32768) × (n ≤ length (now lf))) × (c ≤ 8192)) × (((keyed < 32768) × (2 * keyed + 2 ≤ length (now seen))) × Keys (now keys) keyed) ⌝ }
     ensures { λ r. ⌜ (r .reqs .len ≤ entryLimit) × ((h : Sheet) (vs : List ℤ) (k : ℕ) → Listed h (nodesIn (now (ws .entry)) vs k) n (now (keys .entry)) (now (lf .entry)) keyed → Hidden h (parseRequirements h (conditionOf (nodesIn (now (ws .entry)) vs k) n (now (cells .entry)) c)) t r) ⌝ }
 {
     if !hides(t) {
@@ -210,7 +210,7 @@ pub fn visit(
     val: &[i32; 32768],
     cw: &[u16; 65536],
     bw: &[u16; 20480],
-    lf: &[u16; 98304],
+    lf: &[u16],
     keys: &[u64],
     seen: &mut [bool],
     marks: &mut [bool; 4096],
@@ -226,7 +226,7 @@ pub fn visit(
     b: u16,
     c: u16,
 ) -> Visited
-    requires { ⌜ ((keyed < 32768) × (2 * keyed + 2 ≤ length (now seen))) × Keys (now keys) keyed ⌝ }
+    requires { ⌜ (k .nodes ≤ length (now lf)) × (((keyed < 32768) × (2 * keyed + 2 ≤ length (now seen))) × Keys (now keys) keyed) ⌝ }
     requires { ⌜ Open (memoryIn (now ws) (now val) (now cw) (now bw) (k .nodes) (k .commands) (k .blocks)) (now marks) (shopFrom (arraysIn (now items) (now limits) (now codes) (now lens))) w b c ⌝ }
     ensures { λ r. ⌜ ((h : Sheet) → itemCount h ≡ known → KeyedIn h (memoryIn (now (ws .entry)) (now (val .entry)) (now (cw .entry)) (now (bw .entry)) (k .nodes) (k .commands) (k .blocks)) (now (keys .entry)) (now (lf .entry)) keyed → Entered h (memoryIn (now (ws .entry)) (now (val .entry)) (now (cw .entry)) (now (bw .entry)) (k .nodes) (k .commands) (k .blocks)) (now (marks .entry)) (now (cells .entry)) (shopFrom (arraysIn (now (items .entry)) (now (limits .entry)) (now (codes .entry)) (now (lens .entry)))) w b c (now (marks .exit)) (now (cells .exit)) (shopFrom (arraysIn (now (items .exit)) (now (limits .exit)) (now (codes .exit)) (now (lens .exit)))) r) ⌝ }
 {
