@@ -6,7 +6,9 @@ use Prim.Native.Nat.{ℕ, zero, suc, _+_, _-_, _*_, _≤_, _<_}
 use native.Mathlib.Omega.{arith}
 use native.Mathlib.Decide.{ℕ-discrete}
 use lib.IntN.{ℤ}
-use lib.ListN.{getD, set, length, length-set}
+use lib.Dec.{ltb}
+use lib.ListN.{getD, set, length, length-set, List·getD-eq-default}
+use borrow.Author.Tests.{ltb-true, ltb-false}
 use lib.Seq.{getD-set-same, getD-set-other}
 use Rattle.model.specs.Requirement.{Requirement}
 use Rattle.model.specs.Sheet.{Sheet}
@@ -93,7 +95,7 @@ module _ (ls : List ℕ) (x : ℕ) (neg : Bool) (at : ℕ) where
   pub appended-full : at ≤ 32769 → 32768 ≤ at → Appended ls x neg at ls 32769
   appended-full l f = record { grown = record { up = l; most = omega arith; same = λ j u. refl }; marks = λ u. absurd (omega arith) }
 
-  pub appended-one : (y : ℕ) → length ls ≡ 98304 → at < 32768 → (x ≡ 0 → ⊥) → y ≡ turned neg x → Appended ls x neg at (set ls (65536 + at) y) (at + 1)
+  pub appended-one : (y : ℕ) → 98304 ≤ length ls → at < 32768 → (x ≡ 0 → ⊥) → y ≡ turned neg x → Appended ls x neg at (set ls (65536 + at) y) (at + 1)
   appended-one y long l n e = record {
     grown = record { up = omega arith; most = omega arith; same = λ j u. getD-set-other ls (65536 + at) j y 0 (λ f. omega arith) };
     marks = λ u m s.
@@ -183,7 +185,7 @@ module _ (ws ls : List ℕ) (n at : ℕ) where
           list-same ws ls ls1 n j at at low (omega arith) (λ k u. x .grown .same k (omega arith)) es (λ k g u. x .grown .same k (omega arith)) (f j l (rw es at o));
     }
 
-    module _ (long : length ls1 ≡ 98304) (lt : i < n) (room : at < 32768) (fits : e ≤ 32768) where
+    module _ (long : 98304 ≤ length ls1) (lt : i < n) (room : at < 32768) (fits : e ≤ 32768) where
       abbrev with-end : List ℕ
       with-end = set ls1 (65536 + at) e
 
@@ -230,15 +232,23 @@ module _ (ws ls : List ℕ) (n at : ℕ) where
 pub unlisted-start : (ls : List ℕ) → Unlisted ls 0 ls
 unlisted-start ls = record { words = λ j l. refl; none = λ i l. absurd (omega arith) }
 
-pub unlisted-on : (ls : List ℕ) (i : ℕ) (ls1 : List ℕ) → length ls1 ≡ 98304 → i < 32768 → Unlisted ls i ls1 → Unlisted ls (i + 1) (set ls1 (32768 + i) 0)
+pub unlisted-on : (ls : List ℕ) (i : ℕ) (ls1 : List ℕ) → 32768 + i < length ls1 → i < 32768 → Unlisted ls i ls1 → Unlisted ls (i + 1) (set ls1 (32768 + i) 0)
 unlisted-on ls i ls1 long l x = record { words = λ j u. getD-set-other ls1 (32768 + i) j 0 0 (λ e. omega arith) ∙ x .words j u; none = λ j u. by j u (ℕ-discrete j i) }
   where
     by : (j : ℕ) → j < i + 1 → Dec (j ≡ i) → startOf (set ls1 (32768 + i) 0) j ≡ 0
-    by j u (yes d) = rw d (getD-set-same ls1 (32768 + i) 0 0 (omega arith))
+    by j u (yes d) = rw d (getD-set-same ls1 (32768 + i) 0 0 long)
     by j u (no d) = getD-set-other ls1 (32768 + i) (32768 + j) 0 0 (λ e. d (omega arith)) ∙ x .none j (omega arith)
 
 pub unlisted-done : (ls : List ℕ) (i : ℕ) (ls1 : List ℕ) (n : ℕ) → n ≤ i → Unlisted ls i ls1 → Unlisted ls n ls1
 unlisted-done ls i ls1 n l x = record { words = x .words; none = λ j u. x .none j (omega arith) }
+
+-- past the end of the array there is no list
+pub unlisted-rest : (ls : List ℕ) (i : ℕ) (ls1 : List ℕ) (n : ℕ) → length ls1 ≤ 32768 + i → Unlisted ls i ls1 → Unlisted ls n ls1
+unlisted-rest ls i ls1 n l x = record { words = x .words; none = λ j u. by j (ltb j i) refl }
+  where
+    by : (j : ℕ) (t : Bool) → ltb j i ≡ t → startOf ls1 j ≡ 0
+    by j true e = x .none j (ltb-true j i e)
+    by j false e = List·getD-eq-default ls1 0 {n = 32768 + j} (omega (arith, ltb-false j i e))
 
 -- lists up to place top, the words of nodes being those of ls
 pub record Flat (ws : List ℕ) (n : ℕ) (ls ls1 : List ℕ) (top : ℕ) : Type 0 where
@@ -264,9 +274,9 @@ flat-done ws ls n ls1 ls2 top l u x h vs c ks m k = record {
 pub list-end : (ls : List ℕ) (i s e : ℕ) → s ≡ startOf ls i → e ≡ getD ls (65536 + s) 0 → e ≡ endOf ls i
 list-end ls i s e p q = q ∙ ap (λ k. getD ls (65536 + k) 0) p
 
-pub list-there : (ls : List ℕ) (n i s e : ℕ) → i < n → s ≡ startOf ls i → e ≡ getD ls (65536 + s) 0 → (s ≡ 0 → ⊥) → s < e → e ≤ 32768
-    → ((i < n) × (0 < startOf ls i)) × ((startOf ls i < endOf ls i) × (endOf ls i ≤ 32768))
-list-there ls n i s e l p q z u v = let f = list-end ls i s e p q in ((l, omega arith), (omega arith, omega arith))
+pub list-there : (ls : List ℕ) (n i s e : ℕ) → i < n → s ≡ startOf ls i → e ≡ getD ls (65536 + s) 0 → (s ≡ 0 → ⊥) → s < e → e ≤ 32768 → 98304 ≤ length ls
+    → ((i < n) × (0 < startOf ls i)) × ((startOf ls i < endOf ls i) × ((endOf ls i ≤ 32768) × (98304 ≤ length ls)))
+list-there ls n i s e l p q z u v w = let f = list-end ls i s e p q in ((l, omega arith), (omega arith, (omega arith, w)))
 
 pub root-marked : (ws ls : List ℕ) (n i : ℕ) (neg : Bool) (s t : List Bool) (from to : ℕ) → i < n → 0 < startOf ls i → from ≡ 65537 + startOf ls i → to ≡ 65536 + endOf ls i
     → t ≡ markedBy ls neg from (to - from) s → (top : ℕ) → Lists ws ls n top → Gathers ws ls n s t (ofNode n i neg)

@@ -83,8 +83,8 @@ fn mark_leaf(seen: &mut [bool], x: u16, neg: bool)
 }
 
 // Node i, below b: And and Or both join, Not toggles.
-fn mark(ws: &[u16; 98304], lf: &[u16; 98304], seen: &mut [bool], b: usize, i: usize, neg: bool)
-    requires { ⌜ b ≤ 32768 ⌝ }
+fn mark(ws: &[u16; 98304], lf: &[u16], seen: &mut [bool], b: usize, i: usize, neg: bool)
+    requires { ⌜ (b ≤ 32768) × (b ≤ length (now lf)) ⌝ }
     ensures { λ _. ⌜ Gathers (now (ws .entry)) (now (lf .entry)) b (now (seen .entry)) (now (seen .exit)) (ofNode b i neg) ⌝ }
 {
     if b <= i {
@@ -103,22 +103,14 @@ fn mark(ws: &[u16; 98304], lf: &[u16; 98304], seen: &mut [bool], b: usize, i: us
     mark_leaf(seen, lf[i], neg);
 }
 
-// ---- lists: word 32768 + i of lf is 0 or the start s of root i's list; at 65536 + s stands its end, and between the two its entries
-
-// The array's length, for the proofs.
-fn known_lists(a: &[u16; 98304]) -> usize
-    ensures { λ _. ⌜ length (now (a .entry)) ≡ 98304 ⌝ }
-{
-    let s: &[u16] = a;
-    s.len()
-}
+// ---- lists: word 32768 + i of lf is 0 or the start s of root i's list; at 65536 + s stands its end, and between the two its entries.
+// A lf of fewer than 98304 words has no lists.
 
 // The word x of a leaf, with its sign, at place at: the place after it; 32769 where there is no room.
-fn append_leaf(lf: &mut [u16; 98304], x: u16, neg: bool, at: usize) -> usize
-    requires { ⌜ at ≤ 32769 ⌝ }
+fn append_leaf(lf: &mut [u16], x: u16, neg: bool, at: usize) -> usize
+    requires { ⌜ (at ≤ 32769) × (98304 ≤ length (now lf)) ⌝ }
     ensures { λ r. ⌜ Appended (now (lf .entry)) x neg at (now (lf .exit)) r ⌝ }
 {
-    known_lists(lf);
     if x == 0 {
         return at;
     }
@@ -130,15 +122,8 @@ fn append_leaf(lf: &mut [u16; 98304], x: u16, neg: bool, at: usize) -> usize
 }
 
 // The entries of node i, below b, from place at on, as mark goes over them: the place after them.
-fn append(
-    ws: &[u16; 98304],
-    lf: &mut [u16; 98304],
-    b: usize,
-    i: usize,
-    neg: bool,
-    at: usize,
-) -> usize
-    requires { ⌜ (b ≤ 32768) × (at ≤ 32769) ⌝ }
+fn append(ws: &[u16; 98304], lf: &mut [u16], b: usize, i: usize, neg: bool, at: usize) -> usize
+    requires { ⌜ (b ≤ 32768) × ((at ≤ 32769) × (98304 ≤ length (now lf))) ⌝ }
     ensures { λ r. ⌜ Appends (now (ws .entry)) (now (lf .entry)) b i neg at (now (lf .exit)) r ⌝ }
 {
     if b <= i {
@@ -158,8 +143,8 @@ fn append(
 
 // The list of root i from place at on: the place after it. A root that has a list keeps it. Room ends in no judged script before the
 // last root: an entry takes two nodes, so that a list is no longer than its If; without a list mark goes over the nodes.
-fn flatten_root(ws: &[u16; 98304], lf: &mut [u16; 98304], n: usize, i: usize, at: usize) -> usize
-    requires { ⌜ n ≤ 32768 ⌝ }
+fn flatten_root(ws: &[u16; 98304], lf: &mut [u16], n: usize, i: usize, at: usize) -> usize
+    requires { ⌜ (n ≤ 32768) × (98304 ≤ length (now lf)) ⌝ }
     ensures { λ r. ⌜ Flattens (now (ws .entry)) n (now (lf .entry)) at (now (lf .exit)) r ⌝ }
 {
     if n <= i {
@@ -175,7 +160,6 @@ fn flatten_root(ws: &[u16; 98304], lf: &mut [u16; 98304], n: usize, i: usize, at
     if 32768 < e {
         return at;
     }
-    known_lists(lf);
     lf[65536 + at] = e as u16;
     lf[32768 + i] = at as u16;
     e
@@ -200,12 +184,12 @@ fn flatten_block(
     ws: &[u16; 98304],
     cw: &[u16; 65536],
     bw: &[u16; 20480],
-    lf: &mut [u16; 98304],
+    lf: &mut [u16],
     n: usize,
     b: usize,
     at: usize,
 ) -> usize
-    requires { ⌜ (n ≤ 32768) × (b < 4096) ⌝ }
+    requires { ⌜ ((n ≤ 32768) × (98304 ≤ length (now lf))) × (b < 4096) ⌝ }
     ensures { λ r. ⌜ Flattens (now (ws .entry)) n (now (lf .entry)) at (now (lf .exit)) r ⌝ }
 {
     if bw[5 * b] != 1 {
@@ -222,14 +206,16 @@ fn flatten_block(
     flatten_root(ws, lf, n, last_root(cw, first, held), at)
 }
 
-// No list yet.
-fn clear_starts(lf: &mut [u16; 98304], n: usize)
+// No list yet. Past the end of lf there is none.
+fn clear_starts(lf: &mut [u16], n: usize)
     requires { ⌜ n ≤ 32768 ⌝ }
     ensures { λ _. ⌜ Unlisted (now (lf .entry)) n (now (lf .exit)) ⌝ }
 {
-    known_lists(lf);
     let mut i = 0;
     while i < n {
+        if lf.len() <= 32768 + i {
+            return;
+        }
         lf[32768 + i] = 0;
         i += 1;
     }
@@ -240,7 +226,7 @@ pub fn flatten_roots(
     ws: &[u16; 98304],
     cw: &[u16; 65536],
     bw: &[u16; 20480],
-    lf: &mut [u16; 98304],
+    lf: &mut [u16],
     n: usize,
     blocks: usize,
 )
@@ -248,6 +234,9 @@ pub fn flatten_roots(
     ensures { λ _. ⌜ ((h : Sheet) (vs : List ℤ) (c : ℕ) (ks : List ℕ) (m : ℕ) → Keyed h (nodesIn (now (ws .entry)) vs c) n ks (now (lf .entry)) m → Listed h (nodesIn (now (ws .entry)) vs c) n ks (now (lf .exit)) m) ⌝ }
 {
     clear_starts(lf, n);
+    if lf.len() < 98304 {
+        return;
+    }
     let mut at = 1;
     let mut b = 0;
     while b < blocks {
@@ -259,10 +248,13 @@ pub fn flatten_roots(
 // ---- marks of a condition
 
 // Whether root i, which lies below n, has a list.
-fn has_list(lf: &[u16; 98304], n: usize, i: usize) -> bool
+fn has_list(lf: &[u16], n: usize, i: usize) -> bool
     requires { ⌜ n ≤ 32768 ⌝ }
-    ensures { λ r. ⌜ (r ≡ true → ((i < n) × (0 < startOf (now (lf .entry)) i)) × ((startOf (now (lf .entry)) i < endOf (now (lf .entry)) i) × (endOf (now (lf .entry)) i ≤ 32768))) ⌝ }
+    ensures { λ r. ⌜ (r ≡ true → ((i < n) × (0 < startOf (now (lf .entry)) i)) × ((startOf (now (lf .entry)) i < endOf (now (lf .entry)) i) × ((endOf (now (lf .entry)) i ≤ 32768) × (98304 ≤ length (now (lf .entry)))))) ⌝ }
 {
+    if lf.len() < 98304 {
+        return false;
+    }
     if n <= i {
         return false;
     }
@@ -280,8 +272,8 @@ fn has_list(lf: &[u16; 98304], n: usize, i: usize) -> bool
     e <= 32768
 }
 
-fn mark_list(lf: &[u16; 98304], seen: &mut [bool], from: usize, to: usize, neg: bool)
-    requires { ⌜ (from ≤ to) × (to ≤ 98304) ⌝ }
+fn mark_list(lf: &[u16], seen: &mut [bool], from: usize, to: usize, neg: bool)
+    requires { ⌜ (from ≤ to) × (to ≤ length (now lf)) ⌝ }
     ensures { λ _. ⌜ now (seen .exit) ≡ markedBy (now (lf .entry)) neg from (to - from) (now (seen .entry)) ⌝ }
 {
     let mut j = from;
@@ -292,8 +284,8 @@ fn mark_list(lf: &[u16; 98304], seen: &mut [bool], from: usize, to: usize, neg: 
 }
 
 // Root i, below n: by its list where it has one, which saves the walk over its nodes at each hiding block.
-fn mark_root(ws: &[u16; 98304], lf: &[u16; 98304], seen: &mut [bool], n: usize, i: usize, neg: bool)
-    requires { ⌜ n ≤ 32768 ⌝ }
+fn mark_root(ws: &[u16; 98304], lf: &[u16], seen: &mut [bool], n: usize, i: usize, neg: bool)
+    requires { ⌜ (n ≤ 32768) × (n ≤ length (now lf)) ⌝ }
     ensures { λ _. ⌜ ((top : ℕ) → Lists (now (ws .entry)) (now (lf .entry)) n top → Gathers (now (ws .entry)) (now (lf .entry)) n (now (seen .entry)) (now (seen .exit)) (ofNode n i neg)) ⌝ }
 {
     if !has_list(lf, n, i) {
@@ -309,13 +301,13 @@ fn mark_root(ws: &[u16; 98304], lf: &[u16; 98304], seen: &mut [bool], n: usize, 
 // 2 * j + 1 and, negated, for else as 2 * j + 2. A condition lies above the one that it was joined to.
 fn mark_chain(
     ws: &[u16; 98304],
-    lf: &[u16; 98304],
+    lf: &[u16],
     cells: &[u16; 8192],
     seen: &mut [bool],
     n: usize,
     first: usize,
 )
-    requires { ⌜ (n ≤ 32768) × (first ≤ 8192) ⌝ }
+    requires { ⌜ ((n ≤ 32768) × (n ≤ length (now lf))) × (first ≤ 8192) ⌝ }
     ensures { λ _. ⌜ ((top : ℕ) → Lists (now (ws .entry)) (now (lf .entry)) n top → Gathers (now (ws .entry)) (now (lf .entry)) n (now (seen .entry)) (now (seen .exit)) (ofChain n (now (cells .entry)) first)) ⌝ }
 {
     let mut c = first;
@@ -400,7 +392,7 @@ fn clear(seen: &mut [bool], m: u16)
 // The negations of the requirements of the condition first, as a set: contradicting pairs drop in the whole condition, and not in its parts.
 pub fn parse_requirements(
     ws: &[u16; 98304],
-    lf: &[u16; 98304],
+    lf: &[u16],
     cells: &[u16; 8192],
     keys: &[u64],
     seen: &mut [bool],
@@ -408,7 +400,7 @@ pub fn parse_requirements(
     n: usize,
     first: usize,
 ) -> Added
-    requires { ⌜ ((n ≤ 32768) × (first ≤ 8192)) × (((m < 32768) × (2 * m + 2 ≤ length (now seen))) × Keys (now keys) m) ⌝ }
+    requires { ⌜ (((n ≤ 32768) × (n ≤ length (now lf))) × (first ≤ 8192)) × (((m < 32768) × (2 * m + 2 ≤ length (now seen))) × Keys (now keys) m) ⌝ }
     ensures { λ r. ⌜ ((h : Sheet) (vs : List ℤ) (c : ℕ) → Listed h (nodesIn (now (ws .entry)) vs c) n (now (keys .entry)) (now (lf .entry)) m → Negated (parseRequirements h (conditionOf (nodesIn (now (ws .entry)) vs c) n (now (cells .entry)) first)) r) × (r .reqs .len ≤ entryLimit) ⌝ }
 {
     clear(seen, m);

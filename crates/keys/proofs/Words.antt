@@ -319,13 +319,13 @@ pub record Filling (h : Sheet) (ns : Nodes) (n : ℕ) (ls ks kd : List ℕ) (m i
   pub low : i ≤ n
   pub most : n ≤ 32768
   pub few : m ≤ i - 1
-  pub long : length ls ≡ 98304
+  pub long : n ≤ length ls
   pub keys : n ≤ length ks
   pub kids : 2 * n ≤ length kd
   pub table : Table ks kd m
   pub words : Words h ns i ks ls m
 
-pub filling-start : (h : Sheet) (ns : Nodes) (n : ℕ) (ls ks kd : List ℕ) → n ≤ 32768 → length ls ≡ 98304 → n ≤ length ks → 2 * n ≤ length kd → Table ks kd 0 → Filling h ns n ls ks kd 0 0
+pub filling-start : (h : Sheet) (ns : Nodes) (n : ℕ) (ls ks kd : List ℕ) → n ≤ 32768 → n ≤ length ls → n ≤ length ks → 2 * n ≤ length kd → Table ks kd 0 → Filling h ns n ls ks kd 0 0
 filling-start h ns n ls ks kd p q x y t = record { low = omega arith; most = p; few = omega arith; long = q; keys = x; kids = y; table = t; words = λ j u. absurd (omega arith) }
 
 pub filling-on : (h : Sheet) (ns : Nodes) (n : ℕ) (ls ks kd : List ℕ) (m i : ℕ) (ks' kd' : List ℕ) (r : Word) → Filling h ns n ls ks kd m i → i < n
@@ -335,11 +335,11 @@ filling-on h ns n ls ks kd m i ks' kd' r f p x y d = record {
   low = omega arith;
   most = f .most;
   few = omega (arith, d .few);
-  long = length-set ls i (r .word) ∙ f .long;
+  long = rw (length-set ls i (r .word)) (f .long);
   keys = omega (arith, f .keys);
   kids = omega (arith, f .kids);
   table = d .table;
-  words = words-on h ns i ks ls m ks' kd' r (f .words) (omega (arith, f .long, f .most)) d;
+  words = words-on h ns i ks ls m ks' kd' r (f .words) (omega (arith, f .long)) d;
 }
 
 pub filling-done : (h : Sheet) (ws : List ℕ) (vs : List ℤ) (n : ℕ) (ls ks kd : List ℕ) (m i : ℕ) → Filling h (nodesIn ws vs 0) n ls ks kd m i → n ≤ i → (c : ℕ) → Keyed h (nodesIn ws vs c) n ks ls m

@@ -214,8 +214,8 @@ fn compared(k: Kind, s: u64, x: u16) -> u16
 }
 
 // The word of node i as an operand of node b.
-fn word_below(lf: &[u16; 98304], b: usize, i: usize) -> u16
-    requires { ⌜ b ≤ 32768 ⌝ }
+fn word_below(lf: &[u16], b: usize, i: usize) -> u16
+    requires { ⌜ b ≤ length (now lf) ⌝ }
     ensures { λ r. ⌜ r ≡ cond (ltb i b) (getD (now (lf .entry)) i 0) 0 ⌝ }
 {
     if i < b {
@@ -238,8 +238,8 @@ fn read_at(ws: &[u16; 98304], val: &[i32; 32768], items: u16, atcs: u16, i: usiz
 }
 
 // The word of node i where it reads no subject, the words below it being written.
-fn compare_at(ws: &[u16; 98304], val: &[i32; 32768], lf: &[u16; 98304], i: usize) -> u16
-    requires { ⌜ i < 32768 ⌝ }
+fn compare_at(ws: &[u16; 98304], val: &[i32; 32768], lf: &[u16], i: usize) -> u16
+    requires { ⌜ (i < 32768) × (i ≤ length (now lf)) ⌝ }
     ensures { λ r. ⌜ ((h : Sheet) (ks : List ℕ) (m n : ℕ) → Words h (nodesIn (now (ws .entry)) (now (val .entry)) n) i ks (now (lf .entry)) m → Leaf ks m r (comparedAt h (nodesIn (now (ws .entry)) (now (val .entry)) n) i)) ⌝ }
 {
     let k = kind_of(ws[3 * i]);
@@ -255,7 +255,7 @@ fn compare_at(ws: &[u16; 98304], val: &[i32; 32768], lf: &[u16; 98304], i: usize
 fn word_at(
     ws: &[u16; 98304],
     val: &[i32; 32768],
-    lf: &[u16; 98304],
+    lf: &[u16],
     keys: &mut [u64],
     kids: &mut [u16],
     items: u16,
@@ -263,7 +263,7 @@ fn word_at(
     m: u16,
     i: usize,
 ) -> Word
-    requires { ⌜ (((i < 32768) × (m ≤ i - 1)) × ((i < length (now keys)) × (2 * i ≤ length (now kids)))) × (Table (now keys) (now kids) m × Words (sheetBy items atcs) (nodesIn (now ws) (now val) 0) i (now keys) (now lf) m) ⌝ }
+    requires { ⌜ (((i < 32768) × (m ≤ i - 1)) × ((i ≤ length (now lf)) × ((i < length (now keys)) × (2 * i ≤ length (now kids))))) × (Table (now keys) (now kids) m × Words (sheetBy items atcs) (nodesIn (now ws) (now val) 0) i (now keys) (now lf) m) ⌝ }
     ensures { λ r. ⌜ Worded (sheetBy items atcs) (nodesIn (now (ws .entry)) (now (val .entry)) 0) i (now (keys .entry)) m (now (keys .exit)) (now (kids .exit)) r ⌝ }
 {
     let code = read_at(ws, val, items, atcs, i);
@@ -280,28 +280,20 @@ fn word_at(
     }
 }
 
-fn known_words(a: &[u16; 98304]) -> usize
-    ensures { λ _. ⌜ length (now (a .entry)) ≡ 98304 ⌝ }
-{
-    let s: &[u16] = a;
-    s.len()
-}
-
 // The words of n nodes, from the lowest on, since operands lie below. No recursion here: what no block reaches may be of any depth.
 fn fill_words(
     ws: &[u16; 98304],
     val: &[i32; 32768],
-    lf: &mut [u16; 98304],
+    lf: &mut [u16],
     keys: &mut [u64],
     kids: &mut [u16],
     items: u16,
     atcs: u16,
     n: usize,
 ) -> u16
-    requires { ⌜ ((n ≤ 32768) × ((n ≤ length (now keys)) × (2 * n ≤ length (now kids)))) × Table (now keys) (now kids) 0 ⌝ }
+    requires { ⌜ ((n ≤ 32768) × ((n ≤ length (now lf)) × ((n ≤ length (now keys)) × (2 * n ≤ length (now kids))))) × Table (now keys) (now kids) 0 ⌝ }
     ensures { λ m. ⌜ ((c : ℕ) → Keyed (sheetBy items atcs) (nodesIn (now (ws .entry)) (now (val .entry)) c) n (now (keys .exit)) (now (lf .exit)) m) ⌝ }
 {
-    known_words(lf);
     let mut m: u16 = 0;
     let mut i = 0;
     while i < n {
@@ -317,13 +309,13 @@ fn fill_words(
 fn key_few(
     ws: &[u16; 98304],
     val: &[i32; 32768],
-    lf: &mut [u16; 98304],
+    lf: &mut [u16],
     keys: &mut [u64],
     items: u16,
     atcs: u16,
     n: usize,
 ) -> u16
-    requires { ⌜ (n ≤ 1024) × (n ≤ length (now keys)) ⌝ }
+    requires { ⌜ (n ≤ 1024) × ((n ≤ length (now lf)) × (n ≤ length (now keys))) ⌝ }
     ensures { λ m. ⌜ ((c : ℕ) → Keyed (sheetBy items atcs) (nodesIn (now (ws .entry)) (now (val .entry)) c) n (now (keys .exit)) (now (lf .exit)) m) ⌝ }
 {
     let mut kids = [0u16; 2048];
@@ -334,13 +326,13 @@ fn key_few(
 fn key_many(
     ws: &[u16; 98304],
     val: &[i32; 32768],
-    lf: &mut [u16; 98304],
+    lf: &mut [u16],
     keys: &mut [u64],
     items: u16,
     atcs: u16,
     n: usize,
 ) -> u16
-    requires { ⌜ (n ≤ 32768) × (n ≤ length (now keys)) ⌝ }
+    requires { ⌜ (n ≤ 32768) × ((n ≤ length (now lf)) × (n ≤ length (now keys))) ⌝ }
     ensures { λ m. ⌜ ((c : ℕ) → Keyed (sheetBy items atcs) (nodesIn (now (ws .entry)) (now (val .entry)) c) n (now (keys .exit)) (now (lf .exit)) m) ⌝ }
 {
     let mut kids = [0u16; 65536];
@@ -351,13 +343,13 @@ fn key_many(
 pub fn key_nodes(
     ws: &[u16; 98304],
     val: &[i32; 32768],
-    lf: &mut [u16; 98304],
+    lf: &mut [u16],
     keys: &mut [u64],
     items: u16,
     atcs: u16,
     n: usize,
 ) -> u16
-    requires { ⌜ (n ≤ 32768) × (n ≤ length (now keys)) ⌝ }
+    requires { ⌜ (n ≤ 32768) × ((n ≤ length (now lf)) × (n ≤ length (now keys))) ⌝ }
     ensures { λ m. ⌜ ((c : ℕ) → Keyed (sheetBy items atcs) (nodesIn (now (ws .entry)) (now (val .entry)) c) n (now (keys .exit)) (now (lf .exit)) m) ⌝ }
 {
     if n <= 1024 {

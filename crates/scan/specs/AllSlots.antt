@@ -3,11 +3,9 @@ use mathlib.Core.Path.{_≡_, refl, sym, ap, _∙_, subst}
 use mathlib.Core.Bool.{Bool, true, false, _&&_}
 use mathlib.Core.Option.{Option, none}
 use mathlib.Core.List.{List, [], _∷_}
-use Prim.Native.Nat.{ℕ, zero, suc, _+_, _/_, _^_, _≤_, _<_}
+use Prim.Native.Nat.{ℕ, zero, suc, _+_, _≤_, _<_}
 use native.Mathlib.Omega.{arith}
 use native.Mathlib.Decide.{decLe, ℕ-discrete}
-use lib.Bits.{bitOr}
-use lib.Count.{trailingZeros}
 use lib.IntN.{ℤ}
 use lib.ListN.{length, getD, set, length-map, length-set, List·getD-map}
 use lib.Seq.{getD-set-same, getD-set-other, ext-getD}
@@ -20,8 +18,7 @@ use Rattle.shop.specs.Shapes.{slotOf, slotsOf, placed}
 use Rattle.shop.specs.declared.Slot.{Slot}
 use Rattle.shop.specs.declared.Shop.{Shop}
 use Rattle.shop.specs.declared.Added.{Added}
-use Rattle.scan.specs.Bits.{none-between, or-none}
-use Rattle.scan.specs.Table.{itemsOf, countsOf, present-long, absent, no-bit}
+use Rattle.scan.specs.Table.{itemsOf, countsOf, present-long, no-bit, nextTouched, untouched}
 use Rattle.scan.specs.Slots.{beyond, GoodSlot, GoodShop, Stands, Became, own-few}
 use Rattle.scan.specs.declared.VarTable.{VarTable}
 use Rattle.scan.specs.declared.Changed.{Changed}
@@ -34,12 +31,16 @@ pub record Done (h : Sheet) (rs : List Requirement) (o n : Option ℤ) (x y : Sl
   pub few : fewEntries (slotOf y) ≡ true
   pub good : GoodSlot y
 
--- the slots below at are done, the others as they were
-pub record Halfway (shop : Shop) (items : ℕ) (t : VarTable) (hidden : Added) (out : Shop) (at : ℕ) : Type 0 where
+-- requirements, whatever they are
+abbrev pub Any : List Requirement → Type 0
+Any rs = Unit {0}
+
+-- the slots below at are done, for the requirements of P, the others as they were
+pub record Halfway (shop : Shop) (items : ℕ) (t : VarTable) (P : List Requirement → Type 0) (out : Shop) (at : ℕ) : Type 0 where
   pub low : at ≤ slotCount
   pub long : length (out .slots) ≡ slotCount
   pub rest : (j : ℕ) → at ≤ j → getD (out .slots) j beyond ≡ getD (shop .slots) j beyond
-  pub done : (h : Sheet) (rs : List Requirement) → itemCount h ≡ items → Stands hidden rs → (j : ℕ) → j < at
+  pub done : (h : Sheet) (rs : List Requirement) → itemCount h ≡ items → P rs → (j : ℕ) → j < at
       → Done h rs (getD (itemsOf t) j none) (getD (countsOf t) j none) (getD (shop .slots) j beyond) (getD (out .slots) j beyond)
 
 -- the definition's slots after the block
@@ -91,12 +92,12 @@ all-false p (x ∷ l) (suc j) d h e = rw (all-false p l j d (omega arith) e) (an
 -- ---- the loop
 
 -- at the start
-pub half-start : (shop : Shop) (items : ℕ) (t : VarTable) (hidden : Added) → length (shop .slots) ≡ slotCount → Halfway shop items t hidden shop 0
-half-start shop items t hidden size = record { low = omega arith; long = size; rest = λ j h. refl; done = λ h rs e w j l. absurd (omega arith) }
+pub half-start : (shop : Shop) (items : ℕ) (t : VarTable) (P : List Requirement → Type 0) → length (shop .slots) ≡ slotCount → Halfway shop items t P shop 0
+half-start shop items t P size = record { low = omega arith; long = size; rest = λ j h. refl; done = λ h rs e w j l. absurd (omega arith) }
 
-module _ (shop : Shop) (items : ℕ) (t : VarTable) (hidden : Added) (g : GoodShop shop) (size : length (t .counts) ≡ slotCount) where
+module _ (shop : Shop) (items : ℕ) (t : VarTable) (P : List Requirement → Type 0) (g : GoodShop shop) (size : length (t .counts) ≡ slotCount) where
   -- slots without a count stay
-  half-stay : (out : Shop) (at n : ℕ) → Halfway shop items t hidden out at → at ≤ n → n ≤ slotCount → ((j : ℕ) → at ≤ j → j < n → none ≡ getD (countsOf t) j none) → Halfway shop items t hidden out n
+  half-stay : (out : Shop) (at n : ℕ) → Halfway shop items t P out at → at ≤ n → n ≤ slotCount → ((j : ℕ) → at ≤ j → j < n → none ≡ getD (countsOf t) j none) → Halfway shop items t P out n
   half-stay out at n v p q f = record {
     low = q;
     long = v .long;
@@ -104,7 +105,7 @@ module _ (shop : Shop) (items : ℕ) (t : VarTable) (hidden : Added) (g : GoodSh
     done = λ h rs e w j k. by h rs e w j k (decLe at j);
   }
     where
-      by : (h : Sheet) (rs : List Requirement) → itemCount h ≡ items → Stands hidden rs → (j : ℕ) → j < n → Dec (at ≤ j)
+      by : (h : Sheet) (rs : List Requirement) → itemCount h ≡ items → P rs → (j : ℕ) → j < n → Dec (at ≤ j)
           → Done h rs (getD (itemsOf t) j none) (getD (countsOf t) j none) (getD (shop .slots) j beyond) (getD (out .slots) j beyond)
       by h rs e w j k (no d) = v .done h rs e w j (omega arith)
       by h rs e w j k (yes d) =
@@ -117,21 +118,17 @@ module _ (shop : Shop) (items : ℕ) (t : VarTable) (hidden : Added) (g : GoodSh
           }
 
   -- up to the next slot that the masks tell of
-  pub half-to : (out : Shop) (at n : ℕ) → Halfway shop items t hidden out at → at ≤ n → n ≤ slotCount
-      → n ≤ at + trailingZeros 32 (bitOr (t .«item_mask») (t .«count_mask») / 2 ^ at) → Halfway shop items t hidden out n
-  half-to out at n v p q l =
-      half-stay out at n v p q
-      (λ j d k. absent (t .«count_mask») (t .counts) size j (omega arith)
-      (or-none (t .«item_mask») (t .«count_mask») j (none-between (bitOr (t .«item_mask») (t .«count_mask»)) at j d (omega arith))))
+  pub half-to : (out : Shop) (at n : ℕ) → Halfway shop items t P out at → at ≤ n → n ≤ slotCount → n ≤ nextTouched t at → Halfway shop items t P out n
+  half-to out at n v p q l = half-stay out at n v p q (λ j d k. untouched t size at j d (omega arith) (omega arith))
 
   -- slot i, as it was read, is updated
-  module _ (out : Shop) (i : ℕ) (v : Halfway shop items t hidden out i) (low : i < slotCount)
+  module _ (out : Shop) (i : ℕ) (v : Halfway shop items t P out i) (low : i < slotCount)
       (r : Changed) (o n : Option ℤ) (x : Slot) (eo : o ≡ getD (itemsOf t) i none) (en : n ≡ getD (countsOf t) i none) (ex : x ≡ getD (out .slots) i beyond)
-      (read : (h : Sheet) (rs : List Requirement) → itemCount h ≡ items → Stands hidden rs → Became h rs o n x r) where
-    b : (h : Sheet) (rs : List Requirement) → itemCount h ≡ items → Stands hidden rs → Became h rs (getD (itemsOf t) i none) (getD (countsOf t) i none) (getD (out .slots) i beyond) r
+      (read : (h : Sheet) (rs : List Requirement) → itemCount h ≡ items → P rs → Became h rs o n x r) where
+    b : (h : Sheet) (rs : List Requirement) → itemCount h ≡ items → P rs → Became h rs (getD (itemsOf t) i none) (getD (countsOf t) i none) (getD (out .slots) i beyond) r
     b h rs e w = rw (eo, en, ex) at (read h rs e w)
 
-    placed-next : r .ok ≡ true → Halfway shop items t hidden (placed out i (r .slot)) (i + 1)
+    placed-next : r .ok ≡ true → Halfway shop items t P (placed out i (r .slot)) (i + 1)
     placed-next o = record {
       low = omega arith;
       long = length-set (out .slots) i (r .slot) ∙ v .long;
@@ -139,7 +136,7 @@ module _ (shop : Shop) (items : ℕ) (t : VarTable) (hidden : Added) (g : GoodSh
       done = λ h rs e w j k. by h rs e w j k (ℕ-discrete j i);
     }
       where
-        by : (h : Sheet) (rs : List Requirement) → itemCount h ≡ items → Stands hidden rs → (j : ℕ) → j < i + 1 → Dec (j ≡ i)
+        by : (h : Sheet) (rs : List Requirement) → itemCount h ≡ items → P rs → (j : ℕ) → j < i + 1 → Dec (j ≡ i)
             → Done h rs (getD (itemsOf t) j none) (getD (countsOf t) j none) (getD (shop .slots) j beyond) (getD (set (out .slots) i (r .slot)) j beyond)
         by h rs e w j k (no d) =
             subst (Done h rs (getD (itemsOf t) j none) (getD (countsOf t) j none) (getD (shop .slots) j beyond))
@@ -156,54 +153,51 @@ module _ (shop : Shop) (items : ℕ) (t : VarTable) (hidden : Added) (g : GoodSh
               good = subst GoodSlot (sym s) (a .good o);
             }
 
-    pub half-next : (to : Shop) → to ≡ placed out i (r .slot) → r .ok ≡ true → Halfway shop items t hidden to (i + 1)
-    half-next to e o = subst (λ (s : Shop). Halfway shop items t hidden s (i + 1)) (sym e) (placed-next o)
+    pub half-next : (to : Shop) → to ≡ placed out i (r .slot) → r .ok ≡ true → Halfway shop items t P to (i + 1)
+    half-next to e o = subst (λ (s : Shop). Halfway shop items t P s (i + 1)) (sym e) (placed-next o)
 
     -- its 33rd requirement refuses all
-    pub half-refused : length (shop .slots) ≡ slotCount → length (t .items) ≡ slotCount → (to : Shop) → r .ok ≡ false → SlotsUpdated shop items t hidden false to
+    pub half-refused : length (shop .slots) ≡ slotCount → length (t .items) ≡ slotCount → (to : Shop) → r .ok ≡ false
+        → (h : Sheet) (rs : List Requirement) → itemCount h ≡ items → P rs → UpdatedBy h rs shop t false to
     unfolding slotsOf
-    half-refused all-there is-long to f = record {
-      by = λ h rs e w.
-          let a = b h rs e w in
-          let z = slots-at h rs (itemsOf t) (countsOf t) (slotsOf shop) i (slotOf beyond)
-          (present-long (t .«item_mask») (t .items) is-long ∙ sym (length-map (shop .slots) slotOf ∙ all-there))
-          (present-long (t .«count_mask») (t .counts) size ∙ sym (length-map (shop .slots) slotOf ∙ all-there))
-          (omega (arith, length-map (shop .slots) slotOf)) in
-          let y : fewEntries (getD (slotsThen h rs t shop) i (slotOf beyond)) ≡ false =
-          ap fewEntries (z ∙ ap (updateSlot h rs (getD (itemsOf t) i none) (getD (countsOf t) i none)) (List·getD-map slotOf (shop .slots) i beyond ∙ ap slotOf (sym (v .rest i (omega arith)))))
-          ∙ sym (a .ok) ∙ f in
-          record {
-            ok = sym (all-false fewEntries (slotsThen h rs t shop) i (slotOf beyond) (omega (arith, slots-length h rs (itemsOf t) (countsOf t) (slotsOf shop), length-map (shop .slots) slotOf)) y);
-            is = λ q. absurd (true-false (sym q));
-            good = λ q. absurd (true-false (sym q));
-          };
-    }
+    half-refused all-there is-long to f h rs e w =
+        let a = b h rs e w in
+        let z = slots-at h rs (itemsOf t) (countsOf t) (slotsOf shop) i (slotOf beyond)
+        (present-long (t .«item_mask») (t .items) is-long ∙ sym (length-map (shop .slots) slotOf ∙ all-there))
+        (present-long (t .«count_mask») (t .counts) size ∙ sym (length-map (shop .slots) slotOf ∙ all-there))
+        (omega (arith, length-map (shop .slots) slotOf)) in
+        let y : fewEntries (getD (slotsThen h rs t shop) i (slotOf beyond)) ≡ false =
+        ap fewEntries (z ∙ ap (updateSlot h rs (getD (itemsOf t) i none) (getD (countsOf t) i none)) (List·getD-map slotOf (shop .slots) i beyond ∙ ap slotOf (sym (v .rest i (omega arith)))))
+        ∙ sym (a .ok) ∙ f in
+        record {
+          ok = sym (all-false fewEntries (slotsThen h rs t shop) i (slotOf beyond) (omega (arith, slots-length h rs (itemsOf t) (countsOf t) (slotsOf shop), length-map (shop .slots) slotOf)) y);
+          is = λ q. absurd (true-false (sym q));
+          good = λ q. absurd (true-false (sym q));
+        }
 
 -- at the end
-pub half-done : (shop : Shop) (items : ℕ) (t : VarTable) (hidden : Added) → length (shop .slots) ≡ slotCount → length (t .items) ≡ slotCount → length (t .counts) ≡ slotCount
-    → (out : Shop) (at : ℕ) → slotCount ≤ at → Halfway shop items t hidden out at → SlotsUpdated shop items t hidden true out
+pub half-done : (shop : Shop) (items : ℕ) (t : VarTable) (P : List Requirement → Type 0) → length (shop .slots) ≡ slotCount → length (t .items) ≡ slotCount → length (t .counts) ≡ slotCount
+    → (out : Shop) (at : ℕ) → slotCount ≤ at → Halfway shop items t P out at → (h : Sheet) (rs : List Requirement) → itemCount h ≡ items → P rs → UpdatedBy h rs shop t true out
 unfolding slotsOf
-half-done shop items t hidden p q s out at l v = record {
-  by = λ h rs i w.
-      let n = slots-length h rs (itemsOf t) (countsOf t) (slotsOf shop) in
-      let m = length-map (shop .slots) slotOf in
-      let m′ = length-map (out .slots) slotOf in
-      let d = v .done h rs i w in
-      let long = v .long in
-      let z : slotsOf out ≡ slotsThen h rs t shop = ext-getD (slotOf beyond) (slotsOf out) (slotsThen h rs t shop) (m′ ∙ v .long ∙ sym (n ∙ m ∙ p))
-      (λ j k. List·getD-map slotOf (out .slots) j beyond ∙ d j (omega arith) .is
-      ∙ sym (slots-at h rs (itemsOf t) (countsOf t) (slotsOf shop) j (slotOf beyond) (present-long (t .«item_mask») (t .items) q ∙ sym (m ∙ p)) (present-long (t .«count_mask») (t .counts) s ∙ sym (m ∙ p)) (omega arith)
-      ∙ ap (updateSlot h rs (getD (itemsOf t) j none) (getD (countsOf t) j none)) (List·getD-map slotOf (shop .slots) j beyond))) in
-      record {
-        ok = sym (ap (all fewEntries) (sym z) ∙ all-true fewEntries (slotsOf out) (slotOf beyond) (λ j k. ap fewEntries (List·getD-map slotOf (out .slots) j beyond) ∙ d j (omega arith) .few));
-        is = λ y. z;
-        good = λ y. record { each = λ j k. d j (omega arith) .good };
-      };
-}
+half-done shop items t P p q s out at l v h rs i w =
+    let n = slots-length h rs (itemsOf t) (countsOf t) (slotsOf shop) in
+    let m = length-map (shop .slots) slotOf in
+    let m′ = length-map (out .slots) slotOf in
+    let d = v .done h rs i w in
+    let long = v .long in
+    let z : slotsOf out ≡ slotsThen h rs t shop = ext-getD (slotOf beyond) (slotsOf out) (slotsThen h rs t shop) (m′ ∙ v .long ∙ sym (n ∙ m ∙ p))
+    (λ j k. List·getD-map slotOf (out .slots) j beyond ∙ d j (omega arith) .is
+    ∙ sym (slots-at h rs (itemsOf t) (countsOf t) (slotsOf shop) j (slotOf beyond) (present-long (t .«item_mask») (t .items) q ∙ sym (m ∙ p)) (present-long (t .«count_mask») (t .counts) s ∙ sym (m ∙ p)) (omega arith)
+    ∙ ap (updateSlot h rs (getD (itemsOf t) j none) (getD (countsOf t) j none)) (List·getD-map slotOf (shop .slots) j beyond))) in
+    record {
+      ok = sym (ap (all fewEntries) (sym z) ∙ all-true fewEntries (slotsOf out) (slotOf beyond) (λ j k. ap fewEntries (List·getD-map slotOf (out .slots) j beyond) ∙ d j (omega arith) .few));
+      is = λ y. z;
+      good = λ y. record { each = λ j k. d j (omega arith) .good };
+    }
 
 -- where no count was written, no slot changes
-pub none-counted : (shop : Shop) (items : ℕ) (t : VarTable) (hidden : Added) → GoodShop shop → length (shop .slots) ≡ slotCount → length (t .items) ≡ slotCount → length (t .counts) ≡ slotCount
-    → t .«count_mask» ≡ 0 → SlotsUpdated shop items t hidden true shop
-none-counted shop items t hidden g p q s e =
-    half-done shop items t hidden p q s shop slotCount (omega arith)
-    (half-stay shop items t hidden g s shop 0 slotCount (half-start shop items t hidden p) (omega arith) (omega arith) (λ j d k. rw e (sym (no-bit slotCount (t .counts) j))))
+pub none-counted : (shop : Shop) (t : VarTable) → GoodShop shop → length (shop .slots) ≡ slotCount → length (t .items) ≡ slotCount → length (t .counts) ≡ slotCount
+    → t .«count_mask» ≡ 0 → (h : Sheet) (rs : List Requirement) → UpdatedBy h rs shop t true shop
+none-counted shop t g p q s e h rs =
+    half-done shop (itemCount h) t Any p q s shop slotCount (omega arith)
+    (half-stay shop (itemCount h) t Any g s shop 0 slotCount (half-start shop (itemCount h) t Any p) (omega arith) (omega arith) (λ j d k. rw e (sym (no-bit slotCount (t .counts) j)))) h rs refl tt

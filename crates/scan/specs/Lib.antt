@@ -8,3 +8,5 @@ pub mod LastIf
 pub mod Extend
 pub mod Slots
 pub mod AllSlots
+pub mod Shown
+pub mod Fills

@@ -3,12 +3,14 @@ use mathlib.Core.Path.{_≡_, refl, sym, ap, _∙_}
 use mathlib.Core.Bool.{Bool, true, false, cond}
 use mathlib.Core.List.{List, [], _∷_}
 use mathlib.Core.Option.{Option, none, some}
-use Prim.Native.Nat.{ℕ, zero, suc, _<_}
+use Prim.Native.Nat.{ℕ, zero, suc, _+_, _/_, _^_, _≤_, _<_}
 use native.Mathlib.Omega.{arith}
+use lib.Bits.{bitOr}
+use lib.Count.{trailingZeros}
 use lib.IntN.{ℤ, pos}
 use lib.ListN.{length, getD, set}
 use Rattle.model.specs.Limits.{slotCount}
-use Rattle.scan.specs.Bits.{bitsOf, bitAt, bit-at, bits-length}
+use Rattle.scan.specs.Bits.{bitsOf, bitAt, bit-at, bits-length, none-between, or-none}
 use Rattle.scan.specs.declared.VarTable.{VarTable}
 
 -- a value is present where its bit is set
@@ -65,3 +67,13 @@ no-bit zero xs j = refl
 no-bit (suc k) [] j = refl
 no-bit (suc k) (x ∷ xs) zero = refl
 no-bit (suc k) (x ∷ xs) (suc j) = no-bit k xs j
+
+-- the first slot from at on whose bit is set in one of the masks; past the last slot where there is none
+abbrev pub nextTouched : VarTable → ℕ → ℕ
+nextTouched t at = at + trailingZeros 32 (bitOr (t .«item_mask») (t .«count_mask») / 2 ^ at)
+
+-- up to there no count was written
+pub untouched : (t : VarTable) → length (t .counts) ≡ slotCount → (at j : ℕ) → at ≤ j → j < nextTouched t at → j < slotCount → none ≡ getD (countsOf t) j none
+untouched t size at j l u low =
+    absent (t .«count_mask») (t .counts) size j low
+    (or-none (t .«item_mask») (t .«count_mask») j (none-between (bitOr (t .«item_mask») (t .«count_mask»)) at j l u))

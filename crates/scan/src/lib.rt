@@ -1,13 +1,11 @@
 // What one block's commands do: the shop variables that they write, the current limit and the last If; and what those variables do to the slots.
 ghost use mathlib.Core.Path.{_≡_};
-ghost use mathlib.Core.Bool.{cond};
+ghost use mathlib.Core.Bool.{false, cond};
 ghost use mathlib.Core.List.{List};
 ghost use mathlib.Core.Option.{Option, none, some};
-ghost use Prim.Native.Nat.{ℕ, _+_, _/_, _^_, _≤_, _<_};
-ghost use lib.Bits.{bitOr};
-ghost use lib.Count.{trailingZeros};
+ghost use Prim.Native.Nat.{ℕ, _^_, _≤_, _<_};
 ghost use lib.Dec.{ltb};
-ghost use lib.ListN.{set, getD};
+ghost use lib.ListN.{length, set, getD};
 ghost use Rattle.model.specs.Limits.{slotCount, entryLimit, nodeLimit};
 ghost use Rattle.model.specs.Sheet.{Sheet, itemCount};
 ghost use Rattle.model.specs.Requirement.{Requirement};
@@ -16,16 +14,18 @@ ghost use Rattle.model.specs.Expr.{Expr};
 ghost use Rattle.model.specs.Memory.{Nodes, nodesIn, codedIn, tree, commandIn, commandsIn};
 ghost use Rattle.model.specs.Parse.{value, place, isSubtract, limitIn, itemIndex, newLimit, written, putAt, evaluateSet, scanOne, scan, fillItem, newCount};
 ghost use Rattle.shop.specs.Shapes.{itemOf};
-ghost use Rattle.shop_arrays.specs.Arrays.{arraysIn, shopFrom};
+ghost use Rattle.shop_arrays.specs.Arrays.{itemFrom, arraysIn, shopFrom};
 ghost use Rattle.expr.specs.Tree.{treeBelow};
 ghost use Rattle.expr.specs.Requirement.{numberOf};
-ghost use Rattle.scan.specs.Table.{itemsOf, countsOf};
+ghost use Rattle.scan.specs.Table.{itemsOf, countsOf, nextTouched};
 ghost use Rattle.scan.specs.Reads.{shortIs, targetIs, readsFirst, indexBy};
 ghost use Rattle.scan.specs.Ready.{ReadyValue, ReadySet, ReadyCommand, Ready};
 ghost use Rattle.scan.specs.Block.{scanOf, freshScan};
 ghost use Rattle.scan.specs.LastIf.{lastAt, lastIf};
 ghost use Rattle.scan.specs.Slots.{GoodSlot, GoodShop, Hid, Hides, Stands, FilledBy, Became};
 ghost use Rattle.scan.specs.AllSlots.{SlotsUpdated};
+ghost use Rattle.scan.specs.Shown.{hidesBy, Shown};
+ghost use Rattle.scan.specs.Fills.{FilledIn, SlotsFilled};
 use expr::MaybeNumber;
 use expr::number_below;
 use memory::kind_of;
@@ -146,9 +146,9 @@ pub fn count_at(t: VarTable, slot: usize) -> Short
 }
 
 // The first slot from at on that was written to, by the merged masks; past the last slot where there is none.
-fn next_touched(t: VarTable, at: usize) -> usize
+pub fn next_touched(t: VarTable, at: usize) -> usize
     requires { ⌜ at < slotCount ⌝ }
-    ensures { λ r. ⌜ r ≡ at + trailingZeros 32 (bitOr (t .«item_mask») (t .«count_mask») / 2 ^ at) ⌝ }
+    ensures { λ r. ⌜ r ≡ nextTouched t at ⌝ }
 {
     let m = t.item_mask | t.count_mask;
     at + (u32::trailing_zeros(m >> at) as usize)
@@ -503,4 +503,67 @@ pub fn update_slots(
         at = i + 1;
     }
     true
+}
+
+// ---- slots filled in place
+
+// The item of a slot in its array: -1, no item, gives way to a known one.
+fn fill_number(x: i32, known: u16, id: u16) -> i32
+    ensures { λ r. ⌜ itemOf (itemFrom r) ≡ fillItem (itemOf (itemFrom x)) id (ltb id known) ⌝ }
+{
+    if x != -1 {
+        return x;
+    }
+    if known <= id {
+        return x;
+    }
+    id as i32
+}
+
+// The arrays' lengths, for the proofs.
+fn known_slots(items: &[i32; 20], limits: &[i16; 20]) -> usize
+    ensures { λ _. ⌜ (length (now (items .entry)) ≡ slotCount) × (length (now (limits .entry)) ≡ slotCount) ⌝ }
+{
+    let a: &[i32] = items;
+    let b: &[i16] = limits;
+    a.len() + b.len()
+}
+
+// As update_slot, for a slot that is not hidden: its requirements stay.
+fn fill_slot(
+    items: &mut [i32; 20],
+    limits: &mut [i16; 20],
+    known: u16,
+    i: usize,
+    item: Short,
+    count: Short,
+)
+    requires { ⌜ (i < slotCount) × (hidesBy (shortIs item) (shortIs count) ≡ false) ⌝ }
+    ensures { λ _. ⌜ FilledIn known (shortIs item) (shortIs count) i (now (items .entry)) (now (limits .entry)) (now (items .exit)) (now (limits .exit)) ⌝ }
+{
+    let Short::Wrote(n) = count else {
+        return;
+    };
+    let Short::Wrote(id) = item else {
+        return;
+    };
+    known_slots(items, limits);
+    items[i] = fill_number(items[i], known, id as u16);
+    limits[i] = new_count(n, limits[i]);
+}
+
+// As update_slots, for a block that hides no slot: codes and lengths are not read.
+pub fn fill_slots(items: &mut [i32; 20], limits: &mut [i16; 20], known: u16, t: VarTable)
+    requires { ⌜ Shown t slotCount ⌝ }
+    ensures { λ _. ⌜ SlotsFilled (now (items .entry)) (now (limits .entry)) known t (now (items .exit)) (now (limits .exit)) ⌝ }
+{
+    let mut at = 0;
+    while at < 20 {
+        let i = next_touched(t, at);
+        if 20 <= i {
+            return;
+        }
+        fill_slot(items, limits, known, i, item_at(t, i), count_at(t, i));
+        at = i + 1;
+    }
 }

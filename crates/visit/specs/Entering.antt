@@ -10,7 +10,7 @@ use lib.ListN.{set}
 use lib.Seq.{take-set-lt}
 use Rattle.model.specs.Limits.{blockLimit, nodeLimit}
 use Rattle.model.specs.Expr.{Expr}
-use Rattle.model.specs.Sheet.{Sheet, itemCount, all}
+use Rattle.model.specs.Sheet.{Sheet, all}
 use Rattle.model.specs.Requirement.{Requirement}
 use Rattle.model.specs.Memory.{Memory, commandsIn, blockWord}
 use Rattle.model.specs.Parse.{State, Scan, scan, parseRequirements, updateSlots, fewEntries, visited}
@@ -19,12 +19,11 @@ use Rattle.model.specs.Refusal.{parseTooMany}
 use Rattle.memory.specs.Transfer.{judged-kept}
 use Rattle.shop.specs.Shapes.{slotsOf}
 use Rattle.shop.specs.declared.Shop.{Shop}
-use Rattle.shop.specs.declared.Added.{Added}
 use Rattle.scan.specs.Ready.{Ready}
 use Rattle.scan.specs.Accepted.{commands-ready}
 use Rattle.scan.specs.Block.{scanOf, freshScan, onNextOf, onElseOf}
-use Rattle.scan.specs.Slots.{GoodShop, Stands}
-use Rattle.scan.specs.AllSlots.{slotsThen, SlotsUpdated}
+use Rattle.scan.specs.Slots.{GoodShop}
+use Rattle.scan.specs.AllSlots.{slotsThen, UpdatedBy}
 use Rattle.scan.specs.declared.VarTable.{VarTable}
 use Rattle.scan.specs.declared.Scanned.{Scanned}
 use Rattle.conditions.specs.Lists.{Listed}
@@ -32,47 +31,24 @@ use Rattle.conditions.specs.Marks.{conditionOf}
 use Rattle.visit.specs.State.{stateOf, conditionIn, scanIn, stateAfter, Open, KeyedIn, Entered}
 use Rattle.scan.specs.LastIf.{lastIf}
 use Rattle.visit.specs.LastIf.{Rooted, last-low, block-rooted}
-use Rattle.visit.specs.Hiding.{Hidden}
 use Rattle.visit.specs.Ways.{Joined}
 use Rattle.visit.specs.declared.Walk.{Walk}
 use Rattle.visit.specs.declared.Ways.{Ways}
 
--- ---- the walk after the slots were updated
+-- ---- the slots after the block
 
--- by the slots xs of the definition
-pub record Moved (xs : List Model.Slot) (to : Shop) (r : Walk) : Type 0 where
-  pub answer : r .answer ≡ cond (all fewEntries xs) 0 parseTooMany
-  pub slots : r .answer ≡ 0 → slotsOf to ≡ xs
-  pub good : r .answer ≡ 0 → GoodShop to
+-- the slots xs of the definition, or the refusal
+pub record Moved (xs : List Model.Slot) (to : Shop) (a : ℕ) : Type 0 where
+  pub answer : a ≡ cond (all fewEntries xs) 0 parseTooMany
+  pub slots : a ≡ 0 → slotsOf to ≡ xs
+  pub good : a ≡ 0 → GoodShop to
 
--- for every sheet of so many items, and all requirements that hidden stands for; the limit l and n cells are given
-pub record Moves (shop : Shop) (items : ℕ) (t : VarTable) (hidden : Added) (l : ℤ) (n : ℕ) (to : Shop) (r : Walk) : Type 0 where
-  pub by : (h : Sheet) (rs : List Requirement) → itemCount h ≡ items → Stands hidden rs → Moved (slotsThen h rs t shop) to r
-  pub limit : r .limit ≡ l
-  pub cells : r .cells ≡ n
+module _ {h : Sheet} {rs : List Requirement} {shop : Shop} {t : VarTable} {u : Bool} {to : Shop} (v : UpdatedBy h rs shop t u to) where
+  pub moved-refused : u ≡ false → Moved (slotsThen h rs t shop) to parseTooMany
+  moved-refused f = record { answer = rw (sym (v .ok) ∙ f); slots = λ q. absurd (omega arith); good = λ q. absurd (omega arith) }
 
-module _ (shop : Shop) (items : ℕ) (t : VarTable) (hidden : Added) (u : Bool) (to : Shop) (v : SlotsUpdated shop items t hidden u to) (r : Walk) where
-  pub moves-refused : (l : ℤ) → r .limit ≡ l → u ≡ false → r .answer ≡ parseTooMany → Moves shop items t hidden l (r .cells) to r
-  moves-refused l q f e = record {
-    by = λ h rs i w. record {
-      answer = e ∙ rw (sym (v .by h rs i w .ok) ∙ f);
-      slots = λ q. absurd (omega arith);
-      good = λ q. absurd (omega arith);
-    };
-    limit = q;
-    cells = refl;
-  }
-
-  pub moves-on : (l : ℤ) → r .limit ≡ l → u ≡ true → r .answer ≡ 0 → Moves shop items t hidden l (r .cells) to r
-  moves-on l q f e = record {
-    by = λ h rs i w. record {
-      answer = e ∙ rw (sym (v .by h rs i w .ok) ∙ f);
-      slots = λ q. v .by h rs i w .is f;
-      good = λ q. v .by h rs i w .good f;
-    };
-    limit = q;
-    cells = refl;
-  }
+  pub moved-on : u ≡ true → Moved (slotsThen h rs t shop) to 0
+  moved-on f = record { answer = rw (sym (v .ok) ∙ f); slots = λ q. v .is f; good = λ q. v .good f }
 
 -- ---- what the calls of a visit want: n commands from command f on
 
@@ -89,13 +65,13 @@ module _ {m : Memory} {marks : List Bool} {x : Shop} {w : Walk} {b c : ℕ} (o :
   rooted : Rooted (m .coded .nodes .count) (m .coded .words) (blockWord m b 2) (blockWord m b 1)
   rooted = let a = o .accepted in block-rooted m (a .blocks) (a .rest) (a .is) b (o .block) (o .code)
 
--- the requirements of the condition, the counts being as the call has them
-pub hidden-at : (h : Sheet) (m : Memory) (cells : List ℕ) (c : ℕ) (keys leaves : List ℕ) (k : ℕ) (t : VarTable) (a : Added) → KeyedIn h m keys leaves k → (n d : ℕ) → n ≡ m .coded .nodes .count → d ≡ c
-    → (Listed h (m .coded .nodes) n keys leaves k → Hidden h (parseRequirements h (conditionOf (m .coded .nodes) n cells d)) t a) → Hidden h (parseRequirements h (conditionIn m cells c)) t a
-hidden-at h m cells c keys leaves k t a kd n d e f g =
-    subst (λ x. Hidden h (parseRequirements h (conditionOf (m .coded .nodes) x cells c)) t a) e
-    (subst (λ x. Hidden h (parseRequirements h (conditionOf (m .coded .nodes) n cells x)) t a) f
-    (g (subst (λ x. Listed h (m .coded .nodes) x keys leaves k) (sym e) kd)))
+-- the slots after the block, the counts being as the call has them
+pub moved-at : (h : Sheet) (m : Memory) (cells : List ℕ) (c : ℕ) (keys leaves : List ℕ) (k : ℕ) (t : VarTable) (x to : Shop) (a : ℕ) → KeyedIn h m keys leaves k → (n d : ℕ) → n ≡ m .coded .nodes .count → d ≡ c
+    → (Listed h (m .coded .nodes) n keys leaves k → Moved (slotsThen h (parseRequirements h (conditionOf (m .coded .nodes) n cells d)) t x) to a) → Moved (slotsThen h (parseRequirements h (conditionIn m cells c)) t x) to a
+moved-at h m cells c keys leaves k t x to a kd n d e f g =
+    subst (λ i. Moved (slotsThen h (parseRequirements h (conditionOf (m .coded .nodes) i cells c)) t x) to a) e
+    (subst (λ i. Moved (slotsThen h (parseRequirements h (conditionOf (m .coded .nodes) n cells i)) t x) to a) f
+    (g (subst (λ i. Listed h (m .coded .nodes) i keys leaves k) (sym e) kd)))
 
 -- ---- the visit
 
@@ -112,28 +88,24 @@ module _ (h : Sheet) (m : Memory) (marks : List Bool) (cells : List ℕ) (x : Sh
   scan-is : scanOf (m .coded .nodes) under s ≡ scanIn m marks cells x w b c
   scan-is = rw (many, from, lim) at (is under)
 
-  module _ (items : ℕ) (of : itemCount h ≡ items) (a : Added) (d : Hidden h (parseRequirements h under) (s .table) a)
-      (to : Shop) (r : Walk) (n : ℕ) (v : Moves x items (s .table) a (s .limit) n to r) where
-    slots-then : slotsThen h (d .reqs) (s .table) x ≡ stateAfter h m marks cells x w b c .slots
+  module _ (to : Shop) (r : Walk) (same : r .limit ≡ s .limit) (v : Moved (slotsThen h (parseRequirements h under) (s .table) x) to (r .answer)) where
+    slots-then : slotsThen h (parseRequirements h under) (s .table) x ≡ stateAfter h m marks cells x w b c .slots
     unfolding visited scanOf
-    slots-then = sym (d .same (slotsOf x)) ∙ ap (λ (k : Scan). updateSlots h (parseRequirements h under) (k .items) (k .counts) (slotsOf x)) scan-is
+    slots-then = ap (λ (k : Scan). updateSlots h (parseRequirements h under) (k .items) (k .counts) (slotsOf x)) scan-is
 
     limit-then : r .limit ≡ scanIn m marks cells x w b c .limit
     unfolding scanOf
-    limit-then = v .limit ∙ ap (λ (k : Scan). k .limit) scan-is
-
-    moved : Moved (slotsThen h (d .reqs) (s .table) x) to r
-    moved = v .by h (d .reqs) of (d .stands)
+    limit-then = same ∙ ap (λ (k : Scan). k .limit) scan-is
 
     answer-then : r .answer ≡ stateAfter h m marks cells x w b c .answer
     unfolding visited
-    answer-then = moved .answer ∙ ap (λ (xs : List Model.Slot). cond (all fewEntries xs) 0 parseTooMany) slots-then
+    answer-then = v .answer ∙ ap (λ (xs : List Model.Slot). cond (all fewEntries xs) 0 parseTooMany) slots-then
 
     state-then : r .answer ≡ 0 → stateOf (m .count) (set marks b true) to r ≡ stateAfter h m marks cells x w b c
     unfolding visited
-    state-then z = made (moved .slots z ∙ slots-then) (take-set-lt (m .count) marks b true (o .block)) limit-then answer-then
+    state-then z = made (v .slots z ∙ slots-then) (take-set-lt (m .count) marks b true (o .block)) limit-then answer-then
 
-    module _ (cells′ : List ℕ) (y : Ways) (found : s .«last_if» ≡ lastIf (m .coded .words) held first) (j : Joined cells (w .cells) c (s .«last_if») cells′ y) (cs : n ≡ y .cells) where
+    module _ (cells′ : List ℕ) (y : Ways) (found : s .«last_if» ≡ lastIf (m .coded .words) held first) (j : Joined cells (w .cells) c (s .«last_if») cells′ y) (cs : r .cells ≡ y .cells) where
       root-low : (j : ℕ) → s .«last_if» ≡ suc j → j < m .coded .nodes .count
       root-low j e = last-low (m .coded .nodes .count) (m .coded .words) (blockWord m b 2) (blockWord m b 1) (rooted o) j (sym (rw (many, from) at found) ∙ e)
 
@@ -148,11 +120,10 @@ module _ (h : Sheet) (m : Memory) (marks : List Bool) (cells : List ℕ) (x : Sh
       pub entered : (i nx el : ℕ) → i ≡ b → nx ≡ blockWord m b 3 → el ≡ blockWord m b 4
           → Entered h m marks cells x w b c (set marks i true) cells′ to (record { walk = r; next = nx; then = y .then; other = el; otherwise = y .otherwise })
       entered i nx el at e f =
-          let same : r .cells ≡ y .cells = v .cells ∙ cs in
           rw at record {
             answer = answer-then;
             state = state-then;
-            good = moved .good;
+            good = v .good;
             onNext = j .onNext (m .coded .nodes) (m .coded .nodes .count) root-low ∙ next-is;
             onElse = j .onElse (m .coded .nodes) (m .coded .nodes .count) root-low ∙ else-is;
             next = e;

@@ -5,33 +5,33 @@ ghost use Prim.Native.Nat.{ℕ, _+_, _*_, _≤_, _<_};
 ghost use lib.IntN.{ℤ};
 ghost use mathlib.Core.List.{List};
 ghost use lib.ListN.{length, getD};
-ghost use Rattle.model.specs.Limits.{slotCount, entryLimit, blockLimit};
+ghost use Rattle.model.specs.Limits.{slotCount, blockLimit};
 ghost use Rattle.model.specs.Sheet.{Sheet, itemCount};
 ghost use Rattle.model.specs.Memory.{memoryIn, nodesIn};
 ghost use Rattle.model.specs.Parse.{parseRequirements};
 ghost use Rattle.shop_arrays.specs.Arrays.{arraysIn, shopFrom};
 ghost use Rattle.scan.specs.Reads.{shortIs};
 ghost use Rattle.scan.specs.Slots.{GoodShop};
+ghost use Rattle.scan.specs.AllSlots.{slotsThen};
+ghost use Rattle.scan.specs.Shown.{hidesBy, Shown};
 ghost use Rattle.keys.specs.Entries.{Keys};
 ghost use Rattle.conditions.specs.Marks.{conditionOf};
 ghost use Rattle.conditions.specs.Cells.{withCell};
 ghost use Rattle.conditions.specs.Lists.{Listed};
 ghost use Rattle.visit.specs.State.{Open, KeyedIn, Entered};
-ghost use Rattle.visit.specs.Hiding.{hidesBy, Shown, Hidden, noneHidden};
 ghost use Rattle.visit.specs.Ways.{Joined};
-ghost use Rattle.visit.specs.Entering.{Moves};
+ghost use Rattle.visit.specs.Entering.{Moved};
 use conditions::parse_requirements;
 use memory::Counts;
 use memory::index_of;
-use scan::Scanned;
 use scan::Short;
 use scan::VarTable;
 use scan::count_at;
+use scan::fill_slots;
 use scan::item_at;
+use scan::next_touched;
 use scan::scan_block;
 use scan::update_slots;
-use shop::Added;
-use shop::no_reqs;
 
 // What is carried from block to block beside the arrays of the slots: the current limit, how many cells of conditions there are, the refusal or 0.
 pub struct Walk {
@@ -111,87 +111,57 @@ fn hides_at(item: Short, count: Short) -> bool
     id < 0
 }
 
-// Whether the block hides a slot: most blocks write no count.
+// Whether the block hides a slot, of those that it wrote to.
 fn hides(t: VarTable) -> bool
     ensures { λ r. ⌜ (r ≡ false → Shown t slotCount) ⌝ }
 {
-    if t.count_mask == 0 {
-        return false;
-    }
-    let mut i = 0;
-    while i < 20 {
+    let mut at = 0;
+    while at < 20 {
+        let i = next_touched(t, at);
+        if 20 <= i {
+            return false;
+        }
         if hides_at(item_at(t, i), count_at(t, i)) {
             return true;
         }
-        i += 1;
+        at = i + 1;
     }
     false
 }
 
-fn none_hidden() -> Added
-    ensures { λ r. ⌜ r ≡ noneHidden ⌝ }
-{
-    Added {
-        ok: true,
-        reqs: no_reqs(),
-    }
-}
-
-// The negated requirements of the condition c as a set. They are collected only where the block hides a slot: elsewhere none will do.
-fn hidden_of(
+// The slots as the block leaves them; the refusal 11, a slot's 33rd requirement, or 0. Without a count no slot changes, and only a hidden slot asks for the requirements of the condition c.
+fn slots_after(
     ws: &[u16; 98304],
-    lf: &[u16; 98304],
+    lf: &[u16],
     cells: &[u16; 8192],
     keys: &[u64],
     seen: &mut [bool],
-    keyed: u16,
-    n: usize,
-    c: usize,
-    t: VarTable,
-) -> Added
-    requires { ⌜ ((n ≤ 32768) × (c ≤ 8192)) × (((keyed < 32768) × (2 * keyed + 2 ≤ length (now seen))) × Keys (now keys) keyed) ⌝ }
-    ensures { λ r. ⌜ (r .reqs .len ≤ entryLimit) × ((h : Sheet) (vs : List ℤ) (k : ℕ) → Listed h (nodesIn (now (ws .entry)) vs k) n (now (keys .entry)) (now (lf .entry)) keyed → Hidden h (parseRequirements h (conditionOf (nodesIn (now (ws .entry)) vs k) n (now (cells .entry)) c)) t r) ⌝ }
-{
-    if !hides(t) {
-        return none_hidden();
-    }
-    parse_requirements(ws, lf, cells, keys, seen, keyed, n, c)
-}
-
-// The walk after the slots are as the block leaves them, or the refusal 11: a slot's 33rd requirement. Without a count no slot changes.
-fn moved(
     items: &mut [i32; 20],
     limits: &mut [i16; 20],
     codes: &mut [u64; 640],
     lens: &mut [u8; 20],
+    keyed: u16,
+    n: usize,
+    c: usize,
     known: u16,
-    s: Scanned,
-    hidden: Added,
-    cells: u16,
-) -> Walk
-    requires { ⌜ (hidden .reqs .len ≤ entryLimit) × GoodShop (shopFrom (arraysIn (now items) (now limits) (now codes) (now lens))) ⌝ }
-    ensures { λ r. ⌜ Moves (shopFrom (arraysIn (now (items .entry)) (now (limits .entry)) (now (codes .entry)) (now (lens .entry)))) known (s .table) hidden (s .limit) cells (shopFrom (arraysIn (now (items .exit)) (now (limits .exit)) (now (codes .exit)) (now (lens .exit)))) r ⌝ }
+    t: VarTable,
+) -> u8
+    requires { ⌜ (((n ≤ 32768) × (n ≤ length (now lf))) × (c ≤ 8192)) × (((keyed < 32768) × (2 * keyed + 2 ≤ length (now seen))) × Keys (now keys) keyed) ⌝ }
+    requires { ⌜ GoodShop (shopFrom (arraysIn (now items) (now limits) (now codes) (now lens))) ⌝ }
+    ensures { λ r. ⌜ ((h : Sheet) (vs : List ℤ) (k : ℕ) → itemCount h ≡ known → Listed h (nodesIn (now (ws .entry)) vs k) n (now (keys .entry)) (now (lf .entry)) keyed → Moved (slotsThen h (parseRequirements h (conditionOf (nodesIn (now (ws .entry)) vs k) n (now (cells .entry)) c)) t (shopFrom (arraysIn (now (items .entry)) (now (limits .entry)) (now (codes .entry)) (now (lens .entry))))) (shopFrom (arraysIn (now (items .exit)) (now (limits .exit)) (now (codes .exit)) (now (lens .exit)))) r) ⌝ }
 {
-    if s.table.count_mask == 0 {
-        return Walk {
-            limit: s.limit,
-            cells,
-            answer: 0,
-        };
+    if t.count_mask == 0 {
+        return 0;
     }
-    let t = s.table;
+    if !hides(t) {
+        fill_slots(items, limits, known, t);
+        return 0;
+    }
+    let hidden = parse_requirements(ws, lf, cells, keys, seen, keyed, n, c);
     if !update_slots(items, limits, codes, lens, known, t, hidden) {
-        return Walk {
-            limit: s.limit,
-            cells,
-            answer: 11,
-        };
+        return 11;
     }
-    Walk {
-        limit: s.limit,
-        cells,
-        answer: 0,
-    }
+    0
 }
 
 // ---- the visit
@@ -210,7 +180,7 @@ pub fn visit(
     val: &[i32; 32768],
     cw: &[u16; 65536],
     bw: &[u16; 20480],
-    lf: &[u16; 98304],
+    lf: &[u16],
     keys: &[u64],
     seen: &mut [bool],
     marks: &mut [bool; 4096],
@@ -226,7 +196,7 @@ pub fn visit(
     b: u16,
     c: u16,
 ) -> Visited
-    requires { ⌜ ((keyed < 32768) × (2 * keyed + 2 ≤ length (now seen))) × Keys (now keys) keyed ⌝ }
+    requires { ⌜ (k .nodes ≤ length (now lf)) × (((keyed < 32768) × (2 * keyed + 2 ≤ length (now seen))) × Keys (now keys) keyed) ⌝ }
     requires { ⌜ Open (memoryIn (now ws) (now val) (now cw) (now bw) (k .nodes) (k .commands) (k .blocks)) (now marks) (shopFrom (arraysIn (now items) (now limits) (now codes) (now lens))) w b c ⌝ }
     ensures { λ r. ⌜ ((h : Sheet) → itemCount h ≡ known → KeyedIn h (memoryIn (now (ws .entry)) (now (val .entry)) (now (cw .entry)) (now (bw .entry)) (k .nodes) (k .commands) (k .blocks)) (now (keys .entry)) (now (lf .entry)) keyed → Entered h (memoryIn (now (ws .entry)) (now (val .entry)) (now (cw .entry)) (now (bw .entry)) (k .nodes) (k .commands) (k .blocks)) (now (marks .entry)) (now (cells .entry)) (shopFrom (arraysIn (now (items .entry)) (now (limits .entry)) (now (codes .entry)) (now (lens .entry)))) w b c (now (marks .exit)) (now (cells .exit)) (shopFrom (arraysIn (now (items .exit)) (now (limits .exit)) (now (codes .exit)) (now (lens .exit)))) r) ⌝ }
 {
@@ -236,10 +206,29 @@ pub fn visit(
     let s = scan_block(ws, val, cw, first, held, w.limit);
     let t = s.table;
     let n = index_of(k.nodes);
-    let hidden = hidden_of(ws, lf, cells, keys, seen, keyed, n, index_of(c), t);
+    let answer = slots_after(
+        ws,
+        lf,
+        cells,
+        keys,
+        seen,
+        items,
+        limits,
+        codes,
+        lens,
+        keyed,
+        n,
+        index_of(c),
+        known,
+        t,
+    );
     let ways = join(cells, w.cells, c, s.last_if);
     Visited {
-        walk: moved(items, limits, codes, lens, known, s, hidden, ways.cells),
+        walk: Walk {
+            limit: s.limit,
+            cells: ways.cells,
+            answer,
+        },
         next: block_word(bw, b, 3),
         then: ways.then,
         other: block_word(bw, b, 4),

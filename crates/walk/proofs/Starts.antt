@@ -103,5 +103,5 @@ module _ (items atcs : ℕ) (ns : Nodes) (keys leaves lists : List ℕ) (i n : �
   pub keyed-in : (h : Sheet) → itemCount h ≡ items → h .atcCount ≡ atcs → Listed h ns (ns .count) keys lists n
   keyed-in h p r = listed h (keyed-for h ns i keys leaves n (rw (p, r) (q (ns .count))))
 
-pub keying : (items atcs : ℕ) (m : Memory) (keys leaves : List ℕ) (n : ℕ) → KeyedIn (sheetBy items atcs) m keys leaves n → Keying items m keys leaves n
-keying items atcs m keys leaves n q = record { sheet = sheetBy items atcs; count = length-replicate items none; keyed = q }
+pub keying : (items atcs : ℕ) (m : Memory) (keys leaves : List ℕ) (n : ℕ) → KeyedIn (sheetBy items atcs) m keys leaves n → m .coded .nodes .count ≤ length leaves → Keying items m keys leaves n
+keying items atcs m keys leaves n q l = record { sheet = sheetBy items atcs; count = length-replicate items none; keyed = q; long = l }

@@ -66,11 +66,12 @@ AllLow j (e ∷ es) = (e .under ≤ 2 * j) × AllLow j es
 
 -- ---- the loop
 
--- the keys of the requirements, for a sheet of so many items
+-- the keys of the requirements, for a sheet of so many items, and a word for each node
 pub record Keying (items : ℕ) (m : Memory) (keys leaves : List ℕ) (n : ℕ) : Type 0 where
   pub sheet : Sheet
   pub count : itemCount sheet ≡ items
   pub keyed : KeyedIn sheet m keys leaves n
+  pub long : m .coded .nodes .count ≤ length leaves
 
 -- nothing is refused, and there is room on the stack and among the cells for each block that is not marked
 pub record Ready (m : Memory) (marks : List Bool) (stack : List ℕ) (s : Shop) (w : Walk) (depth : ℕ) : Type 0 where

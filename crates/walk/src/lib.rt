@@ -109,7 +109,7 @@ fn walk_all(
     val: &[i32; 32768],
     cw: &[u16; 65536],
     bw: &[u16; 20480],
-    lf: &[u16; 98304],
+    lf: &[u16],
     keys: &[u64],
     seen: &mut [bool],
     marks: &mut [bool; 4096],
@@ -176,7 +176,7 @@ fn walk_from(
     val: &[i32; 32768],
     cw: &[u16; 65536],
     bw: &[u16; 20480],
-    lf: &[u16; 98304],
+    lf: &[u16],
     keys: &[u64],
     seen: &mut [bool],
     items: &mut [i32; 20],
@@ -218,12 +218,13 @@ fn walk_from(
     )
 }
 
-// The walk in tables that are long enough for the keys of the script's nodes and for their entries.
+// The walk in tables that are long enough for the words of the script's nodes, for their keys and for their entries.
 fn walk_over(
     ws: &[u16; 98304],
     val: &[i32; 32768],
     cw: &[u16; 65536],
     bw: &[u16; 20480],
+    lf: &mut [u16],
     keys: &mut [u64],
     seen: &mut [bool],
     items: &mut [i32; 20],
@@ -235,19 +236,18 @@ fn walk_over(
     atcs: u16,
     setup: u16,
 ) -> Walk
-    requires { ⌜ ((k .nodes ≤ length (now keys)) × ((0 < length (now keys)) × (2 * length (now keys) ≤ length (now seen)))) × (Accepted (memoryIn (now ws) (now val) (now cw) (now bw) (k .nodes) (k .commands) (k .blocks)) × ((setup < k .blocks) × (shopFrom (arraysIn (now items) (now limits) (now codes) (now lens)) ≡ noShop))) ⌝ }
+    requires { ⌜ ((k .nodes ≤ length (now lf)) × ((k .nodes ≤ length (now keys)) × ((0 < length (now keys)) × (2 * length (now keys) ≤ length (now seen))))) × (Accepted (memoryIn (now ws) (now val) (now cw) (now bw) (k .nodes) (k .commands) (k .blocks)) × (shopFrom (arraysIn (now items) (now limits) (now codes) (now lens)) ≡ noShop)) ⌝ }
     ensures { λ r. ⌜ ((h : Sheet) → itemCount h ≡ known → h .atcCount ≡ atcs → Walked h (memoryIn (now (ws .entry)) (now (val .entry)) (now (cw .entry)) (now (bw .entry)) (k .nodes) (k .commands) (k .blocks)) setup (shopFrom (arraysIn (now (items .exit)) (now (limits .exit)) (now (codes .exit)) (now (lens .exit)))) r) ⌝ }
 {
-    let mut lf = [0u16; 98304];
     let n = index_of(k.nodes);
-    let keyed = key_nodes(ws, val, &mut lf, keys, known, atcs, n);
-    flatten_roots(ws, cw, bw, &mut lf, n, index_of(k.blocks));
+    let keyed = key_nodes(ws, val, lf, keys, known, atcs, n);
+    flatten_roots(ws, cw, bw, lf, n, index_of(k.blocks));
     walk_from(
         ws,
         val,
         cw,
         bw,
-        &lf,
+        lf,
         keys,
         seen,
         items,
@@ -261,7 +261,7 @@ fn walk_over(
     )
 }
 
-// With tables for few nodes: zeroing large ones takes longer than parsing a small script.
+// With tables for few nodes, and no lists: zeroing large ones takes longer than parsing a small script.
 fn walk_few(
     ws: &[u16; 98304],
     val: &[i32; 32768],
@@ -276,9 +276,10 @@ fn walk_few(
     atcs: u16,
     setup: u16,
 ) -> Walk
-    requires { ⌜ (k .nodes ≤ 1024) × (Accepted (memoryIn (now ws) (now val) (now cw) (now bw) (k .nodes) (k .commands) (k .blocks)) × ((setup < k .blocks) × (shopFrom (arraysIn (now items) (now limits) (now codes) (now lens)) ≡ noShop))) ⌝ }
+    requires { ⌜ (k .nodes ≤ 1024) × (Accepted (memoryIn (now ws) (now val) (now cw) (now bw) (k .nodes) (k .commands) (k .blocks)) × (shopFrom (arraysIn (now items) (now limits) (now codes) (now lens)) ≡ noShop)) ⌝ }
     ensures { λ r. ⌜ ((h : Sheet) → itemCount h ≡ known → h .atcCount ≡ atcs → Walked h (memoryIn (now (ws .entry)) (now (val .entry)) (now (cw .entry)) (now (bw .entry)) (k .nodes) (k .commands) (k .blocks)) setup (shopFrom (arraysIn (now (items .exit)) (now (limits .exit)) (now (codes .exit)) (now (lens .exit)))) r) ⌝ }
 {
+    let mut lf = [0u16; 1024];
     let mut keys = [0u64; 1024];
     let mut seen = [false; 2048];
     walk_over(
@@ -286,6 +287,7 @@ fn walk_few(
         val,
         cw,
         bw,
+        &mut lf,
         &mut keys,
         &mut seen,
         items,
@@ -314,9 +316,10 @@ fn walk_many(
     atcs: u16,
     setup: u16,
 ) -> Walk
-    requires { ⌜ Accepted (memoryIn (now ws) (now val) (now cw) (now bw) (k .nodes) (k .commands) (k .blocks)) × ((setup < k .blocks) × (shopFrom (arraysIn (now items) (now limits) (now codes) (now lens)) ≡ noShop)) ⌝ }
+    requires { ⌜ Accepted (memoryIn (now ws) (now val) (now cw) (now bw) (k .nodes) (k .commands) (k .blocks)) × (shopFrom (arraysIn (now items) (now limits) (now codes) (now lens)) ≡ noShop) ⌝ }
     ensures { λ r. ⌜ ((h : Sheet) → itemCount h ≡ known → h .atcCount ≡ atcs → Walked h (memoryIn (now (ws .entry)) (now (val .entry)) (now (cw .entry)) (now (bw .entry)) (k .nodes) (k .commands) (k .blocks)) setup (shopFrom (arraysIn (now (items .exit)) (now (limits .exit)) (now (codes .exit)) (now (lens .exit)))) r) ⌝ }
 {
+    let mut lf = [0u16; 98304];
     let mut keys = [0u64; 32768];
     let mut seen = [false; 65536];
     walk_over(
@@ -324,6 +327,7 @@ fn walk_many(
         val,
         cw,
         bw,
+        &mut lf,
         &mut keys,
         &mut seen,
         items,
@@ -352,7 +356,7 @@ pub fn walk(
     atcs: u16,
     setup: u16,
 ) -> Walk
-    requires { ⌜ Accepted (memoryIn (now ws) (now val) (now cw) (now bw) (k .nodes) (k .commands) (k .blocks)) × ((setup < k .blocks) × (shopFrom (arraysIn (now items) (now limits) (now codes) (now lens)) ≡ noShop)) ⌝ }
+    requires { ⌜ Accepted (memoryIn (now ws) (now val) (now cw) (now bw) (k .nodes) (k .commands) (k .blocks)) × (shopFrom (arraysIn (now items) (now limits) (now codes) (now lens)) ≡ noShop) ⌝ }
     ensures { λ r. ⌜ ((h : Sheet) → itemCount h ≡ known → h .atcCount ≡ atcs → Walked h (memoryIn (now (ws .entry)) (now (val .entry)) (now (cw .entry)) (now (bw .entry)) (k .nodes) (k .commands) (k .blocks)) setup (shopFrom (arraysIn (now (items .exit)) (now (limits .exit)) (now (codes .exit)) (now (lens .exit)))) r) ⌝ }
 {
     if k.nodes <= 1024 {

@@ -32,7 +32,7 @@ abbrev append-claims : ℕ → append-lts.Claims
 append-claims t = (kind-of-reads.Asked, kind-of-reads.Learnt, is-join-reads.Asked, is-join-reads.Learnt, index-of-reads.Asked, index-of-reads.Learnt, append-below t, append.Post, is-not-reads.Asked, is-not-reads.Learnt, append-leaf-reads.Asked, append-leaf-reads.Learnt)
 
 append-returns : (t : ℕ) → append-lts.Need-returns (append-claims t) (append-at t) append.Post
-append-returns t c = appends-out (now (c .before .args .ws)) (now (c .before .args .lf)) (c .before .args .b) (c .before .args .i) (c .before .args .neg) (c .before .args .at) (c .before .pre .1 .1) (c .if1 .taken)
+append-returns t c = appends-out (now (c .before .before .args .ws)) (now (c .before .before .args .lf)) (c .before .before .args .b) (c .before .before .args .i) (c .before .before .args .neg) (c .before .before .args .at) (c .before .before .pre .1 .1 .0) (c .if1 .taken)
 
 append-mul-kind-of : (t : ℕ) → append-lts.Need-mul-kind-of (append-claims t) (append-at t) append.Post
 append-mul-kind-of t c = search needs
@@ -65,7 +65,7 @@ append-index-of-requires : (t : ℕ) → append-lts.Need-index-of-requires (appe
 append-index-of-requires t c κs = search needs
 
 append-append-requires : (t : ℕ) → append-lts.Need-append-requires (append-claims t) (append-at t) append.Post
-append-append-requires t c κs = (omega (arith, c .before .before .before .before .before .before .before .before .pre .0, c .before .before .before .before .before .before .before .if1 .left), (omega (arith, c .before .before .before .before .before .before .before .before .pre .1 .0, c .before .before .before .before .before .before .before .if1 .left), c .before .before .before .before .before .before .before .before .pre .1 .1))
+append-append-requires t c κs = (omega (arith, c .before .before .before .before .before .before .before .before .before .pre .0, c .before .before .before .before .before .before .before .if1 .left), (omega (arith, c .before .before .before .before .before .before .before .before .before .pre .1 .0, c .before .before .before .before .before .before .before .if1 .left), (c .before .before .before .before .before .before .before .before .before .pre .1 .1 .0, c .before .before .before .before .before .before .before .before .before .pre .1 .1 .1)))
 
 append-mul-index-of-3 : (t : ℕ) → append-lts.Need-mul-index-of-3 (append-claims t) (append-at t) append.Post
 append-mul-index-of-3 t c = search needs
@@ -83,10 +83,13 @@ append-index-of-requires-2 : (t : ℕ) → append-lts.Need-index-of-requires-2 (
 append-index-of-requires-2 t c κs = search needs
 
 append-append-requires-2 : (t : ℕ) → append-lts.Need-append-requires-2 (append-claims t) (append-at t) append.Post
-append-append-requires-2 t c κs = (omega (arith, c .before .before .before .before .before .before .before .before .before .before .before .before .pre .0, c .before .before .before .before .before .before .before .before .before .before .before .if1 .left), (omega (arith, c .before .before .before .before .before .before .before .before .before .before .before .before .pre .1 .0, c .before .before .before .before .before .before .before .before .before .before .before .if1 .left), c .before .before .before .append .ensures .grown .most))
+append-append-requires-2 t c κs = (omega (arith, c .before .before .before .before .before .before .before .before .before .before .before .before .before .before .before .pre .0, c .before .before .before .before .before .before .before .before .before .before .before .before .before .if1 .left), (omega (arith, c .before .before .before .before .before .before .before .before .before .before .before .before .before .before .before .pre .1 .0, c .before .before .before .before .before .before .before .before .before .before .before .before .before .if1 .left), (c .before .before .before .before .before .append .ensures .grown .most, omega (arith, c .before .before .before .before .before .before .before .before .before .before .before .before .before .before .before .pre .1 .1 .1, c .before .before .before .before .lf .given))))
+
+append-same-length : (t : ℕ) → append-lts.Need-same-length (append-claims t) (append-at t) append.Post
+append-same-length t c = c .before .lf2 .given ∙ c .before .before .before .before .before .before .before .lf .given
 
 append-returns-2 : (t : ℕ) → append-lts.Need-returns-2 (append-claims t) (append-at t) append.Post
-append-returns-2 t c = appends-join (now (c .before .before .before .before .before .before .before .before .before .before .before .before .before .args .ws)) (now (c .before .before .before .before .before .before .before .before .before .before .before .before .before .args .lf)) (c .before .before .before .before .before .before .before .before .before .before .before .before .before .args .b) (c .before .before .before .before .before .before .before .before .before .before .before .before .before .args .i) (c .before .before .before .before .before .before .before .before .before .before .before .before .before .args .neg) (c .before .before .before .before .before .before .before .before .before .before .before .before .before .args .at) _ (c .before .before .before .before .before .before .before .before .before .before .before .before .if1 .left) (c .before .before .before .before .before .before .before .before .before .before .before .before .before .pre .1 .0) (c .before .before .before .before .before .before .before .before .before .before .kind-of .ensures) _ _ _ _ _ _ (sym (c .before .before .before .before .before .before .before .before .before .is-join .ensures) ∙ c .before .before .before .before .before .before .before .before .if2 .taken) (c .before .before .before .before .before .index-of .ensures) (c .before .index-of2 .ensures) (c .before .before .before .before .append .ensures) (c .append2 .ensures)
+append-returns-2 t c = appends-join (now (c .before .before .before .before .before .before .before .before .before .before .before .before .before .before .before .before .before .before .args .ws)) (now (c .before .before .before .before .before .before .before .before .before .before .before .before .before .before .before .before .before .before .args .lf)) (c .before .before .before .before .before .before .before .before .before .before .before .before .before .before .before .before .before .before .args .b) (c .before .before .before .before .before .before .before .before .before .before .before .before .before .before .before .before .before .before .args .i) (c .before .before .before .before .before .before .before .before .before .before .before .before .before .before .before .before .before .before .args .neg) (c .before .before .before .before .before .before .before .before .before .before .before .before .before .before .before .before .before .before .args .at) _ (c .before .before .before .before .before .before .before .before .before .before .before .before .before .before .before .before .if1 .left) (c .before .before .before .before .before .before .before .before .before .before .before .before .before .before .before .before .before .before .pre .1 .0) (c .before .before .before .before .before .before .before .before .before .before .before .before .before .before .kind-of .ensures) _ _ _ _ _ _ (sym (c .before .before .before .before .before .before .before .before .before .before .before .before .before .is-join .ensures) ∙ c .before .before .before .before .before .before .before .before .before .before .before .before .if2 .taken) (c .before .before .before .before .before .before .before .before .before .index-of .ensures) (c .before .before .before .index-of2 .ensures) (c .before .before .before .before .before .before .before .before .append .ensures) (c .before .before .append2 .ensures)
 
 append-is-not-requires : (t : ℕ) → append-lts.Need-is-not-requires (append-claims t) (append-at t) append.Post
 append-is-not-requires t c κs = search needs
@@ -107,22 +110,28 @@ append-index-of-requires-3 : (t : ℕ) → append-lts.Need-index-of-requires-3 (
 append-index-of-requires-3 t c κs = search needs
 
 append-append-requires-3 : (t : ℕ) → append-lts.Need-append-requires-3 (append-claims t) (append-at t) append.Post
-append-append-requires-3 t c κs = (omega (arith, c .before .before .before .before .before .before .before .before .before .before .pre .0, c .before .before .before .before .before .before .before .before .before .if1 .left), (omega (arith, c .before .before .before .before .before .before .before .before .before .before .pre .1 .0, c .before .before .before .before .before .before .before .before .before .if1 .left), c .before .before .before .before .before .before .before .before .before .before .pre .1 .1))
+append-append-requires-3 t c κs = (omega (arith, c .before .before .before .before .before .before .before .before .before .before .before .pre .0, c .before .before .before .before .before .before .before .before .before .if1 .left), (omega (arith, c .before .before .before .before .before .before .before .before .before .before .before .pre .1 .0, c .before .before .before .before .before .before .before .before .before .if1 .left), (c .before .before .before .before .before .before .before .before .before .before .before .pre .1 .1 .0, c .before .before .before .before .before .before .before .before .before .before .before .pre .1 .1 .1)))
+
+append-same-length-2 : (t : ℕ) → append-lts.Need-same-length-2 (append-claims t) (append-at t) append.Post
+append-same-length-2 t c = c .before .lf3 .given
 
 append-returns-3 : (t : ℕ) → append-lts.Need-returns-3 (append-claims t) (append-at t) append.Post
-append-returns-3 t c = appends-not (now (c .before .before .before .before .before .before .before .before .before .before .before .args .ws)) (now (c .before .before .before .before .before .before .before .before .before .before .before .args .lf)) (c .before .before .before .before .before .before .before .before .before .before .before .args .b) (c .before .before .before .before .before .before .before .before .before .before .before .args .i) (c .before .before .before .before .before .before .before .before .before .before .before .args .neg) (c .before .before .before .before .before .before .before .before .before .before .before .args .at) _ (c .before .before .before .before .before .before .before .before .before .before .if1 .left) (c .before .before .before .before .before .before .before .before .before .before .before .pre .1 .0) (c .before .before .before .before .before .before .before .before .kind-of .ensures) _ _ _ (sym (c .before .before .before .before .before .is-not .ensures) ∙ c .before .before .before .before .if3 .taken) (c .before .index-of3 .ensures) (c .append3 .ensures)
+append-returns-3 t c = appends-not (now (c .before .before .before .before .before .before .before .before .before .before .before .before .before .before .args .ws)) (now (c .before .before .before .before .before .before .before .before .before .before .before .before .before .before .args .lf)) (c .before .before .before .before .before .before .before .before .before .before .before .before .before .before .args .b) (c .before .before .before .before .before .before .before .before .before .before .before .before .before .before .args .i) (c .before .before .before .before .before .before .before .before .before .before .before .before .before .before .args .neg) (c .before .before .before .before .before .before .before .before .before .before .before .before .before .before .args .at) _ (c .before .before .before .before .before .before .before .before .before .before .before .before .if1 .left) (c .before .before .before .before .before .before .before .before .before .before .before .before .before .before .pre .1 .0) (c .before .before .before .before .before .before .before .before .before .before .kind-of .ensures) _ _ _ (sym (c .before .before .before .before .before .before .before .is-not .ensures) ∙ c .before .before .before .before .before .before .if3 .taken) (c .before .before .before .index-of3 .ensures) (c .before .before .append3 .ensures)
 
 append-mul-x : (t : ℕ) → append-lts.Need-mul-x (append-claims t) (append-at t) append.Post
 append-mul-x t c = search needs
 
-append-element-copy-out-x : (t : ℕ) → append-lts.Need-element-copy-out-x (append-claims t) (append-at t) append.Post
-append-element-copy-out-x t c = search needs
+append-slice-read-x : (t : ℕ) → append-lts.Need-slice-read-x (append-claims t) (append-at t) append.Post
+append-slice-read-x t c = search needs
 
 append-append-leaf-requires : (t : ℕ) → append-lts.Need-append-leaf-requires (append-claims t) (append-at t) append.Post
 append-append-leaf-requires t c κs = search needs
 
+append-same-length-3 : (t : ℕ) → append-lts.Need-same-length-3 (append-claims t) (append-at t) append.Post
+append-same-length-3 t c = c .before .lf4 .given
+
 append-returns-4 : (t : ℕ) → append-lts.Need-returns-4 (append-claims t) (append-at t) append.Post
-append-returns-4 t c = appends-leaf (now (c .before .before .before .before .before .before .before .before .before .before .args .ws)) (now (c .before .before .before .before .before .before .before .before .before .before .args .lf)) (c .before .before .before .before .before .before .before .before .before .before .args .b) (c .before .before .before .before .before .before .before .before .before .before .args .i) (c .before .before .before .before .before .before .before .before .before .before .args .neg) (c .before .before .before .before .before .before .before .before .before .before .args .at) _ (c .before .before .before .before .before .before .before .before .before .if1 .left) (c .before .before .before .before .before .before .before .before .before .before .pre .1 .0) (c .before .before .before .before .before .before .before .kind-of .ensures) _ _ (sym (c .before .before .before .before .before .before .is-join .ensures) ∙ c .before .before .before .before .before .if2 .left) (sym (c .before .before .before .before .is-not .ensures) ∙ c .before .before .before .if3 .left) (c .append-leaf .ensures)
+append-returns-4 t c = appends-leaf (now (c .before .before .before .before .before .before .before .before .before .before .before .before .before .args .ws)) (now (c .before .before .before .before .before .before .before .before .before .before .before .before .before .args .lf)) (c .before .before .before .before .before .before .before .before .before .before .before .before .before .args .b) (c .before .before .before .before .before .before .before .before .before .before .before .before .before .args .i) (c .before .before .before .before .before .before .before .before .before .before .before .before .before .args .neg) (c .before .before .before .before .before .before .before .before .before .before .before .before .before .args .at) _ (c .before .before .before .before .before .before .before .before .before .before .before .if1 .left) (c .before .before .before .before .before .before .before .before .before .before .before .before .before .pre .1 .0) (c .before .before .before .before .before .before .before .before .before .kind-of .ensures) _ _ (sym (c .before .before .before .before .before .before .before .before .is-join .ensures) ∙ c .before .before .before .before .before .before .before .if2 .left) (sym (c .before .before .before .before .before .before .is-not .ensures) ∙ c .before .before .before .before .before .if3 .left) (c .before .before .append-leaf .ensures)
 
 pub +append-spec : {M : Type 1} → statement M
 +append-spec = close μ-append λ t. append-lts.spec (append-claims t)
@@ -146,6 +155,7 @@ pub +append-spec : {M : Type 1} → statement M
     (append-element-copy-out-index-of-2 t)
     (append-index-of-requires-2 t)
     (append-append-requires-2 t)
+    (append-same-length t)
     (append-returns-2 t)
     (append-is-not-requires t)
     (append-mul-index-of-5 t)
@@ -154,8 +164,10 @@ pub +append-spec : {M : Type 1} → statement M
     (append-element-copy-out-index-of-3 t)
     (append-index-of-requires-3 t)
     (append-append-requires-3 t)
+    (append-same-length-2 t)
     (append-returns-3 t)
     (append-mul-x t)
-    (append-element-copy-out-x t)
+    (append-slice-read-x t)
     (append-append-leaf-requires t)
+    (append-same-length-3 t)
     (append-returns-4 t)

@@ -32,7 +32,7 @@ abbrev mark-claims : ℕ → mark-lts.Claims
 mark-claims t = (kind-of-reads.Asked, kind-of-reads.Learnt, is-join-reads.Asked, is-join-reads.Learnt, index-of-reads.Asked, index-of-reads.Learnt, mark-below t, mark.Post, is-not-reads.Asked, is-not-reads.Learnt, mark-leaf-reads.Asked, mark-leaf-reads.Learnt)
 
 mark-returns : (t : ℕ) → mark-lts.Need-returns (mark-claims t) (mark-at t) mark.Post
-mark-returns t c = gathers-out (now (c .before .before .args .ws)) (now (c .before .before .args .lf)) (c .before .before .args .b) (c .before .before .args .i) (c .before .before .args .neg) (now (c .before .before .args .seen)) (c .if1 .taken)
+mark-returns t c = gathers-out (now (c .before .before .before .args .ws)) (now (c .before .before .before .args .lf)) (c .before .before .before .args .b) (c .before .before .before .args .i) (c .before .before .before .args .neg) (now (c .before .before .before .args .seen)) (c .if1 .taken)
 
 mark-mul-kind-of : (t : ℕ) → mark-lts.Need-mul-kind-of (mark-claims t) (mark-at t) mark.Post
 mark-mul-kind-of t c = search needs
@@ -65,7 +65,7 @@ mark-index-of-requires : (t : ℕ) → mark-lts.Need-index-of-requires (mark-cla
 mark-index-of-requires t c κs = search needs
 
 mark-mark-requires : (t : ℕ) → mark-lts.Need-mark-requires (mark-claims t) (mark-at t) mark.Post
-mark-mark-requires t c κs = (omega (arith, c .before .before .before .before .before .before .before .before .before .pre .0, c .before .before .before .before .before .before .before .if1 .left), omega (arith, c .before .before .before .before .before .before .before .before .before .pre .1, c .before .before .before .before .before .before .before .if1 .left))
+mark-mark-requires t c κs = (omega (arith, c .before .before .before .before .before .before .before .before .before .before .pre .0, c .before .before .before .before .before .before .before .if1 .left), (omega (arith, c .before .before .before .before .before .before .before .before .before .before .pre .1 .0, c .before .before .before .before .before .before .before .if1 .left), omega (arith, c .before .before .before .before .before .before .before .before .before .before .pre .1 .1, c .before .before .before .before .before .before .before .if1 .left)))
 
 mark-mul-index-of-3 : (t : ℕ) → mark-lts.Need-mul-index-of-3 (mark-claims t) (mark-at t) mark.Post
 mark-mul-index-of-3 t c = search needs
@@ -83,13 +83,13 @@ mark-index-of-requires-2 : (t : ℕ) → mark-lts.Need-index-of-requires-2 (mark
 mark-index-of-requires-2 t c κs = search needs
 
 mark-mark-requires-2 : (t : ℕ) → mark-lts.Need-mark-requires-2 (mark-claims t) (mark-at t) mark.Post
-mark-mark-requires-2 t c κs = (omega (arith, c .before .before .before .before .before .before .before .before .before .before .before .before .before .before .before .pre .0, c .before .before .before .before .before .before .before .before .before .before .before .before .before .if1 .left), omega (arith, c .before .before .before .before .before .before .before .before .before .before .before .before .before .before .before .pre .1, c .before .before .before .before .before .before .before .before .before .before .before .before .before .if1 .left))
+mark-mark-requires-2 t c κs = (omega (arith, c .before .before .before .before .before .before .before .before .before .before .before .before .before .before .before .before .pre .0, c .before .before .before .before .before .before .before .before .before .before .before .before .before .if1 .left), (omega (arith, c .before .before .before .before .before .before .before .before .before .before .before .before .before .before .before .before .pre .1 .0, c .before .before .before .before .before .before .before .before .before .before .before .before .before .if1 .left), omega (arith, c .before .before .before .before .before .before .before .before .before .before .before .before .before .before .before .before .pre .1 .1, c .before .before .before .before .before .before .before .before .before .before .before .before .before .if1 .left)))
 
 mark-same-length : (t : ℕ) → mark-lts.Need-same-length (mark-claims t) (mark-at t) mark.Post
 mark-same-length t c = c .before .seen2 .given ∙ c .before .before .before .before .before .before .before .seen .given
 
 mark-returns-2 : (t : ℕ) → mark-lts.Need-returns-2 (mark-claims t) (mark-at t) mark.Post
-mark-returns-2 t c = gathers-join (now (c .before .before .before .before .before .before .before .before .before .before .before .before .before .before .before .before .before .before .args .ws)) (now (c .before .before .before .before .before .before .before .before .before .before .before .before .before .before .before .before .before .before .args .lf)) (c .before .before .before .before .before .before .before .before .before .before .before .before .before .before .before .before .before .before .args .b) (c .before .before .before .before .before .before .before .before .before .before .before .before .before .before .before .before .before .before .args .i) (c .before .before .before .before .before .before .before .before .before .before .before .before .before .before .before .before .before .before .args .neg) _ (c .before .before .before .before .before .before .before .before .before .before .before .before .before .before .before .before .if1 .left) (c .before .before .before .before .before .before .before .before .before .before .before .before .before .before .kind-of .ensures) _ _ _ _ _ (sym (c .before .before .before .before .before .before .before .before .before .before .before .before .before .is-join .ensures) ∙ c .before .before .before .before .before .before .before .before .before .before .before .before .if2 .taken) (c .before .before .before .before .before .before .before .before .before .index-of .ensures) (c .before .before .before .index-of2 .ensures) (c .before .before .before .before .before .before .before .before .mark .ensures) (c .before .before .mark2 .ensures)
+mark-returns-2 t c = gathers-join (now (c .before .before .before .before .before .before .before .before .before .before .before .before .before .before .before .before .before .before .before .args .ws)) (now (c .before .before .before .before .before .before .before .before .before .before .before .before .before .before .before .before .before .before .before .args .lf)) (c .before .before .before .before .before .before .before .before .before .before .before .before .before .before .before .before .before .before .before .args .b) (c .before .before .before .before .before .before .before .before .before .before .before .before .before .before .before .before .before .before .before .args .i) (c .before .before .before .before .before .before .before .before .before .before .before .before .before .before .before .before .before .before .before .args .neg) _ (c .before .before .before .before .before .before .before .before .before .before .before .before .before .before .before .before .if1 .left) (c .before .before .before .before .before .before .before .before .before .before .before .before .before .before .kind-of .ensures) _ _ _ _ _ (sym (c .before .before .before .before .before .before .before .before .before .before .before .before .before .is-join .ensures) ∙ c .before .before .before .before .before .before .before .before .before .before .before .before .if2 .taken) (c .before .before .before .before .before .before .before .before .before .index-of .ensures) (c .before .before .before .index-of2 .ensures) (c .before .before .before .before .before .before .before .before .mark .ensures) (c .before .before .mark2 .ensures)
 
 mark-is-not-requires : (t : ℕ) → mark-lts.Need-is-not-requires (mark-claims t) (mark-at t) mark.Post
 mark-is-not-requires t c κs = search needs
@@ -110,19 +110,19 @@ mark-index-of-requires-3 : (t : ℕ) → mark-lts.Need-index-of-requires-3 (mark
 mark-index-of-requires-3 t c κs = search needs
 
 mark-mark-requires-3 : (t : ℕ) → mark-lts.Need-mark-requires-3 (mark-claims t) (mark-at t) mark.Post
-mark-mark-requires-3 t c κs = (omega (arith, c .before .before .before .before .before .before .before .before .before .before .before .pre .0, c .before .before .before .before .before .before .before .before .before .if1 .left), omega (arith, c .before .before .before .before .before .before .before .before .before .before .before .pre .1, c .before .before .before .before .before .before .before .before .before .if1 .left))
+mark-mark-requires-3 t c κs = (omega (arith, c .before .before .before .before .before .before .before .before .before .before .before .before .pre .0, c .before .before .before .before .before .before .before .before .before .if1 .left), (omega (arith, c .before .before .before .before .before .before .before .before .before .before .before .before .pre .1 .0, c .before .before .before .before .before .before .before .before .before .if1 .left), omega (arith, c .before .before .before .before .before .before .before .before .before .before .before .before .pre .1 .1, c .before .before .before .before .before .before .before .before .before .if1 .left)))
 
 mark-same-length-2 : (t : ℕ) → mark-lts.Need-same-length-2 (mark-claims t) (mark-at t) mark.Post
 mark-same-length-2 t c = c .before .seen3 .given
 
 mark-returns-3 : (t : ℕ) → mark-lts.Need-returns-3 (mark-claims t) (mark-at t) mark.Post
-mark-returns-3 t c = gathers-not (now (c .before .before .before .before .before .before .before .before .before .before .before .before .before .before .args .ws)) (now (c .before .before .before .before .before .before .before .before .before .before .before .before .before .before .args .lf)) (c .before .before .before .before .before .before .before .before .before .before .before .before .before .before .args .b) (c .before .before .before .before .before .before .before .before .before .before .before .before .before .before .args .i) (c .before .before .before .before .before .before .before .before .before .before .before .before .before .before .args .neg) _ (c .before .before .before .before .before .before .before .before .before .before .before .before .if1 .left) (c .before .before .before .before .before .before .before .before .before .before .kind-of .ensures) _ _ _ (sym (c .before .before .before .before .before .before .before .is-not .ensures) ∙ c .before .before .before .before .before .before .if3 .taken) (c .before .before .before .index-of3 .ensures) (c .before .before .mark3 .ensures)
+mark-returns-3 t c = gathers-not (now (c .before .before .before .before .before .before .before .before .before .before .before .before .before .before .before .args .ws)) (now (c .before .before .before .before .before .before .before .before .before .before .before .before .before .before .before .args .lf)) (c .before .before .before .before .before .before .before .before .before .before .before .before .before .before .before .args .b) (c .before .before .before .before .before .before .before .before .before .before .before .before .before .before .before .args .i) (c .before .before .before .before .before .before .before .before .before .before .before .before .before .before .before .args .neg) _ (c .before .before .before .before .before .before .before .before .before .before .before .before .if1 .left) (c .before .before .before .before .before .before .before .before .before .before .kind-of .ensures) _ _ _ (sym (c .before .before .before .before .before .before .before .is-not .ensures) ∙ c .before .before .before .before .before .before .if3 .taken) (c .before .before .before .index-of3 .ensures) (c .before .before .mark3 .ensures)
 
 mark-mul-mark-leaf : (t : ℕ) → mark-lts.Need-mul-mark-leaf (mark-claims t) (mark-at t) mark.Post
 mark-mul-mark-leaf t c = search needs
 
-mark-element-copy-out-mark-leaf : (t : ℕ) → mark-lts.Need-element-copy-out-mark-leaf (mark-claims t) (mark-at t) mark.Post
-mark-element-copy-out-mark-leaf t c = search needs
+mark-shared-slice-read-mark-leaf : (t : ℕ) → mark-lts.Need-shared-slice-read-mark-leaf (mark-claims t) (mark-at t) mark.Post
+mark-shared-slice-read-mark-leaf t c = search needs
 
 mark-mark-leaf-requires : (t : ℕ) → mark-lts.Need-mark-leaf-requires (mark-claims t) (mark-at t) mark.Post
 mark-mark-leaf-requires t c κs = search needs
@@ -131,7 +131,7 @@ mark-same-length-3 : (t : ℕ) → mark-lts.Need-same-length-3 (mark-claims t) (
 mark-same-length-3 t c = c .before .seen4 .given
 
 mark-returns-4 : (t : ℕ) → mark-lts.Need-returns-4 (mark-claims t) (mark-at t) mark.Post
-mark-returns-4 t c = gathers-leaf (now (c .before .before .before .before .before .before .before .before .before .before .before .before .before .args .ws)) (now (c .before .before .before .before .before .before .before .before .before .before .before .before .before .args .lf)) (c .before .before .before .before .before .before .before .before .before .before .before .before .before .args .b) (c .before .before .before .before .before .before .before .before .before .before .before .before .before .args .i) (c .before .before .before .before .before .before .before .before .before .before .before .before .before .args .neg) _ (c .before .before .before .before .before .before .before .before .before .before .before .if1 .left) (c .before .before .before .before .before .before .before .before .before .kind-of .ensures) _ _ (sym (c .before .before .before .before .before .before .before .before .is-join .ensures) ∙ c .before .before .before .before .before .before .before .if2 .left) (sym (c .before .before .before .before .before .before .is-not .ensures) ∙ c .before .before .before .before .before .if3 .left) (c .before .before .mark-leaf .ensures)
+mark-returns-4 t c = gathers-leaf (now (c .before .before .before .before .before .before .before .before .before .before .before .before .before .before .args .ws)) (now (c .before .before .before .before .before .before .before .before .before .before .before .before .before .before .args .lf)) (c .before .before .before .before .before .before .before .before .before .before .before .before .before .before .args .b) (c .before .before .before .before .before .before .before .before .before .before .before .before .before .before .args .i) (c .before .before .before .before .before .before .before .before .before .before .before .before .before .before .args .neg) _ (c .before .before .before .before .before .before .before .before .before .before .before .if1 .left) (c .before .before .before .before .before .before .before .before .before .kind-of .ensures) _ _ (sym (c .before .before .before .before .before .before .before .before .is-join .ensures) ∙ c .before .before .before .before .before .before .before .if2 .left) (sym (c .before .before .before .before .before .before .is-not .ensures) ∙ c .before .before .before .before .before .if3 .left) (c .before .before .mark-leaf .ensures)
 
 pub +mark-spec : {M : Type 1} → statement M
 +mark-spec = close μ-mark λ t. mark-lts.spec (mark-claims t)
@@ -167,7 +167,7 @@ pub +mark-spec : {M : Type 1} → statement M
     (mark-same-length-2 t)
     (mark-returns-3 t)
     (mark-mul-mark-leaf t)
-    (mark-element-copy-out-mark-leaf t)
+    (mark-shared-slice-read-mark-leaf t)
     (mark-mark-leaf-requires t)
     (mark-same-length-3 t)
     (mark-returns-4 t)

@@ -17,13 +17,13 @@ abbrev μ-loop : tie.MeasureT-loop
 μ-loop lf seen₀ from to neg j₀ seen j = to - j
 
 loop-holds : tie.Need-loop-holds Inv-loop μ-loop
-loop-holds c = ((omega arith, c .before .pre .0), (marked-none (now (c .before .args .lf)) (c .before .args .neg) (c .before .args .from) (now (c .before .args .seen)), refl))
+loop-holds c = ((omega arith, c .before .before .pre .0), (marked-none (now (c .before .before .args .lf)) (c .before .before .args .neg) (c .before .before .args .from) (now (c .before .before .args .seen)), refl))
 
 mul-turn : tie.Need-mul-turn Inv-loop μ-loop
 mul-turn c = search needs
 
-element-copy-out-turn : tie.Need-element-copy-out-turn Inv-loop μ-loop
-element-copy-out-turn c = search needs
+shared-slice-read-turn : tie.Need-shared-slice-read-turn Inv-loop μ-loop
+shared-slice-read-turn c = search needs
 
 turn-requires : tie.Need-turn-requires Inv-loop μ-loop
 turn-requires c κs = search needs
@@ -41,13 +41,13 @@ loop-less : tie.Need-loop-less Inv-loop μ-loop
 loop-less c = omega (arith, c .before .before .before .before .before .before .before .loop-test .taken)
 
 loop-again : tie.Need-loop-again Inv-loop μ-loop
-loop-again c = ((omega (arith, c .before .before .before .before .before .before .before .before .loop .inv .0 .0), omega (arith, c .before .before .before .before .before .before .before .loop-test .taken)), (c .before .before .mark-entry .ensures ∙ marked-on (now (c .before .before .before .before .before .before .before .before .before .before .args .lf)) (c .before .before .before .before .before .before .before .before .before .before .args .neg) (c .before .before .before .before .before .before .before .before .before .before .args .from) (c .before .before .before .before .before .before .before .before .loop .j) (now (c .before .before .before .before .before .before .before .before .before .before .args .seen)) (c .before .before .before .before .before .before .before .before .loop .seen) _ _ (c .before .before .before .before .before .before .before .before .loop .inv .0 .0) (c .before .before .before .before .before .before .before .before .loop .inv .1 .0) (c .before .before .before .before .turn .ensures) (c .before .before .before .index-of .ensures), c .before .seen .given ∙ c .before .before .before .before .before .before .before .before .loop .inv .1 .1))
+loop-again c = ((omega (arith, c .before .before .before .before .before .before .before .before .loop .inv .0 .0), omega (arith, c .before .before .before .before .before .before .before .loop-test .taken)), (c .before .before .mark-entry .ensures ∙ marked-on (now (c .before .before .before .before .before .before .before .before .before .before .before .args .lf)) (c .before .before .before .before .before .before .before .before .before .before .before .args .neg) (c .before .before .before .before .before .before .before .before .before .before .before .args .from) (c .before .before .before .before .before .before .before .before .loop .j) (now (c .before .before .before .before .before .before .before .before .before .before .before .args .seen)) (c .before .before .before .before .before .before .before .before .loop .seen) _ _ (c .before .before .before .before .before .before .before .before .loop .inv .0 .0) (c .before .before .before .before .before .before .before .before .loop .inv .1 .0) (c .before .before .before .before .turn .ensures) (c .before .before .before .index-of .ensures), c .before .seen .given ∙ c .before .before .before .before .before .before .before .before .loop .inv .1 .1))
 
 same-length : tie.Need-same-length Inv-loop μ-loop
 same-length c = c .before .loop .inv .1 .1
 
 returns : tie.Need-returns Inv-loop μ-loop
-returns c = let z : c .before .before .before .args .to ≡ c .before .loop .j = omega (arith, c .loop-test .left, c .before .loop .inv .0 .1) in rw z (c .before .loop .inv .1 .0)
+returns c = let z : c .before .before .before .before .args .to ≡ c .before .loop .j = omega (arith, c .loop-test .left, c .before .loop .inv .0 .1) in rw z (c .before .loop .inv .1 .0)
 
 pub mark-list-spec : {M : Type 1} → statement M
 mark-list-spec =
@@ -57,7 +57,7 @@ mark-list-spec =
     μ-loop
     loop-holds
     mul-turn
-    element-copy-out-turn
+    shared-slice-read-turn
     turn-requires
     index-of-requires
     mark-entry-requires

@@ -23,7 +23,7 @@ enum-told : tie.Need-enum-told
 enum-told c = search needs
 
 returns : tie.Need-returns
-returns c = λ h ks m n w. no-compare h (nodesIn (now (c .before .before .before .args .ws)) (now (c .before .before .before .args .val)) n) (c .before .before .before .args .i) _ (c .before .kind-of .ensures) (c .match .keys2) ks m
+returns c = λ h ks m n w. no-compare h (nodesIn (now (c .before .before .before .before .args .ws)) (now (c .before .before .before .before .args .val)) n) (c .before .before .before .before .args .i) _ (c .before .kind-of .ensures) (c .match .keys2) ks m
 
 mul-index-of : tie.Need-mul-index-of
 mul-index-of c = search needs
@@ -65,7 +65,7 @@ compared-requires : tie.Need-compared-requires
 compared-requires c κs = search needs
 
 returns-2 : tie.Need-returns-2
-returns-2 c = λ h ks m n w. compare-law (nodesIn (now (c .before .before .before .before .before .before .before .before .before .before .before .args .ws)) (now (c .before .before .before .before .before .before .before .before .before .before .before .args .val)) n) (c .before .before .before .before .before .before .before .before .before .before .before .args .i) _ _ (c .before .before .before .before .before .before .before .before .before .kind-of .ensures) (c .before .before .before .before .before .index-of .ensures) h ks (now (c .before .before .before .before .before .before .before .before .before .before .before .args .lf)) m _ _ _ _ (c .before .before .index-of2 .ensures) (c .before .number-below .ensures n) (c .before .before .before .before .word-below .ensures) (c .compared .ensures) w
+returns-2 c = λ h ks m n w. compare-law (nodesIn (now (c .before .before .before .before .before .before .before .before .before .before .before .before .args .ws)) (now (c .before .before .before .before .before .before .before .before .before .before .before .before .args .val)) n) (c .before .before .before .before .before .before .before .before .before .before .before .before .args .i) _ _ (c .before .before .before .before .before .before .before .before .before .kind-of .ensures) (c .before .before .before .before .before .index-of .ensures) h ks (now (c .before .before .before .before .before .before .before .before .before .before .before .before .args .lf)) m _ _ _ _ (c .before .before .index-of2 .ensures) (c .before .number-below .ensures n) (c .before .before .before .before .word-below .ensures) (c .compared .ensures) w
 
 pub compare-at-spec : {M : Type 1} → statement M
 compare-at-spec =

@@ -9,8 +9,8 @@ use Rattle.keys.proofs.word_below.Tie as tie
 mul-result : tie.Need-mul-result
 mul-result c = search needs
 
-element-copy-out-result : tie.Need-element-copy-out-result
-element-copy-out-result c = search needs
+shared-slice-read-result : tie.Need-shared-slice-read-result
+shared-slice-read-result c = search needs
 
 returns : tie.Need-returns
 returns c = sym (rw (lt-ltb (c .before .before .args .i) (c .before .before .args .b) (c .before .if1 .taken)))
@@ -19,4 +19,4 @@ returns-2 : tie.Need-returns-2
 returns-2 c = sym (rw (le-ltb (c .before .args .i) (c .before .args .b) (c .if1 .left)))
 
 pub word-below-spec : {M : Type 1} → statement M
-word-below-spec = tie.close (tie.spec mul-result element-copy-out-result returns returns-2)
+word-below-spec = tie.close (tie.spec mul-result shared-slice-read-result returns returns-2)

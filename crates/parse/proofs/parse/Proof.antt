@@ -48,7 +48,7 @@ walk-requires c κs =
     let e = c .before .before .before .before .before in
     let s = e .before .before .before in
     let p = call-passed (sheet s) (memory s) (s .args .setup .0) (passes e) in
-    (record { blocks = p .blocks; rest = p .rest; is = p .judged }, (p .inside, shop-none))
+    (record { blocks = p .blocks; rest = p .rest; is = p .judged }, shop-none)
 
 refused-by-requires-2 : tie.Need-refused-by-requires-2
 refused-by-requires-2 c κs = search needs

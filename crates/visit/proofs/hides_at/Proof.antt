@@ -5,7 +5,7 @@ use mir.Syntax.{w16}
 use mir.Val.{SFits}
 use mir.Facts.{toZ-ofZ}
 use Rattle.scan.specs.Reads.{shortIs}
-use Rattle.visit.specs.Hiding.{hidesBy, hides-below}
+use Rattle.scan.specs.Shown.{hidesBy, hides-negative}
 use mathlib.Core.Path.{ap, ap₂, sym, _∙_}
 use borrow.Author.Needs.{needs}
 use Rattle.visit.proofs.hides_at.Statement.{statement}
@@ -30,7 +30,7 @@ returns-2 : tie.Need-returns-2
 returns-2 c = search needs
 
 returns-3 : tie.Need-returns-3
-returns-3 c = let f : SFits w16 (c .before .item .given .0 .0) = record { sfits = c .known-told .given .0 .1 } in ap (λ (z : ℤ). ltZ z (pos 0)) (toZ-ofZ f) ∙ hides-below (c .before .item .given .0 .0) (c .before .before .before .enum-told .given .0 .0) ∙ sym (ap₂ hidesBy (ap shortIs (c .before .item .given .1)) (ap shortIs (c .before .before .before .enum-told .given .1)))
+returns-3 c = let f : SFits w16 (c .before .item .given .0 .0) = record { sfits = c .known-told .given .0 .1 } in ap (λ (z : ℤ). ltZ z (pos 0)) (toZ-ofZ f) ∙ hides-negative (c .before .item .given .0 .0) (c .before .before .before .enum-told .given .0 .0) ∙ sym (ap₂ hidesBy (ap shortIs (c .before .item .given .1)) (ap shortIs (c .before .before .before .enum-told .given .1)))
 
 pub hides-at-spec : {M : Type 1} → statement M
 hides-at-spec =

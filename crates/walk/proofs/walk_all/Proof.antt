@@ -35,7 +35,7 @@ abbrev μ-loop : tie.MeasureT-loop
 μ-loop ws val cw bw lf keys seen₀ marks₀ cells₀ stack₀ items₀ limits₀ codes₀ lens₀ k keyed known w₀ depth₀ seen marks cells stack items limits codes lens w depth = unmarked (take (k .blocks) marks)
 
 loop-holds : tie.Need-loop-holds Inv-loop μ-loop
-loop-holds c = (c .before .before .pre .1, (λ h e q. refl, refl))
+loop-holds c = (c .before .before .before .pre .1, (λ h e q. refl, refl))
 
 top-unmarked-requires : tie.Need-top-unmarked-requires Inv-loop μ-loop
 top-unmarked-requires c κs = let r = c .before .before .before .loop .inv .0 in (few-blocks _ (r .accepted), omega (arith, r .room))
@@ -87,8 +87,8 @@ element-copy-out-visit c = omega (arith, top-fits (c .before .before .before .be
 
 visit-requires : tie.Need-visit-requires Inv-loop μ-loop
 visit-requires c κs = let a = c .before .before .before .before .before .before .before .before .before .before .before .before .before .before .before .before .loop in
-    let s = c .before .before .before .before .before .before .before .before .before .before .before .before .before .before .before .before .before .before .before .pre .0 .1 in
-    (((s .keyed .keyed .most, omega (arith, c .before .before .before .before .before .before .before .before .before .before .before .before .before .before .before .before .before .before .before .pre .0 .0, a .inv .1 .1)), s .keyed .keyed .keys), opens (a .inv .0) (c .before .before .before .before .before .before .before .before .before .before .before .before .top-unmarked .ensures) (c .before .before .before .before .before .before .before .before .before .before .before .if1 .left) refl refl (is-code _ _ (sym (c .before .before .before .before .before .before .before .before .before .is-code .ensures) ∙ not-false _ (c .before .before .before .before .before .before .before .before .if2 .left))))
+    let s = c .before .before .before .before .before .before .before .before .before .before .before .before .before .before .before .before .before .before .before .before .pre .0 .1 in
+    ((s .long, ((s .keyed .keyed .most, omega (arith, c .before .before .before .before .before .before .before .before .before .before .before .before .before .before .before .before .before .before .before .before .pre .0 .0, a .inv .1 .1)), s .keyed .keyed .keys)), opens (a .inv .0) (c .before .before .before .before .before .before .before .before .before .before .before .before .top-unmarked .ensures) (c .before .before .before .before .before .before .before .before .before .before .before .if1 .left) refl refl (is-code _ _ (sym (c .before .before .before .before .before .before .before .before .before .is-code .ensures) ∙ not-false _ (c .before .before .before .before .before .before .before .before .if2 .left))))
 
 same-length-3 : tie.Need-same-length-3 Inv-loop μ-loop
 same-length-3 c = c .before .before .before .before .seen .given ∙ c .before .before .before .before .before .before .before .before .before .before .before .before .before .before .before .before .before .before .before .before .before .before .loop .inv .1 .1
@@ -99,17 +99,17 @@ returns-3 c = let a = c .before .before .before .before .before .before .before 
 
 push-requires : tie.Need-push-requires Inv-loop μ-loop
 push-requires c κs = let a = c .before .before .before .before .before .before .before .before .before .before .before .before .before .before .before .before .before .before .before .before .before .before .before .loop in
-    let s = c .before .before .before .before .before .before .before .before .before .before .before .before .before .before .before .before .before .before .before .before .before .before .before .before .before .before .pre .0 .1 in
+    let s = c .before .before .before .before .before .before .before .before .before .before .before .before .before .before .before .before .before .before .before .before .before .before .before .before .before .before .before .pre .0 .1 in
     (push-room (a .inv .0) (c .before .before .before .before .before .before .before .before .before .before .before .before .before .before .before .before .before .before .before .top-unmarked .ensures) (c .before .before .before .before .before .before .before .before .before .before .before .before .before .before .before .before .before .before .if1 .left) refl refl (is-code _ _ (sym (c .before .before .before .before .before .before .before .before .before .before .before .before .before .before .before .before .is-code .ensures) ∙ not-false _ (c .before .before .before .before .before .before .before .before .before .before .before .before .before .before .before .if2 .left))) (c .before .before .before .before .before .before .visit .ensures (s .sheet) (s .count) (s .keyed)) (c .before .if3 .left), a .inv .0 .tall)
 
 loop-less : tie.Need-loop-less Inv-loop μ-loop
 loop-less c = let a = c .before .before .before .before .before .before .before .before .before .before .before .before .before .before .before .before .before .before .before .before .before .before .before .before .loop in
-    let s = c .before .before .before .before .before .before .before .before .before .before .before .before .before .before .before .before .before .before .before .before .before .before .before .before .before .before .before .pre .0 .1 in
+    let s = c .before .before .before .before .before .before .before .before .before .before .before .before .before .before .before .before .before .before .before .before .before .before .before .before .before .before .before .before .pre .0 .1 in
     omega (arith, less (a .inv .0) (c .before .before .before .before .before .before .before .before .before .before .before .before .before .before .before .before .before .before .before .before .top-unmarked .ensures) (c .before .before .before .before .before .before .before .before .before .before .before .before .before .before .before .before .before .before .before .if1 .left) refl refl (is-code _ _ (sym (c .before .before .before .before .before .before .before .before .before .before .before .before .before .before .before .before .before .is-code .ensures) ∙ not-false _ (c .before .before .before .before .before .before .before .before .before .before .before .before .before .before .before .before .if2 .left))) (c .before .before .before .before .before .before .before .visit .ensures (s .sheet) (s .count) (s .keyed)) (c .before .before .if3 .left))
 
 loop-again : tie.Need-loop-again Inv-loop μ-loop
 loop-again c = let a = c .before .before .before .before .before .before .before .before .before .before .before .before .before .before .before .before .before .before .before .before .before .before .before .before .loop in
-    let s = c .before .before .before .before .before .before .before .before .before .before .before .before .before .before .before .before .before .before .before .before .before .before .before .before .before .before .before .pre .0 .1 in (
+    let s = c .before .before .before .before .before .before .before .before .before .before .before .before .before .before .before .before .before .before .before .before .before .before .before .before .before .before .before .before .pre .0 .1 in (
       again (a .inv .0) (c .before .before .before .before .before .before .before .before .before .before .before .before .before .before .before .before .before .before .before .before .top-unmarked .ensures) (c .before .before .before .before .before .before .before .before .before .before .before .before .before .before .before .before .before .before .before .if1 .left) refl refl (is-code _ _ (sym (c .before .before .before .before .before .before .before .before .before .before .before .before .before .before .before .before .before .is-code .ensures) ∙ not-false _ (c .before .before .before .before .before .before .before .before .before .before .before .before .before .before .before .before .if2 .left))) (c .before .before .before .before .before .before .before .visit .ensures (s .sheet) (s .count) (s .keyed)) (c .before .before .if3 .left) (c .push .ensures),
       (λ h e q. same (a .inv .0) (c .before .before .before .before .before .before .before .before .before .before .before .before .before .before .before .before .before .before .before .before .top-unmarked .ensures) (c .before .before .before .before .before .before .before .before .before .before .before .before .before .before .before .before .before .before .before .if1 .left) refl refl (is-code _ _ (sym (c .before .before .before .before .before .before .before .before .before .before .before .before .before .before .before .before .before .is-code .ensures) ∙ not-false _ (c .before .before .before .before .before .before .before .before .before .before .before .before .before .before .before .before .if2 .left))) (c .before .before .before .before .before .before .before .visit .ensures h e q) (c .before .before .if3 .left) (c .push .ensures) ∙ a .inv .1 .0 h e q, c .before .before .before .before .before .before .seen .given ∙ a .inv .1 .1),
     )
@@ -118,7 +118,7 @@ same-length-4 : tie.Need-same-length-4 Inv-loop μ-loop
 same-length-4 c = c .before .loop .inv .1 .1
 
 returns-4 : tie.Need-returns-4 Inv-loop μ-loop
-returns-4 c = let a = c .before .loop in λ h e q. came-end (a .inv .0) h (a .cells) _ (a .inv .1 .0 h e q) (omega (arith, top-most (take (c .before .before .before .before .args .k .blocks) (a .marks)) (a .stack) (a .depth)))
+returns-4 c = let a = c .before .loop in λ h e q. came-end (a .inv .0) h (a .cells) _ (a .inv .1 .0 h e q) (omega (arith, top-most (take (c .before .before .before .before .before .args .k .blocks) (a .marks)) (a .stack) (a .depth)))
 
 pub walk-all-spec : {M : Type 1} → statement M
 walk-all-spec =

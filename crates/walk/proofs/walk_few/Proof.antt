@@ -9,11 +9,14 @@ slice-aggregate-walk-over c = search needs
 slice-aggregate-walk-over-2 : tie.Need-slice-aggregate-walk-over-2
 slice-aggregate-walk-over-2 c = search needs
 
+slice-aggregate-walk-over-3 : tie.Need-slice-aggregate-walk-over-3
+slice-aggregate-walk-over-3 c = search needs
+
 walk-over-requires : tie.Need-walk-over-requires
-walk-over-requires c κs = (((c .before .before .before .before .before .before .pre .0, (search needs, search needs))), c .before .before .before .before .before .before .pre .1)
+walk-over-requires c κs = ((c .before .before .before .before .before .before .before .pre .0, (c .before .before .before .before .before .before .before .pre .0, (search needs, search needs))), c .before .before .before .before .before .before .before .pre .1)
 
 returns : tie.Need-returns
-returns c = c .before .before .walk-over .ensures
+returns c = c .before .before .before .walk-over .ensures
 
 pub walk-few-spec : {M : Type 1} → statement M
 walk-few-spec =
@@ -21,5 +24,6 @@ walk-few-spec =
     (tie.spec
     slice-aggregate-walk-over
     slice-aggregate-walk-over-2
+    slice-aggregate-walk-over-3
     walk-over-requires
     returns)

@@ -1,5 +1,6 @@
 -- `walk::walk_many` meets its contract: the tables are long enough for as many nodes as the script keeps. Assumes nothing.
 use Rattle.walk.proofs.Turns.{few-nodes}
+use native.Mathlib.Omega.{arith}
 use borrow.Author.Needs.{needs}
 use Rattle.walk.proofs.walk_many.Statement.{statement}
 use Rattle.walk.proofs.walk_many.Tie as tie
@@ -10,11 +11,14 @@ slice-aggregate-walk-over c = search needs
 slice-aggregate-walk-over-2 : tie.Need-slice-aggregate-walk-over-2
 slice-aggregate-walk-over-2 c = search needs
 
+slice-aggregate-walk-over-3 : tie.Need-slice-aggregate-walk-over-3
+slice-aggregate-walk-over-3 c = search needs
+
 walk-over-requires : tie.Need-walk-over-requires
-walk-over-requires c κs = ((few-nodes _ (c .before .before .before .before .before .before .pre .0), (search needs, search needs)), c .before .before .before .before .before .before .pre)
+walk-over-requires c κs = let n = few-nodes _ (c .before .before .before .before .before .before .before .pre .0) in ((omega arith, (n, (search needs, search needs))), c .before .before .before .before .before .before .before .pre)
 
 returns : tie.Need-returns
-returns c = c .before .before .walk-over .ensures
+returns c = c .before .before .before .walk-over .ensures
 
 pub walk-many-spec : {M : Type 1} → statement M
 walk-many-spec =
@@ -22,5 +26,6 @@ walk-many-spec =
     (tie.spec
     slice-aggregate-walk-over
     slice-aggregate-walk-over-2
+    slice-aggregate-walk-over-3
     walk-over-requires
     returns)
