@@ -1,11 +1,13 @@
 -- What a node below b is worth, by the kind that was found there. Assumes nothing.
-use mathlib.Core.Path.{_≡_, sym, ap, _∙_}
+use mathlib.Core.Path.{_≡_, refl, sym, ap, _∙_, subst}
+use mathlib.Core.Option.{Option, none, some}
 use mathlib.Core.List.{List}
 use Prim.Native.Nat.{ℕ, _≤_, _<_}
 use lib.IntN.{ℤ}
 use Rattle.model.specs.Save.{Save}
 use Rattle.model.specs.Image.{kindOf}
-use Rattle.model.specs.Expr.{Value, ok, stop, eval}
+use Rattle.model.specs.Expr.{Expr, two, one, imm16, imm32, other, Value, ok, stop, apply1, eval}
+use Rattle.model.specs.Parse.{value}
 use Rattle.model.specs.Memory.{Nodes, codeAt, leftAt, rightAt, valueAt}
 use Rattle.model.specs.declared.Op2.{Op2}
 use Rattle.model.specs.declared.Op1.{Op1}
@@ -13,6 +15,23 @@ use Rattle.model.specs.declared.Kind.{Kind}
 use Rattle.model.specs.declared.Kind.the-variants.{Two, One, Imm16, Imm32, Other}
 use Rattle.expr.specs.Tree.{treeBelow, below-out, below-two, below-one, below-imm16, below-imm32, below-other}
 use Rattle.expr.specs.Value.{join2, join1}
+
+-- an Imm is worth its number
+Worth : Value → Option ℤ → Type 0
+Worth a none = Unit
+Worth a (some z) = a ≡ ok z
+
+imm-worth : (s : Save) (v : List ℤ) (e : Expr) → Worth (eval s v e) (value e)
+unfolding Worth
+imm-worth s v (two o a b) = tt
+imm-worth s v (one o a) = tt
+imm-worth s v (imm16 z) = refl
+imm-worth s v (imm32 z) = refl
+imm-worth s v other = tt
+
+value-eval : (s : Save) (v : List ℤ) (e : Expr) (z : ℤ) → value e ≡ some z → eval s v e ≡ ok z
+unfolding Worth
+value-eval s v e z p = subst (Worth (eval s v e)) p (imm-worth s v e)
 
 pub out-done : (s : Save) (v : List ℤ) (ns : Nodes) (b i : ℕ) → b ≤ i → stop 13 ≡ eval s v (treeBelow ns b i)
 out-done s v ns b i h = sym (ap (eval s v) (below-out ns b i h))
@@ -23,6 +42,9 @@ module _ (s : Save) (v : List ℤ) (ns : Nodes) (b i : ℕ) (lt : i < b) (k : Ki
 
   pub one-done : (o : Op1) (r x : Value) → k ≡ One o → r ≡ join1 s v o x → x ≡ eval s v (treeBelow ns i (leftAt ns i)) → r ≡ eval s v (treeBelow ns b i)
   one-done o r x e er ex = er ∙ rw ex (sym (ap (eval s v) (below-one ns b i lt k found o e)))
+
+  pub number-done : (o : Op1) (r z : ℤ) → k ≡ One o → r ≡ apply1 s v o z → some z ≡ value (treeBelow ns i (leftAt ns i)) → ok r ≡ eval s v (treeBelow ns b i)
+  number-done o r z e er ez = one-done o (ok r) (ok z) e (ap ok er) (sym (value-eval s v (treeBelow ns i (leftAt ns i)) z (sym ez)))
 
   pub imm16-done : (z : ℤ) → k ≡ Imm16 → z ≡ valueAt ns i → ok z ≡ eval s v (treeBelow ns b i)
   imm16-done z e ez = ap ok ez ∙ sym (ap (eval s v) (below-imm16 ns b i lt k found e))

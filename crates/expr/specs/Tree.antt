@@ -30,6 +30,10 @@ pub below-in : (ns : Nodes) (b i : ℕ) → i < b → treeBelow ns b i ≡ tree 
 unfolding treeBelow
 below-in ns b i h = rw (lt-ltb i b h)
 
+-- a root is its own tree below the number after it
+pub below-root : (ns : Nodes) (i : ℕ) → treeBelow ns (i + 1) i ≡ tree ns i
+below-root ns i = below-in ns (i + 1) i (omega arith)
+
 pub below-out : (ns : Nodes) (b i : ℕ) → b ≤ i → treeBelow ns b i ≡ other
 unfolding treeBelow
 below-out ns b i h = rw (le-ltb i b h)

@@ -85,20 +85,22 @@ fn short_at(list: &[i16], x: i32) -> i32
     }
 }
 
-fn number_at(list: &[i32], x: i32) -> i32
+fn number_at(list: &[i32; 1024], x: i32) -> i32
     ensures { λ r. ⌜ r ≡ intAt (now (list .entry)) x ⌝ }
 {
-    let i = place_of(x, list.len());
-    if i < list.len() { list[i] } else { 0 }
+    let all: &[i32] = list;
+    let i = place_of(x, all.len());
+    if i < all.len() { all[i] } else { 0 }
 }
 
-// The save goes in as its parts, since a struct that holds slices is proved only by hand.
+// The save goes in as its parts, since a struct that holds slices is proved only by hand. Its variables are an array: one
+// word to pass on, where a slice is two.
 pub fn apply_one(
     items: &[i16],
     atcs: &[u8],
     flags: &[u8],
     times: &[i16],
-    vars: &[i32],
+    vars: &[i32; 1024],
     o: Op1,
     x: i32,
 ) -> i32
@@ -133,7 +135,7 @@ fn join_one(
     atcs: &[u8],
     flags: &[u8],
     times: &[i16],
-    vars: &[i32],
+    vars: &[i32; 1024],
     o: Op1,
     a: Value,
 ) -> Value
@@ -145,8 +147,9 @@ fn join_one(
     }
 }
 
-// What node i is worth as an operand of node b. Both operands are evaluated, left first.
-fn evaluate_below(
+// What node i is worth as an operand of node b, by a save of these parts and the variables of the moment. A root is taken
+// as an operand of node i + 1. Both operands are evaluated, left first; an Imm under one operator is read on the spot.
+pub fn evaluate(
     ws: &[u16; 98304],
     val: &[i32; 32768],
     b: u16,
@@ -155,7 +158,7 @@ fn evaluate_below(
     atcs: &[u8],
     flags: &[u8],
     times: &[i16],
-    vars: &[i32],
+    vars: &[i32; 1024],
 ) -> Value
     requires { ⌜ b ≤ 32768 ⌝ }
     ensures { λ r. ⌜ ((n : ℕ) → valueOf r ≡ eval (reads (now (items .entry)) (now (atcs .entry)) (now (flags .entry)) (now (times .entry))) (now (vars .entry)) (treeBelow (nodesIn (now (ws .entry)) (now (val .entry)) n) b i)) ⌝ }
@@ -167,35 +170,24 @@ fn evaluate_below(
     let k = kind_of(ws[3 * at]);
     match k {
         Kind::Two(o) => {
-            let x = evaluate_below(ws, val, i, ws[3 * at + 1], items, atcs, flags, times, vars);
-            let y = evaluate_below(ws, val, i, ws[3 * at + 2], items, atcs, flags, times, vars);
+            let x = evaluate(ws, val, i, ws[3 * at + 1], items, atcs, flags, times, vars);
+            let y = evaluate(ws, val, i, ws[3 * at + 2], items, atcs, flags, times, vars);
             join_two(o, x, y)
         }
         Kind::One(o) => {
-            let x = evaluate_below(ws, val, i, ws[3 * at + 1], items, atcs, flags, times, vars);
-            join_one(items, atcs, flags, times, vars, o, x)
+            let v = number_below(ws, val, i, ws[3 * at + 1]);
+            match v {
+                MaybeNumber::Is(z) => Value::Is(apply_one(items, atcs, flags, times, vars, o, z)),
+                MaybeNumber::Nothing => {
+                    let x = evaluate(ws, val, i, ws[3 * at + 1], items, atcs, flags, times, vars);
+                    join_one(items, atcs, flags, times, vars, o, x)
+                }
+            }
         }
         Kind::Imm16 => Value::Is(val[at]),
         Kind::Imm32 => Value::Is(val[at]),
         Kind::Other => Value::Refused(13),
     }
-}
-
-// What node i is worth by a save of these parts and the variables of the moment.
-pub fn evaluate(
-    ws: &[u16; 98304],
-    val: &[i32; 32768],
-    i: u16,
-    items: &[i16],
-    atcs: &[u8],
-    flags: &[u8],
-    times: &[i16],
-    vars: &[i32],
-) -> Value
-    requires { ⌜ i < 32768 ⌝ }
-    ensures { λ r. ⌜ ((n : ℕ) → valueOf r ≡ eval (reads (now (items .entry)) (now (atcs .entry)) (now (flags .entry)) (now (times .entry))) (now (vars .entry)) (tree (nodesIn (now (ws .entry)) (now (val .entry)) n) i)) ⌝ }
-{
-    evaluate_below(ws, val, i + 1, i, items, atcs, flags, times, vars)
 }
 
 // ---- negation

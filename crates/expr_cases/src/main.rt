@@ -94,8 +94,8 @@ fn show(ws: &[u16; 98304], val: &[i32; 32768], i: u16)
     let atcs = [0u8; 1];
     let flags = [0u8; 1];
     let times = [0i16; 1];
-    let vars = [0i32; 1];
-    let v = evaluate(ws, val, i, &items, &atcs, &flags, &times, &vars);
+    let vars = [0i32; 1024];
+    let v = evaluate(ws, val, i + 1, i, &items, &atcs, &flags, &times, &vars);
     io::print_decimal(libc::STDOUT_FILENO, wide(i));
     io::write_all(libc::STDOUT_FILENO, b" ");
     match v {

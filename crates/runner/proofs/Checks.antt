@@ -4,8 +4,8 @@ use mathlib.Core.Bool.{true, false}
 use mathlib.Core.List.{List, [], _∷_}
 use Prim.Native.Nat.{ℕ, zero, suc, _+_, _*_, _≤_, _<_}
 use native.Mathlib.Omega.{arith}
-use lib.ListN.{getD}
-use Rattle.model.specs.Limits.{commandLimit, nodeLimit}
+use lib.ListN.{getD, length}
+use Rattle.model.specs.Limits.{commandLimit, nodeLimit, variableCount}
 use Rattle.model.specs.Refusal.{firstOf, check}
 use Rattle.model.specs.Save.{Save}
 use Rattle.model.specs.Sheet.{Sheet, saveOk, saveRefusal}
@@ -15,6 +15,7 @@ use Rattle.model.specs.Reading.{got}
 use Rattle.model.specs.Memory.{Coded, Memory, commandWord, blockWord, scriptOf}
 use Rattle.model.specs.Record.{judgedRecord}
 use Rattle.model.specs.RecordCalls.{runIn}
+use Rattle.model.specs.Laws.Checked.{save-long}
 use Rattle.memory.specs.Sound.{Root, SoundTarget, SoundBy, SoundCommand, SoundKind}
 use Rattle.memory.specs.RecordLaws.{judged-sound}
 use Rattle.memory.specs.Transfer.{judged-kept}
@@ -75,6 +76,9 @@ module _ (m : Memory) where
   call-ready h b e = let p = call-passed h m b e in ready (p .blocks) (p .rest) (p .judged)
 
 -- ---- the call
+
+pub save-room : (h : Sheet) (s : Save) → saveOk h s ≡ true → length (s .variables) ≡ variableCount
+save-room h s f = save-long h s (ap (λ t. check t 12) f)
 
 module _ (h : Sheet) (m : Memory) (b : ℕ) (s : Save) (k : ℕ) where
   pub run-refused : (n : ℕ) → n ≡ callIn h m b → (n ≡ 0 → ⊥) → _≡_ {A = Ran} (record { answer = n; variables = s .variables; entered = 0 }) (runIn h m b s k)

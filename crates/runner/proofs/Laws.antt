@@ -166,7 +166,6 @@ flows-out f = record { is = f }
 -- i commands of the block were passed, which brought the variables from v₀ to v
 pub record Passed (s : Save) (nx : Option ℕ) (ws : List ℕ) (vs : List ℤ) (cw : List ℕ) (first many : ℕ) (v₀ v : List ℤ) (i : ℕ) : Type 0 where
   pub low : i ≤ many
-  pub same : length v ≡ length v₀
   pub is : (n m : ℕ) → execute s nx (commandsIn (codedIn ws vs cw n m) many first) v₀ ≡ execute s nx (commandsIn (codedIn ws vs cw n m) (many - i) (first + i)) v
 
 module _ (s : Save) (nx : Option ℕ) (ws : List ℕ) (vs : List ℤ) (cw : List ℕ) (first many : ℕ) (v₀ : List ℤ) where
@@ -176,7 +175,6 @@ module _ (s : Save) (nx : Option ℕ) (ws : List ℕ) (vs : List ℤ) (cw : List
       let z : first ≡ first + 0 = omega arith in
       record {
         low = omega arith;
-        same = refl;
         is = λ n m. ap (λ h. execute s nx (commandsIn (codedIn ws vs cw n m) h first) v₀) y ∙ ap (λ f. execute s nx (commandsIn (codedIn ws vs cw n m) (many - 0) f) v₀) z;
       }
 
@@ -196,11 +194,10 @@ module _ (s : Save) (nx : Option ℕ) (ws : List ℕ) (vs : List ℤ) (cw : List
           ∙ ap (λ cs. execute s nx cs v) (next-command (codedIn ws vs cw n m) h)
           ∙ w n m .is (commandsIn (codedIn ws vs cw n m) (many - (i + 1)) (first + (i + 1)))
 
-      pub one-passed : f ≡ On → length v′ ≡ length v → Passed s nx ws vs cw first many v₀ v′ (i + 1)
-      one-passed e l =
+      pub one-passed : f ≡ On → Passed s nx ws vs cw first many v₀ v′ (i + 1)
+      one-passed e =
           record {
             low = omega arith;
-            same = l ∙ p .same;
             is = λ n m. moved n m ∙ ap (λ g. after s nx (commandsIn (codedIn ws vs cw n m) (many - (i + 1)) (first + (i + 1))) g v′) e;
           }
 

@@ -1,3 +1,4 @@
 pub mod Laws
 pub mod Rest
 pub mod Checks
+mod Copy

@@ -5,7 +5,6 @@ use mathlib.Core.Option.{Option}
 use mathlib.Core.List.{List, [], _∷_}
 use Prim.Native.Nat.{ℕ, zero, suc, _+_, _-_, _≤_, _<_}
 use native.Mathlib.Omega.{arith}
-use lib.ListN.{length}
 use lib.IntN.{ℤ}
 use Rattle.model.specs.Signed.{isZero}
 use Rattle.model.specs.Save.{Save}
@@ -84,7 +83,6 @@ plus n r = record { answer = r .answer; variables = r .variables; entered = n + 
 -- n blocks were entered, which led to block b and brought the variables from v₀ to v
 pub record Entered (bs : List Block) (s : Save) (budget b₀ : ℕ) (v₀ : List ℤ) (n b : ℕ) (v : List ℤ) : Type 0 where
   pub low : n ≤ budget
-  pub same : length v ≡ length v₀
   pub is : run bs s budget b₀ v₀ ≡ plus n (run bs s (budget - n) b v)
 
 plus-none : (r : Ran) → r ≡ plus 0 r
@@ -94,7 +92,7 @@ module _ (bs : List Block) (s : Save) (budget b₀ : ℕ) (v₀ : List ℤ) wher
   pub none-entered : Entered bs s budget b₀ v₀ 0 b₀ v₀
   none-entered =
       let y : budget ≡ budget - 0 = omega arith in
-      record { low = omega arith; same = refl; is = ap (λ k. run bs s k b₀ v₀) y ∙ plus-none (run bs s (budget - 0) b₀ v₀) }
+      record { low = omega arith; is = ap (λ k. run bs s k b₀ v₀) y ∙ plus-none (run bs s (budget - 0) b₀ v₀) }
 
   module _ {n b : ℕ} {v : List ℤ} (p : Entered bs s budget b₀ v₀ n b v) where
     pub all-spent : budget ≤ n → _≡_ {A = Ran} (record { answer = 15; variables = v; entered = n }) (run bs s budget b₀ v₀)
@@ -108,12 +106,11 @@ module _ (bs : List Block) (s : Save) (budget b₀ : ℕ) (v₀ : List ℤ) wher
       left : budget - n ≡ suc (budget - (n + 1))
       left = omega arith
 
-      pub one-entered : (r : Step) (b′ : ℕ) (v′ : List ℤ) → r ≡ Next b′ → outcomeOf r v′ ≡ step bs s b v → length v′ ≡ length v → Entered bs s budget b₀ v₀ (n + 1) b′ v′
-      one-entered r b′ v′ q e l =
+      pub one-entered : (r : Step) (b′ : ℕ) (v′ : List ℤ) → r ≡ Next b′ → outcomeOf r v′ ≡ step bs s b v → Entered bs s budget b₀ v₀ (n + 1) b′ v′
+      one-entered r b′ v′ q e =
           let z : n + suc (run bs s (budget - (n + 1)) b′ v′ .entered) ≡ n + 1 + run bs s (budget - (n + 1)) b′ v′ .entered = omega arith in
           record {
             low = omega arith;
-            same = l ∙ p .same;
             is = p .is
                 ∙ ap (λ k. plus n (run bs s k b v)) left
                 ∙ ap (plus n) (run-next bs s (budget - (n + 1)) b v b′ v′ (sym e ∙ ap (λ o. outcomeOf o v′) q))

@@ -7,7 +7,8 @@ use lib.ListN.{getD}
 use lib.IntN.{ℤ}
 use Rattle.model.specs.Limits.{nodeLimit, commandLimit, blockLimit}
 use Rattle.model.specs.Save.{Save}
-use Rattle.model.specs.Script.{Command}
+use Rattle.model.specs.Expr.{Expr, Value, eval}
+use Rattle.model.specs.Script.{Command, setVariable}
 use Rattle.model.specs.Run.{Outcome, next, done, halt, execute}
 use Rattle.runner.specs.declared.Step.{Step}
 use Rattle.runner.specs.declared.Step.the-variants.{Next, Done, Halt}
@@ -28,6 +29,10 @@ after s nx cs (Out r) v = outcomeOf r v
 -- command x brings the variables from v to v′ and leads where r says
 pub record Flows (s : Save) (nx : Option ℕ) (x : Command) (v : List ℤ) (r : Flow) (v′ : List ℤ) : Type 0 where
   pub is : (cs : List Command) → execute s nx (x ∷ cs) v ≡ after s nx cs r v′
+
+-- a Set whose target and value are worth t and e
+abbrev pub Sets : Value → Value → List ℤ → Flow → List ℤ → Type 0
+Sets t e v r v′ = (s : Save) (nx : Option ℕ) (a b : Expr) → t ≡ eval s v a → e ≡ eval s v b → Flows s nx (setVariable a b) v r v′
 
 -- ---- what the arrays have to hold, as those of a judged record do
 

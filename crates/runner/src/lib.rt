@@ -4,13 +4,14 @@ ghost use mathlib.Core.Option.{Option};
 ghost use mathlib.Core.List.{List};
 ghost use Prim.Native.Nat.{ℕ, _≤_, _<_};
 ghost use lib.IntN.{ℤ};
+ghost use lib.ListN.{length};
 ghost use Rattle.model.specs.Limits.{nodeLimit, blockLimit};
 ghost use Rattle.model.specs.Script.{setVariable, ifElse};
 ghost use Rattle.model.specs.Run.{execute, follow, step, store, run};
 ghost use Rattle.model.specs.Memory.{Coded, nodesIn, codedIn, memoryIn, tree, commandIn, commandsIn, linkIn, scriptOf};
-ghost use Rattle.expr.specs.Value.{reads};
+ghost use Rattle.expr.specs.Value.{valueOf, reads};
 ghost use Rattle.shop.specs.Shapes.{sheetOf};
-ghost use Rattle.runner.specs.Steps.{outcomeOf, Flows, Readable, Readables, Ready};
+ghost use Rattle.runner.specs.Steps.{outcomeOf, Flows, Sets, Readable, Readables, Ready};
 ghost use Rattle.model.specs.RecordCalls.{runIn};
 ghost use Rattle.checks.specs.Calls.{saveOf};
 ghost use Rattle.runner.specs.RunIn.{ranOf};
@@ -66,6 +67,23 @@ fn follow_link(link: u16) -> Step
     Step::Next(link - 1)
 }
 
+// The write of a Set whose target and value are worth t and e, the target's refusal first. Both are matched here: matched
+// where they were evaluated they would be copied once more.
+fn store_value(vars: &mut [i32; 1024], t: Value, e: Value) -> Flow
+    ensures { λ r. ⌜ Sets (valueOf t) (valueOf e) (now (vars .entry)) r (now (vars .exit)) ⌝ }
+{
+    match t {
+        Value::Is(k) => match e {
+            Value::Is(x) => {
+                store_at(vars, k, x);
+                Flow::On
+            }
+            Value::Refused(n) => Flow::Out(Step::Halt(n)),
+        },
+        Value::Refused(n) => Flow::Out(Step::Halt(n)),
+    }
+}
+
 // Set evaluates target, then value, then writes.
 fn set_variable(
     ws: &[u16; 98304],
@@ -76,30 +94,15 @@ fn set_variable(
     atcs: &[u8],
     flags: &[u8],
     times: &[i16],
-    vars: &mut [i32],
+    vars: &mut [i32; 1024],
 ) -> Flow
     requires { ⌜ target < nodeLimit ⌝ }
     requires { ⌜ value < nodeLimit ⌝ }
     ensures { λ r. ⌜ ((n : ℕ) (nx : Option ℕ) → Flows (reads (now (items .entry)) (now (atcs .entry)) (now (flags .entry)) (now (times .entry))) nx (setVariable (tree (nodesIn (now (ws .entry)) (now (val .entry)) n) target) (tree (nodesIn (now (ws .entry)) (now (val .entry)) n) value)) (now (vars .entry)) r (now (vars .exit))) ⌝ }
 {
-    let t = evaluate(ws, val, target, items, atcs, flags, times, vars);
-    match t {
-        Value::Is(k) => {
-            let e = evaluate(ws, val, value, items, atcs, flags, times, vars);
-            match e {
-                Value::Is(x) => {
-                    store_at(vars, k, x);
-                    return Flow::On;
-                }
-                Value::Refused(n) => {
-                    return Flow::Out(Step::Halt(n));
-                }
-            }
-        }
-        Value::Refused(n) => {
-            return Flow::Out(Step::Halt(n));
-        }
-    }
+    let t = evaluate(ws, val, target + 1, target, items, atcs, flags, times, vars);
+    let e = evaluate(ws, val, value + 1, value, items, atcs, flags, times, vars);
+    store_value(vars, t, e)
 }
 
 // If nonzero takes next, else its else target.
@@ -113,12 +116,22 @@ fn if_else(
     atcs: &[u8],
     flags: &[u8],
     times: &[i16],
-    vars: &[i32],
+    vars: &[i32; 1024],
 ) -> Step
     requires { ⌜ condition < nodeLimit ⌝ }
     ensures { λ r. ⌜ ((n : ℕ) → Flows (reads (now (items .entry)) (now (atcs .entry)) (now (flags .entry)) (now (times .entry))) (linkIn link) (ifElse (tree (nodesIn (now (ws .entry)) (now (val .entry)) n) condition) other) (now (vars .entry)) (Flow.Out r) (now (vars .entry))) ⌝ }
 {
-    let t = evaluate(ws, val, condition, items, atcs, flags, times, vars);
+    let t = evaluate(
+        ws,
+        val,
+        condition + 1,
+        condition,
+        items,
+        atcs,
+        flags,
+        times,
+        vars,
+    );
     match t {
         Value::Is(x) => {
             if x == 0 {
@@ -141,7 +154,7 @@ fn command(
     atcs: &[u8],
     flags: &[u8],
     times: &[i16],
-    vars: &mut [i32],
+    vars: &mut [i32; 1024],
 ) -> Flow
     requires { ⌜ Readable (now cw) c ⌝ }
     ensures { λ r. ⌜ ((n m : ℕ) → Flows (reads (now (items .entry)) (now (atcs .entry)) (now (flags .entry)) (now (times .entry))) (linkIn link) (commandIn (codedIn (now (ws .entry)) (now (val .entry)) (now (cw .entry)) n m) c) (now (vars .entry)) r (now (vars .exit))) ⌝ }
@@ -180,7 +193,7 @@ fn execute_block(
     atcs: &[u8],
     flags: &[u8],
     times: &[i16],
-    vars: &mut [i32],
+    vars: &mut [i32; 1024],
 ) -> Step
     requires { ⌜ Readables (now cw) first many ⌝ }
     ensures { λ r. ⌜ ((n m : ℕ) → outcomeOf r (now (vars .exit)) ≡ execute (reads (now (items .entry)) (now (atcs .entry)) (now (flags .entry)) (now (times .entry))) (linkIn link) (commandsIn (codedIn (now (ws .entry)) (now (val .entry)) (now (cw .entry)) n m) many first) (now (vars .entry))) ⌝ }
@@ -223,7 +236,7 @@ fn step_block(
     atcs: &[u8],
     flags: &[u8],
     times: &[i16],
-    vars: &mut [i32],
+    vars: &mut [i32; 1024],
 ) -> Step
     requires { ⌜ Ready (now cw) (now bw) (counts .blocks) ⌝ }
     ensures { λ r. ⌜ outcomeOf r (now (vars .exit)) ≡ step (scriptOf (memoryIn (now (ws .entry)) (now (val .entry)) (now (cw .entry)) (now (bw .entry)) (counts .nodes) (counts .commands) (counts .blocks)) .blocks) (reads (now (items .entry)) (now (atcs .entry)) (now (flags .entry)) (now (times .entry))) b (now (vars .entry)) ⌝ }
@@ -266,7 +279,7 @@ fn run_blocks(
     atcs: &[u8],
     flags: &[u8],
     times: &[i16],
-    vars: &mut [i32],
+    vars: &mut [i32; 1024],
     budget: u32,
 ) -> Ran
     requires { ⌜ Ready (now cw) (now bw) (counts .blocks) ⌝ }
@@ -301,9 +314,30 @@ fn run_blocks(
     }
 }
 
-// ---- the checks
+// ---- the call
 
-// Runs the blocks from start on, with the variables in vars. Refused by 1 to 12 it enters no block and writes nothing.
+// Copies a list over another that is as long.
+fn copy_numbers(from: &[i32], to: &mut [i32])
+    requires { ⌜ length (now from) ≡ length (now to) ⌝ }
+    ensures { λ _. ⌜ now (to .exit) ≡ now (from .entry) ⌝ }
+{
+    let mut i = 0;
+    while i < from.len() {
+        to[i] = from[i];
+        i += 1;
+    }
+}
+
+// An array lent to a call has its length in its type, which of a local is forgotten once it was written to.
+fn write_back(held: &[i32; 1024], vars: &mut [i32])
+    requires { ⌜ length (now vars) ≡ 1024 ⌝ }
+    ensures { λ _. ⌜ now (vars .exit) ≡ now (held .entry) ⌝ }
+{
+    copy_numbers(held, vars);
+}
+
+// Runs the blocks from start on, with the variables in vars. Refused by 1 to 12 it enters no block and writes nothing. The
+// blocks work on an array: checked once, its length is in its type for every read and write after.
 pub fn run(
     attached: &[u8],
     sheet: Sheet,
@@ -335,7 +369,9 @@ pub fn run(
             entered: 0,
         };
     }
-    run_blocks(
+    let mut held = [0; 1024];
+    copy_numbers(vars, &mut held);
+    let ran = run_blocks(
         ws,
         val,
         cw,
@@ -346,7 +382,9 @@ pub fn run(
         atcs,
         flags,
         times,
-        vars,
+        &mut held,
         budget,
-    )
+    );
+    write_back(&held, vars);
+    ran
 }

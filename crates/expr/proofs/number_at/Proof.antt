@@ -17,10 +17,10 @@ shared-slice-copy-out-result : tie.Need-shared-slice-copy-out-result
 shared-slice-copy-out-result c = search needs
 
 returns : tie.Need-returns
-returns c = toZ-ofZ {w = w32} (record { sfits = c .result .given }) ∙ int-in _ (c .before .before .before .args .x) _ (rw (toZ-ofZ (c .before .before .before .fits .x)) at (c .before .before .place-of .ensures))
+returns c = toZ-ofZ {w = w32} (record { sfits = c .result .given }) ∙ int-in _ (c .before .before .before .before .args .x) _ (rw (toZ-ofZ (c .before .before .before .before .fits .x)) at (c .before .before .place-of .ensures))
 
 returns-2 : tie.Need-returns-2
-returns-2 c = int-out _ (c .before .before .args .x) _ (rw (toZ-ofZ (c .before .before .fits .x)) at (c .before .place-of .ensures)) (c .if1 .left)
+returns-2 c = int-out _ (c .before .before .before .args .x) _ (rw (toZ-ofZ (c .before .before .before .fits .x)) at (c .before .place-of .ensures)) (c .if1 .left)
 
 pub number-at-spec : {M : Type 1} → statement M
 number-at-spec =

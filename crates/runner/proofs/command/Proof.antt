@@ -72,18 +72,12 @@ returns-2 c = let s = c .before .before .before .before .before .before .before 
 returns-3 : tie.Need-returns-3
 returns-3 c = let s = c .before .before .before .before .before .before .before in λ n m. flows-as _ _ (is-goto (codedIn (s .args .ws .now) (s .args .val .now) (s .args .cw .now) n m) (s .args .c) (c .match .keys2)) (flows-out (λ cs. refl))
 
-same-length : tie.Need-same-length
-same-length c = search needs
-
 returns-4 : tie.Need-returns-4
 returns-4 c =
-    let a = c .before .before .before in
+    let a = c .before .before in
     let b = a .before in
     let s = b .before .before .before .before .before .before .before in
-    λ n m. flows-as _ _ (is-set (codedIn (s .args .ws .now) (s .args .val .now) (s .args .cw .now) n m) (s .args .c) (b .match .keys3) (a .if1 .left)) (c .before .set-variable .ensures n (linkIn (s .args .link)))
-
-same-length-2 : tie.Need-same-length-2
-same-length-2 c = search needs
+    λ n m. flows-as _ _ (is-set (codedIn (s .args .ws .now) (s .args .val .now) (s .args .cw .now) n m) (s .args .c) (b .match .keys3) (a .if1 .left)) (c .set-variable .ensures n (linkIn (s .args .link)))
 
 returns-5 : tie.Need-returns-5
 returns-5 c =
@@ -121,9 +115,7 @@ command-spec =
     if-else-requires
     returns-2
     returns-3
-    same-length
     returns-4
-    same-length-2
     returns-5
     returns-6
     returns-7)

@@ -1,5 +1,4 @@
 -- `execute_block` meets its contract. The loop's invariant: what is left of the commands, with the variables now, leads where all of them lead from the entry. The measure is the commands left. Assumes nothing.
-use mathlib.Core.Path.{_∙_}
 use native.Mathlib.Omega.{arith}
 use Rattle.model.specs.Memory.{linkIn}
 use Rattle.expr.specs.Value.{reads}
@@ -35,25 +34,19 @@ loop-less c = omega arith
 
 loop-again : tie.Need-loop-again Inv-loop μ-loop
 loop-again c =
-    let a = c .before .before .before in
+    let a = c .before .before in
     let b = a .before .before in
     let d = b .before in
-    one-passed _ _ _ _ _ _ _ _ (d .loop .inv) (b .loop-test .taken) (a .command .ensures) (c .enum-told .given .1) (a .command .kept .1 .1 .1 .1 .1 .1 .1 .1 .1 .0)
+    one-passed _ _ _ _ _ _ _ _ (d .loop .inv) (b .loop-test .taken) (a .command .ensures) (c .enum-told .given .1)
 
 enum-known-f : tie.Need-enum-known-f Inv-loop μ-loop
 enum-known-f c = search needs
 
-same-length : tie.Need-same-length Inv-loop μ-loop
-same-length c = c .before .before .before .before .command .kept .1 .1 .1 .1 .1 .1 .1 .1 .1 .0 ∙ c .before .before .before .before .before .before .before .loop .inv .same
-
 returns : tie.Need-returns Inv-loop μ-loop
-returns c = out-passed _ _ _ _ _ _ _ _ (c .before .before .before .before .before .before .before .loop .inv) (c .before .before .before .before .before .before .loop-test .taken) (c .before .before .before .before .command .ensures) (c .before .f .given .1)
+returns c = out-passed _ _ _ _ _ _ _ _ (c .before .before .before .before .before .before .loop .inv) (c .before .before .before .before .before .loop-test .taken) (c .before .before .before .command .ensures) (c .before .f .given .1)
 
 follow-link-requires : tie.Need-follow-link-requires Inv-loop μ-loop
 follow-link-requires c κs = search needs
-
-same-length-2 : tie.Need-same-length-2 Inv-loop μ-loop
-same-length-2 c = c .before .before .loop .inv .same
 
 returns-2 : tie.Need-returns-2 Inv-loop μ-loop
 returns-2 c = all-passed _ _ _ _ _ _ _ _ (c .before .before .loop .inv) (c .follow-link .result) (c .before .loop-test .left) (c .follow-link .ensures)
@@ -72,8 +65,6 @@ execute-block-spec =
     loop-less
     loop-again
     enum-known-f
-    same-length
     returns
     follow-link-requires
-    same-length-2
     returns-2)

@@ -1,6 +1,5 @@
 -- `run_blocks` meets its contract. The loop's invariant: the run from here with the budget left, and the blocks entered on top, is the run from the start. The measure is the budget left. Assumes nothing.
 use native.Mathlib.Omega.{arith}
-use mathlib.Core.Path.{_∙_}
 use Rattle.runner.proofs.Rest.{Entered, none-entered, all-spent, one-entered, done-entered, halt-entered}
 use Rattle.expr.specs.Value.{reads}
 use Rattle.model.specs.Memory.{memoryIn, scriptOf}
@@ -35,20 +34,17 @@ loop-less c = omega arith
 
 loop-again : tie.Need-loop-again Inv-loop μ-loop
 loop-again c =
-    let a = c .before .before .before .before in
+    let a = c .before .before .before in
     let b = a .before .before in
     let d = b .before in
-    one-entered _ _ _ _ _ (d .loop .inv) (b .loop-test .taken) (a .step-block .result) _ _ (c .before .s .given .1) (a .step-block .ensures) (a .step-block .kept .1 .1 .1 .1 .1 .1 .1 .1 .1 .1 .0)
+    one-entered _ _ _ _ _ (d .loop .inv) (b .loop-test .taken) (a .step-block .result) _ _ (c .before .s .given .1) (a .step-block .ensures)
 
 enum-told : tie.Need-enum-told Inv-loop μ-loop
 enum-told c = search needs
 
-same-length : tie.Need-same-length Inv-loop μ-loop
-same-length c = c .before .before .before .step-block .kept .1 .1 .1 .1 .1 .1 .1 .1 .1 .1 .0 ∙ c .before .before .before .before .before .before .loop .inv .same
-
 returns : tie.Need-returns Inv-loop μ-loop
 returns c =
-    let a = c .before .before .before in
+    let a = c .before .before in
     let b = a .before .before in
     let d = b .before in
     done-entered _ _ _ _ _ (d .loop .inv) (b .loop-test .taken) (a .step-block .result) _ (c .enum-told .given .1) (a .step-block .ensures)
@@ -56,18 +52,12 @@ returns c =
 enum-known-s-2 : tie.Need-enum-known-s-2 Inv-loop μ-loop
 enum-known-s-2 c = search needs
 
-same-length-2 : tie.Need-same-length-2 Inv-loop μ-loop
-same-length-2 c = c .before .before .before .before .step-block .kept .1 .1 .1 .1 .1 .1 .1 .1 .1 .1 .0 ∙ c .before .before .before .before .before .before .before .loop .inv .same
-
 returns-2 : tie.Need-returns-2 Inv-loop μ-loop
 returns-2 c =
-    let a = c .before .before .before .before in
+    let a = c .before .before .before in
     let b = a .before .before in
     let d = b .before in
     halt-entered _ _ _ _ _ (d .loop .inv) (b .loop-test .taken) (a .step-block .result) _ _ (c .before .s2 .given .1) (a .step-block .ensures)
-
-same-length-3 : tie.Need-same-length-3 Inv-loop μ-loop
-same-length-3 c = c .before .loop .inv .same
 
 returns-3 : tie.Need-returns-3 Inv-loop μ-loop
 returns-3 c = all-spent _ _ _ _ _ (c .before .loop .inv) (c .loop-test .left)
@@ -86,10 +76,7 @@ run-blocks-spec =
     loop-less
     loop-again
     enum-told
-    same-length
     returns
     enum-known-s-2
-    same-length-2
     returns-2
-    same-length-3
     returns-3)

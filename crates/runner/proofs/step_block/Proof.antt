@@ -72,15 +72,12 @@ execute-block-requires c κs =
     let e = d .before .before .before .before in
     e .pre .commands (e .args .b) (d .if1 .left) (a .if2 .left)
 
-same-length : tie.Need-same-length
-same-length c = search needs
-
 returns-3 : tie.Need-returns-3
 returns-3 c =
-    let a = c .before .before .before .before .before .before in
+    let a = c .before .before .before .before .before in
     let d = a .before .before in
     let s = d .before .before .before .before in
-    step-code (memoryIn (s .args .ws .now) (s .args .val .now) (s .args .cw .now) (s .args .bw .now) (s .args .counts .nodes) (s .args .counts .commands) (s .args .counts .blocks)) (reads (s .args .items .now) (s .args .atcs .now) (s .args .flags .now) (s .args .times .now)) (s .args .b) (s .args .vars .now) (d .if1 .left) (a .if2 .left) (c .before .execute-block .ensures (s .args .counts .nodes) (s .args .counts .commands))
+    step-code (memoryIn (s .args .ws .now) (s .args .val .now) (s .args .cw .now) (s .args .bw .now) (s .args .counts .nodes) (s .args .counts .commands) (s .args .counts .blocks)) (reads (s .args .items .now) (s .args .atcs .now) (s .args .flags .now) (s .args .times .now)) (s .args .b) (s .args .vars .now) (d .if1 .left) (a .if2 .left) (c .execute-block .ensures (s .args .counts .nodes) (s .args .counts .commands))
 
 pub step-block-spec : {M : Type 1} → statement M
 step-block-spec =
@@ -105,5 +102,4 @@ step-block-spec =
     mul-link-2
     element-copy-out-link
     execute-block-requires
-    same-length
     returns-3)
