@@ -11,20 +11,20 @@ other-than-none : {A : Type 0} (f : ℕ → A) (y : A) → ((m : ℕ) → f (suc
 other-than-none f y e zero h = absurd (h refl)
 other-than-none f y e (suc n) h = e n
 
-pub unique-none : (x : ItemContext) → x .len ≡ 0 → uniqueOf x ≡ uniqueBy 0 x
-unique-none x e = ap (λ (n : ℕ). uniqueBy n x) e
+pub unique-none : (x : ItemContext) (cs : List ℕ) → x .len ≡ 0 → uniqueOf x cs ≡ uniqueBy 0 x cs
+unique-none x cs e = ap (λ (n : ℕ). uniqueBy n x cs) e
 
-pub unique-some : (x : ItemContext) → (x .len ≡ 0 → ⊥) → uniqueOf x ≡ uniqueBy 1 x
-unique-some x h = other-than-none (λ (n : ℕ). uniqueBy n x) (uniqueBy 1 x) (λ m. refl) (x .len) h
+pub unique-some : (x : ItemContext) (cs : List ℕ) → (x .len ≡ 0 → ⊥) → uniqueOf x cs ≡ uniqueBy 1 x cs
+unique-some x cs h = other-than-none (λ (n : ℕ). uniqueBy n x cs) (uniqueBy 1 x cs) (λ m. refl) (x .len) h
 
-pub limit-none : (x : ItemContext) → x .len ≡ 0 → limitIn x ≡ limitBy 0 x
-limit-none x e = ap (λ (n : ℕ). limitBy n x) e
+pub limit-none : (x : ItemContext) (cs : List ℕ) → x .len ≡ 0 → limitIn x cs ≡ limitBy 0 x cs
+limit-none x cs e = ap (λ (n : ℕ). limitBy n x cs) e
 
-pub limit-some : (x : ItemContext) → (x .len ≡ 0 → ⊥) → limitIn x ≡ limitBy 1 x
-limit-some x h = other-than-none (λ (n : ℕ). limitBy n x) (limitBy 1 x) (λ m. refl) (x .len) h
+pub limit-some : (x : ItemContext) (cs : List ℕ) → (x .len ≡ 0 → ⊥) → limitIn x cs ≡ limitBy 1 x cs
+limit-some x cs h = other-than-none (λ (n : ℕ). limitBy n x cs) (limitBy 1 x cs) (λ m. refl) (x .len) h
 
-pub filled-none : (x : ItemContext) → x .len ≡ 0 → filledOf x ≡ filledBy 0 x
-filled-none x e = ap (λ (n : ℕ). filledBy n x) e
+pub filled-none : (x : ItemContext) (cs : List ℕ) → x .len ≡ 0 → filledOf x cs ≡ filledBy 0 x cs
+filled-none x cs e = ap (λ (n : ℕ). filledBy n x cs) e
 
-pub filled-some : (x : ItemContext) → (x .len ≡ 0 → ⊥) → filledOf x ≡ filledBy 1 x
-filled-some x h = other-than-none (λ (n : ℕ). filledBy n x) (filledBy 1 x) (λ m. refl) (x .len) h
+pub filled-some : (x : ItemContext) (cs : List ℕ) → (x .len ≡ 0 → ⊥) → filledOf x cs ≡ filledBy 1 x cs
+filled-some x cs h = other-than-none (λ (n : ℕ). filledBy n x cs) (filledBy 1 x cs) (λ m. refl) (x .len) h

@@ -6,7 +6,7 @@ use mathlib.Core.List.{List, [], _∷_, _++_, map}
 use Prim.Native.Nat.{ℕ, zero, suc, _+_, _-_, _≤_, _<_}
 use native.Mathlib.Omega.{arith}
 use lib.IntN.{ℤ}
-use lib.ListN.{length, take, getD, replicate, length-append, length-replicate, length-map}
+use lib.ListN.{length, replicate, length-append, length-replicate}
 use Rattle.model.specs.Limits.{entryLimit}
 use Rattle.model.specs.declared.Op1.the-variants.{Item, Atc}
 use Rattle.model.specs.Requirement.{Requirement, sorted}
@@ -30,7 +30,7 @@ use Rattle.model.specs.declared.ItemId.{ItemId}
 use Rattle.shop.specs.declared.SlotItem.the-variants.{Nothing, Of}
 use Rattle.model.specs.Compile.{slotBlocks, hideBlock}
 use Rattle.compiler.specs.declared.ItemContext.{ItemContext}
-use Rattle.compiler.specs.Parts.{rateWord, isFive, filledOf, Stands, Fitting}
+use Rattle.compiler.specs.Parts.{rateWord, isFive, filledOf, Stands, Listed, Fitting}
 use Rattle.compiler.specs.Same.{filled-same}
 
 -- the item's atc plus 1, or 0; the item; the rate
@@ -67,15 +67,10 @@ rate-low (suc a) w fifteen = omega arith
 
 -- ---- the sorted requirements
 
-pub record Standing (x : Slot) (s : Reqs) : Type 0 where
-  pub few : s .len ≤ entryLimit
-  pub long : length (s .codes) ≡ entryLimit
-  pub is : map requirementOf (take (s .len) (s .codes)) ≡ sorted (slotOf x .requirements)
-
 -- what the set of a slot stands for
-pub sorted-stands : (x : Slot) → Exact x → Standing x (sortedReqs x)
+pub sorted-listed : (x : Slot) → Exact x → Listed (sortedReqs x .codes) (sortedReqs x .len) (sorted (slotOf x .requirements))
 unfolding slotOf reqsOf
-sorted-stands x e =
+sorted-listed x e =
     let rs : List Requirement = sorted (map requirementOf (entries (x .len) (x .requirements))) in
     let n = codes-narrow (entries (x .len) (x .requirements)) in
     let few : length (map codeOf rs) ≤ entryLimit
@@ -97,32 +92,35 @@ acquired-atc (suc e) a w r h = let z : a ≡ e = cc in rw z
 
 -- ---- the context of a slot on a sheet
 
-pub record Context (x : ItemContext) (h : Model.Sheet) (y : Slot) (i : ℕ) (e : BlockNo) (w : ItemId) : Type 0 where
-  pub stands : Stands x h (y .limit) (sorted (slotOf y .requirements))
+pub record Context (x : ItemContext) (h : Model.Sheet) (z : ℤ) (i : ℕ) (e : BlockNo) (w : ItemId) (n : ℕ) : Type 0 where
+  pub stands : Stands x h z
   pub index : x .index ≡ i
   pub end : x .end ≡ e
   pub item : x .item ≡ w
+  pub len : x .len ≡ n
 
--- its blocks are the slot's
-pub context-blocks : (x : ItemContext) (h : Model.Sheet) (y : Slot) (i : ℕ) (e : BlockNo) (w : ItemId) → Context x h y i e w
-    → y .item ≡ Of w → filledOf x ≡ slotBlocks h i (e .0) (slotOf y)
-unfolding slotBlocks slotOf
-context-blocks x h y i e w c o =
-    filled-same x h (y .limit) (sorted (slotOf y .requirements)) (c .stands)
-    ∙ rw (c .index, c .end, c .item, o)
+module _ (x : ItemContext) (h : Model.Sheet) (y : Slot) (i : ℕ) (e : BlockNo) (w : ItemId) (s : Reqs) (c : Context x h (y .limit) i e w (s .len)) (ex : Exact y) (es : s ≡ sortedReqs y) where
+  listed : Listed (s .codes) (x .len) (sorted (slotOf y .requirements))
+  listed = rw (c .len, es) (sorted-listed y ex)
 
-pub context-fits : (x : ItemContext) (h : Model.Sheet) (y : Slot) (i : ℕ) (e : BlockNo) (w : ItemId) → Context x h y i e w → i < 20 → Fitting x
-context-fits x h y i e w c l = record { index = omega (arith, c .index); few = c .stands .few; rate = c .stands .rate }
+  -- its blocks are the slot's
+  pub context-blocks : y .item ≡ Of w → filledOf x (s .codes) ≡ slotBlocks h i (e .0) (slotOf y)
+  unfolding slotBlocks slotOf
+  context-blocks o =
+      filled-same x (s .codes) h (y .limit) (sorted (slotOf y .requirements)) (c .stands) listed
+      ∙ rw (c .index, c .end, c .item, o)
+
+  pub context-fits : i < 20 → Fitting x
+  context-fits l = record { index = omega (arith, c .index); few = listed .few; rate = c .stands .rate }
 
 -- from the answers of the functions that make it
-pub context-made : (ks : List ℕ) (h : Sheet) (y : Slot) (i : ℕ) (e : BlockNo) (w : ItemId) (t : Kinds.Timer) (r l : ℕ) (a : Acquired) (f : Bool) (s : Reqs)
+pub context-made : (ks : List ℕ) (h : Sheet) (z : ℤ) (i : ℕ) (e : BlockNo) (w : ItemId) (n : ℕ) (t : Kinds.Timer) (r l : ℕ) (a : Acquired) (f : Bool)
     → timerIs t ≡ timerOf (sheetOf ks h) (w .0) → r ≡ rateWord (timerIs t) → a ≡ acquiredBy (atcAt ks (w .0)) (w .0) r
-    → l ≡ limitOf (sheetOf ks h) (w .0) (y .limit) → f ≡ isFive (timerIs t) → Exact y → s ≡ sortedReqs y
-    → Context (record { index = i; item = w; limit = l; end = e; acquired = a; five = f; ten = h .timer10; fifteen = h .timer15; codes = s .codes; len = s .len }) (sheetOf ks h) y i e w
+    → l ≡ limitOf (sheetOf ks h) (w .0) z → f ≡ isFive (timerIs t)
+    → Context (record { index = i; item = w; limit = l; end = e; acquired = a; five = f; ten = h .timer10; fifteen = h .timer15; len = n }) (sheetOf ks h) z i e w n
 unfolding sheetOf
-context-made ks h y i e w t r l a f s et er ea el ef ex es =
-    let q : a ≡ acquiredBy (atcAt ks (w .0)) (w .0) (rateWord (timerOf (sheetOf ks h) (w .0))) = ea ∙ ap (λ (n : ℕ). acquiredBy (atcAt ks (w .0)) (w .0) n) (er ∙ ap rateWord et) in
-    let d : Standing y s = rw es (sorted-stands y ex) in
+context-made ks h z i e w n t r l a f et er ea el ef =
+    let q : a ≡ acquiredBy (atcAt ks (w .0)) (w .0) (rateWord (timerOf (sheetOf ks h) (w .0))) = ea ∙ ap (λ (m : ℕ). acquiredBy (atcAt ks (w .0)) (w .0) m) (er ∙ ap rateWord et) in
     record {
       stands = record {
         limit = el;
@@ -131,13 +129,11 @@ context-made ks h y i e w t r l a f s et er ea el ef ex es =
         five = ef ∙ ap isFive et;
         ten = refl;
         fifteen = refl;
-        few = d .few;
-        long = d .long;
-        requirements = d .is;
       };
       index = refl;
       end = refl;
       item = refl;
+      len = refl;
     }
 
 -- no item: H alone, whatever the requirements are

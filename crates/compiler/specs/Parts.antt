@@ -1,4 +1,4 @@
--- The blocks of a slot from its context, in the order in which the code pushes them. Assumes nothing: these are definitions.
+-- The blocks of a slot from its context and the codes of its requirements, in the order in which the code pushes them. Assumes nothing: these are definitions.
 -- Block numbers are counted from End, as the code counts them; Same.antt holds them against the definition.
 use mathlib.Core.Path.{_≡_}
 use mathlib.Core.Bool.{Bool, true, false, cond}
@@ -24,50 +24,50 @@ abbrev pub itemBlock : ItemContext → Bool → Expr → Block
 itemBlock x b v = slotBlock b (x .end .0) (x .index) (itemExpr (x .item .0)) v
 
 -- above N, which is block n: for Timer5 D2 and T, then V, whose else is k
-abbrev pub enableBy : Bool → ItemContext → ℕ → ℕ → List Block
-enableBy false x k n = ifBlock n (missingAnd (x .acquired) (x .codes) (x .len)) k ∷ []
-enableBy true x k n =
+abbrev pub enableBy : Bool → ItemContext → List ℕ → ℕ → ℕ → List Block
+enableBy false x cs k n = ifBlock n (missingAnd (x .acquired) cs (x .len)) k ∷ []
+enableBy true x cs k n =
     itemBlock x true (imm16 (pos 0))
     ∷ ifBlock (n + 1) (bothMissing (x .ten .0) (x .fifteen .0)) n
-    ∷ ifBlock (n + 2) (missingAnd (x .acquired) (x .codes) (x .len)) k
+    ∷ ifBlock (n + 2) (missingAnd (x .acquired) cs (x .len)) k
     ∷ []
 
-abbrev pub enableOf : ItemContext → ℕ → ℕ → List Block
-enableOf x k n = enableBy (x .five) x k n
+abbrev pub enableOf : ItemContext → List ℕ → ℕ → ℕ → List Block
+enableOf x cs k n = enableBy (x .five) x cs k n
 
 -- what follows H, by the number of requirements
-abbrev pub uniqueBy : ℕ → ItemContext → List Block
-uniqueBy zero x = itemBlock x false (imm16 (pos 0)) ∷ itemBlock x true (imm16 (pos 1)) ∷ enableOf x (x .end .0 + 1) (x .end .0 + 2)
-uniqueBy (suc n) x =
+abbrev pub uniqueBy : ℕ → ItemContext → List ℕ → List Block
+uniqueBy zero x cs = itemBlock x false (imm16 (pos 0)) ∷ itemBlock x true (imm16 (pos 1)) ∷ enableOf x cs (x .end .0 + 1) (x .end .0 + 2)
+uniqueBy (suc n) x cs =
     itemBlock x true (imm16 (pos 0))
     ∷ ifBlock (x .end .0 + 2) (acquiredOf (x .acquired)) (x .end .0 + 1)
     ∷ itemBlock x true (imm16 (pos 1))
-    ∷ enableOf x (x .end .0 + 3) (x .end .0 + 4)
+    ∷ enableOf x cs (x .end .0 + 3) (x .end .0 + 4)
 
-abbrev pub uniqueOf : ItemContext → List Block
-uniqueOf x = uniqueBy (x .len) x
+abbrev pub uniqueOf : ItemContext → List ℕ → List Block
+uniqueOf x cs = uniqueBy (x .len) x cs
 
-abbrev pub limitBy : ℕ → ItemContext → List Block
-limitBy zero x = itemBlock x false tempVar ∷ resetBlock (x .end .0 + 1) ∷ remainingBlock (x .limit) (x .item .0) (x .end .0 + 1) ∷ []
-limitBy (suc n) x =
+abbrev pub limitBy : ℕ → ItemContext → List ℕ → List Block
+limitBy zero x cs = itemBlock x false tempVar ∷ resetBlock (x .end .0 + 1) ∷ remainingBlock (x .limit) (x .item .0) (x .end .0 + 1) ∷ []
+limitBy (suc n) x cs =
     itemBlock x true tempVar
     ∷ resetBlock (x .end .0 + 2)
     ∷ remainingBlock (x .limit) (x .item .0) (x .end .0 + 2)
-    ∷ ifBlock (x .end .0 + 4) (joinCodes (x .codes) (x .len)) (x .end .0 + 1)
+    ∷ ifBlock (x .end .0 + 4) (joinCodes cs (x .len)) (x .end .0 + 1)
     ∷ []
 
-abbrev pub limitIn : ItemContext → List Block
-limitIn x = limitBy (x .len) x
+abbrev pub limitIn : ItemContext → List ℕ → List Block
+limitIn x cs = limitBy (x .len) x cs
 
-abbrev pub soldOf : ItemContext → List Block
-soldOf x = cond (leb (x .limit) 1) (uniqueOf x) (limitIn x)
+abbrev pub soldOf : ItemContext → List ℕ → List Block
+soldOf x cs = cond (leb (x .limit) 1) (uniqueOf x cs) (limitIn x cs)
 
-abbrev pub filledBy : ℕ → ItemContext → List Block
-filledBy zero x = soldOf x
-filledBy (suc n) x = hideBlock (x .end .0) (x .index) ∷ soldOf x
+abbrev pub filledBy : ℕ → ItemContext → List ℕ → List Block
+filledBy zero x cs = soldOf x cs
+filledBy (suc n) x cs = hideBlock (x .end .0) (x .index) ∷ soldOf x cs
 
-abbrev pub filledOf : ItemContext → List Block
-filledOf x = filledBy (x .len) x
+abbrev pub filledOf : ItemContext → List ℕ → List Block
+filledOf x cs = filledBy (x .len) x cs
 
 -- what the functions want of a context
 pub record Fitting (x : ItemContext) : Type 0 where
@@ -88,14 +88,17 @@ isFive five = true
 isFive ten = false
 isFive fifteen = false
 
--- a context on sheet h: limit z as given, requirements rs as sorted
-pub record Stands (x : ItemContext) (h : Model.Sheet) (z : ℤ) (rs : List Requirement) : Type 0 where
+-- a context on sheet h: limit z as given
+pub record Stands (x : ItemContext) (h : Model.Sheet) (z : ℤ) : Type 0 where
   pub limit : x .limit ≡ limitOf h (x .item .0) z
   pub acquired : acquiredOf (x .acquired) ≡ acquiredExpr h (x .item .0)
   pub rate : x .acquired .rate < 32768
   pub five : x .five ≡ isFive (timerOf h (x .item .0))
   pub ten : x .ten .0 ≡ h .timer10
   pub fifteen : x .fifteen .0 ≡ h .timer15
-  pub few : x .len ≤ entryLimit
-  pub long : length (x .codes) ≡ entryLimit
-  pub requirements : map requirementOf (take (x .len) (x .codes)) ≡ rs
+
+-- the first n codes of an array are those of the requirements rs
+pub record Listed (cs : List ℕ) (n : ℕ) (rs : List Requirement) : Type 0 where
+  pub few : n ≤ entryLimit
+  pub long : length cs ≡ entryLimit
+  pub is : map requirementOf (take n cs) ≡ rs

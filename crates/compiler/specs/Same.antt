@@ -20,7 +20,7 @@ use Rattle.shop.specs.Shapes.{requirementOf}
 use Rattle.emit.specs.Tests.{codesRest, joinCodes, acquiredOf, missingOf, missingAnd, bothMissing}
 use Rattle.emit.specs.Either.{missing-negates, missing-none, missing-some}
 use Rattle.compiler.specs.declared.ItemContext.{ItemContext}
-use Rattle.compiler.specs.Parts.{isFive, enableOf, enableBy, uniqueBy, uniqueOf, limitBy, limitIn, soldOf, filledBy, filledOf, Stands}
+use Rattle.compiler.specs.Parts.{isFive, enableOf, enableBy, uniqueBy, uniqueOf, limitBy, limitIn, soldOf, filledBy, filledOf, Stands, Listed}
 
 plus2 : (n : ℕ) → n + 2 ≡ suc (suc n)
 plus2 n = omega arith
@@ -37,53 +37,53 @@ first-rest [] n h = absurd (omega arith)
 first-rest (c ∷ cs) n h = let e : suc n - 1 ≡ n = omega arith in rw e
 
 -- above N, whatever its number is
-enable-same : (x : ItemContext) (h : Model.Sheet) (v : Expr) (t : Timer) (k n : ℕ) → x .five ≡ isFive t → x .ten .0 ≡ h .timer10 → x .fifteen .0 ≡ h .timer15
-    → missingAnd (x .acquired) (x .codes) (x .len) ≡ v → enableOf x k n ≡ enableBlocks h (x .index) (x .end .0) (x .item .0) t v k n
+enable-same : (x : ItemContext) (cs : List ℕ) (h : Model.Sheet) (v : Expr) (t : Timer) (k n : ℕ) → x .five ≡ isFive t → x .ten .0 ≡ h .timer10 → x .fifteen .0 ≡ h .timer15
+    → missingAnd (x .acquired) cs (x .len) ≡ v → enableOf x cs k n ≡ enableBlocks h (x .index) (x .end .0) (x .item .0) t v k n
 unfolding joinTests test itemTest
-enable-same x h v plain k n f a b e = rw (f, e)
-enable-same x h v ten k n f a b e = rw (f, e)
-enable-same x h v fifteen k n f a b e = rw (f, e)
-enable-same x h v five k n f a b e = rw (f, e, a, b, add-one n, plus2 n)
+enable-same x cs h v plain k n f a b e = rw (f, e)
+enable-same x cs h v ten k n f a b e = rw (f, e)
+enable-same x cs h v fifteen k n f a b e = rw (f, e)
+enable-same x cs h v five k n f a b e = rw (f, e, a, b, add-one n, plus2 n)
 
-module _ (x : ItemContext) (h : Model.Sheet) (z : ℤ) (rs : List Requirement) (s : Stands x h z rs) where
+module _ (x : ItemContext) (cs : List ℕ) (h : Model.Sheet) (z : ℤ) (rs : List Requirement) (s : Stands x h z) (d : Listed cs (x .len) rs) where
   missing-is : missingOf (x .acquired) ≡ negate (acquiredExpr h (x .item .0))
   missing-is = sym (missing-negates (x .acquired)) ∙ ap negate (s .acquired)
 
   -- no requirements
   module _ (none : x .len ≡ 0) where
-    none-missing : missingAnd (x .acquired) (x .codes) (x .len) ≡ negate (acquiredExpr h (x .item .0))
-    none-missing = missing-none (x .acquired) (x .codes) (x .len) none ∙ missing-is
+    none-missing : missingAnd (x .acquired) cs (x .len) ≡ negate (acquiredExpr h (x .item .0))
+    none-missing = missing-none (x .acquired) cs (x .len) none ∙ missing-is
 
-    unique-by-none : uniqueBy zero x ≡ uniqueBlocks h (x .index) (x .end .0) (x .item .0) []
+    unique-by-none : uniqueBy zero x cs ≡ uniqueBlocks h (x .index) (x .end .0) (x .item .0) []
     unfolding uniqueBlocks
     unique-by-none =
-        rw (enable-same x h (negate (acquiredExpr h (x .item .0))) (timerOf h (x .item .0)) (x .end .0 + 1) (x .end .0 + 2) (s .five) (s .ten) (s .fifteen) none-missing, add-one (x .end .0), plus2 (x .end .0))
+        rw (enable-same x cs h (negate (acquiredExpr h (x .item .0))) (timerOf h (x .item .0)) (x .end .0 + 1) (x .end .0 + 2) (s .five) (s .ten) (s .fifteen) none-missing, add-one (x .end .0), plus2 (x .end .0))
 
-    limit-by-none : limitBy zero x ≡ limitBlocks (x .index) (x .end .0) (x .item .0) (x .limit) []
+    limit-by-none : limitBy zero x cs ≡ limitBlocks (x .index) (x .end .0) (x .item .0) (x .limit) []
     unfolding limitBlocks
     limit-by-none = rw (add-one (x .end .0))
 
-    sold-none : soldOf x ≡ filledBlocks h (x .index) (x .end .0) (x .item .0) (x .limit) []
+    sold-none : soldOf x cs ≡ filledBlocks h (x .index) (x .end .0) (x .item .0) (x .limit) []
     sold-none =
-        ap₂ (λ (u l : List Block). cond (leb (x .limit) 1) u l) (ap (λ (n : ℕ). uniqueBy n x) none ∙ unique-by-none) (ap (λ (n : ℕ). limitBy n x) none ∙ limit-by-none)
+        ap₂ (λ (u l : List Block). cond (leb (x .limit) 1) u l) (ap (λ (n : ℕ). uniqueBy n x cs) none ∙ unique-by-none) (ap (λ (n : ℕ). limitBy n x cs) none ∙ limit-by-none)
 
   -- some requirements
   module _ (n : ℕ) (some : x .len ≡ suc n) where
     r : Requirement
-    r = requirementOf (getD (x .codes) 0 0)
+    r = requirementOf (getD cs 0 0)
 
     rest : List Requirement
-    rest = codesRest (x .codes) (suc n)
+    rest = codesRest cs (suc n)
 
-    some-missing : missingAnd (x .acquired) (x .codes) (x .len) ≡ two BitAnd (negate (acquiredExpr h (x .item .0))) (joinTests (test r) rest)
+    some-missing : missingAnd (x .acquired) cs (x .len) ≡ two BitAnd (negate (acquiredExpr h (x .item .0))) (joinTests (test r) rest)
     unfolding r rest
-    some-missing = rw some (ap (λ (m : Expr). two BitAnd m (joinCodes (x .codes) (suc n))) missing-is)
+    some-missing = rw some (ap (λ (m : Expr). two BitAnd m (joinCodes cs (suc n))) missing-is)
 
-    unique-by-some : hideBlock (x .end .0) (x .index) ∷ uniqueBy (suc n) x ≡ uniqueBlocks h (x .index) (x .end .0) (x .item .0) (r ∷ rest)
+    unique-by-some : hideBlock (x .end .0) (x .index) ∷ uniqueBy (suc n) x cs ≡ uniqueBlocks h (x .index) (x .end .0) (x .item .0) (r ∷ rest)
     unfolding uniqueBlocks
     unique-by-some =
         rw (
-          enable-same x h (two BitAnd (negate (acquiredExpr h (x .item .0))) (joinTests (test r) rest)) (timerOf h (x .item .0)) (x .end .0 + 3) (x .end .0 + 4) (s .five) (s .ten) (s .fifteen) some-missing,
+          enable-same x cs h (two BitAnd (negate (acquiredExpr h (x .item .0))) (joinTests (test r) rest)) (timerOf h (x .item .0)) (x .end .0 + 3) (x .end .0 + 4) (s .five) (s .ten) (s .fifteen) some-missing,
           s .acquired,
           add-one (x .end .0),
           plus2 (x .end .0),
@@ -91,26 +91,26 @@ module _ (x : ItemContext) (h : Model.Sheet) (z : ℤ) (rs : List Requirement) (
           plus4 (x .end .0),
         )
 
-    limit-by-some : hideBlock (x .end .0) (x .index) ∷ limitBy (suc n) x ≡ limitBlocks (x .index) (x .end .0) (x .item .0) (x .limit) (r ∷ rest)
+    limit-by-some : hideBlock (x .end .0) (x .index) ∷ limitBy (suc n) x cs ≡ limitBlocks (x .index) (x .end .0) (x .item .0) (x .limit) (r ∷ rest)
     unfolding limitBlocks r rest
     limit-by-some = rw (some, add-one (x .end .0), plus2 (x .end .0), plus4 (x .end .0))
 
-    sold-some : hideBlock (x .end .0) (x .index) ∷ soldOf x ≡ filledBlocks h (x .index) (x .end .0) (x .item .0) (x .limit) (r ∷ rest)
+    sold-some : hideBlock (x .end .0) (x .index) ∷ soldOf x cs ≡ filledBlocks h (x .index) (x .end .0) (x .item .0) (x .limit) (r ∷ rest)
     sold-some = by (leb (x .limit) 1)
       where
-        by : (b : Bool) → hideBlock (x .end .0) (x .index) ∷ cond b (uniqueOf x) (limitIn x)
+        by : (b : Bool) → hideBlock (x .end .0) (x .index) ∷ cond b (uniqueOf x cs) (limitIn x cs)
             ≡ cond b (uniqueBlocks h (x .index) (x .end .0) (x .item .0) (r ∷ rest)) (limitBlocks (x .index) (x .end .0) (x .item .0) (x .limit) (r ∷ rest))
-        by true = ap (λ (m : ℕ). hideBlock (x .end .0) (x .index) ∷ uniqueBy m x) some ∙ unique-by-some
-        by false = ap (λ (m : ℕ). hideBlock (x .end .0) (x .index) ∷ limitBy m x) some ∙ limit-by-some
+        by true = ap (λ (m : ℕ). hideBlock (x .end .0) (x .index) ∷ uniqueBy m x cs) some ∙ unique-by-some
+        by false = ap (λ (m : ℕ). hideBlock (x .end .0) (x .index) ∷ limitBy m x cs) some ∙ limit-by-some
 
-    some-are : map requirementOf (take (suc n) (x .codes)) ≡ r ∷ rest
+    some-are : map requirementOf (take (suc n) cs) ≡ r ∷ rest
     unfolding r rest
-    some-are = first-rest (x .codes) n (s .long)
+    some-are = first-rest cs n (d .long)
 
-  by-number : (n : ℕ) → x .len ≡ n → filledBy n x ≡ filledBlocks h (x .index) (x .end .0) (x .item .0) (x .limit) (map requirementOf (take n (x .codes)))
+  by-number : (n : ℕ) → x .len ≡ n → filledBy n x cs ≡ filledBlocks h (x .index) (x .end .0) (x .item .0) (x .limit) (map requirementOf (take n cs))
   by-number zero e = sold-none e
   by-number (suc n) e = rw (some-are n e) (sold-some n e)
 
-  pub filled-same : filledOf x ≡ filledBlocks h (x .index) (x .end .0) (x .item .0) (limitOf h (x .item .0) z) rs
+  pub filled-same : filledOf x cs ≡ filledBlocks h (x .index) (x .end .0) (x .item .0) (limitOf h (x .item .0) z) rs
   filled-same = by-number (x .len) refl
-      ∙ ap₂ (λ (l : ℕ) (qs : List Requirement). filledBlocks h (x .index) (x .end .0) (x .item .0) l qs) (s .limit) (s .requirements)
+      ∙ ap₂ (λ (l : ℕ) (qs : List Requirement). filledBlocks h (x .index) (x .end .0) (x .item .0) l qs) (s .limit) (d .is)

@@ -42,7 +42,7 @@ const TIMER_10_RATE: u16 = 100;
 const TIMER_15_RATE: u16 = 67;
 
 // What a slot with an item is compiled from: its number, the item, the coerced limit, the block to go to after the slot,
-// how the item counts as acquired, the other timers, the sorted requirements.
+// how the item counts as acquired, the other timers, the number of sorted requirements. Their codes stand beside it in an array.
 struct ItemContext {
     index: u16,
     item: ItemId,
@@ -52,7 +52,6 @@ struct ItemContext {
     five: bool,
     ten: ItemId,
     fifteen: ItemId,
-    codes: [u64; 32],
     len: u8,
 }
 
@@ -124,17 +123,17 @@ fn compile_enable(
     bw: &mut [u16; 20480],
     k: Counts,
     x: ItemContext,
+    codes: &[u64; 32],
     other: BlockNo,
     enable: BlockNo,
 ) -> Counts
-    requires { ⌜ Room (memoryOf (now ws) (now val) (now cw) (now bw) k) (enableOf x (other .0) (enable .0)) ⌝ }
+    requires { ⌜ Room (memoryOf (now ws) (now val) (now cw) (now bw) k) (enableOf x (now codes) (other .0) (enable .0)) ⌝ }
     requires { ⌜ Fitting x × (x .end .0 < 4096) × (other .0 < 4096) × (enable .0 ≤ k .blocks) ⌝ }
-    ensures { λ m. ⌜ PutBlocks (memoryOf (now (ws .entry)) (now (val .entry)) (now (cw .entry)) (now (bw .entry)) k) (enableOf x (other .0) (enable .0)) (memoryOf (now (ws .exit)) (now (val .exit)) (now (cw .exit)) (now (bw .exit)) m) ⌝ }
+    ensures { λ m. ⌜ PutBlocks (memoryOf (now (ws .entry)) (now (val .entry)) (now (cw .entry)) (now (bw .entry)) k) (enableOf x (now (codes .entry)) (other .0) (enable .0)) (memoryOf (now (ws .exit)) (now (val .exit)) (now (cw .exit)) (now (bw .exit)) m) ⌝ }
 {
     let a = x.acquired;
     let ten = x.ten;
     let fifteen = x.fifteen;
-    let codes = x.codes;
     let len = x.len;
     if x.five {
         let disable = BlockNo(enable.0 + 1);
@@ -155,10 +154,11 @@ fn compile_slot_unique(
     bw: &mut [u16; 20480],
     k: Counts,
     x: ItemContext,
+    codes: &[u64; 32],
 ) -> Counts
-    requires { ⌜ Room (memoryOf (now ws) (now val) (now cw) (now bw) k) (uniqueOf x) ⌝ }
+    requires { ⌜ Room (memoryOf (now ws) (now val) (now cw) (now bw) k) (uniqueOf x (now codes)) ⌝ }
     requires { ⌜ Fitting x × (x .end .0 + 1 ≤ k .blocks) ⌝ }
-    ensures { λ m. ⌜ PutBlocks (memoryOf (now (ws .entry)) (now (val .entry)) (now (cw .entry)) (now (bw .entry)) k) (uniqueOf x) (memoryOf (now (ws .exit)) (now (val .exit)) (now (cw .exit)) (now (bw .exit)) m) ⌝ }
+    ensures { λ m. ⌜ PutBlocks (memoryOf (now (ws .entry)) (now (val .entry)) (now (cw .entry)) (now (bw .entry)) k) (uniqueOf x (now (codes .entry))) (memoryOf (now (ws .exit)) (now (val .exit)) (now (cw .exit)) (now (bw .exit)) m) ⌝ }
 {
     let a = x.acquired;
     let end = x.end;
@@ -167,14 +167,14 @@ fn compile_slot_unique(
     if x.len == 0 {
         let k1 = compile_item(ws, val, cw, bw, k, x, Value::Zero, false);
         let k2 = compile_item(ws, val, cw, bw, k1, x, Value::One, true);
-        return compile_enable(ws, val, cw, bw, k2, x, first, second);
+        return compile_enable(ws, val, cw, bw, k2, x, codes, first, second);
     }
     let third = BlockNo(end.0 + 3);
     let fourth = BlockNo(end.0 + 4);
     let k3 = compile_item(ws, val, cw, bw, k, x, Value::Zero, true);
     let k4 = push_if_acquired(ws, val, cw, bw, k3, a, second, first);
     let k5 = compile_item(ws, val, cw, bw, k4, x, Value::One, true);
-    compile_enable(ws, val, cw, bw, k5, x, third, fourth)
+    compile_enable(ws, val, cw, bw, k5, x, codes, third, fourth)
 }
 
 // A slot which may hold more than one item: S, Z, M, [If R].
@@ -185,15 +185,15 @@ fn compile_slot_limit(
     bw: &mut [u16; 20480],
     k: Counts,
     x: ItemContext,
+    codes: &[u64; 32],
 ) -> Counts
-    requires { ⌜ Room (memoryOf (now ws) (now val) (now cw) (now bw) k) (limitIn x) ⌝ }
+    requires { ⌜ Room (memoryOf (now ws) (now val) (now cw) (now bw) k) (limitIn x (now codes)) ⌝ }
     requires { ⌜ Fitting x × (x .end .0 + 1 ≤ k .blocks) ⌝ }
-    ensures { λ m. ⌜ PutBlocks (memoryOf (now (ws .entry)) (now (val .entry)) (now (cw .entry)) (now (bw .entry)) k) (limitIn x) (memoryOf (now (ws .exit)) (now (val .exit)) (now (cw .exit)) (now (bw .exit)) m) ⌝ }
+    ensures { λ m. ⌜ PutBlocks (memoryOf (now (ws .entry)) (now (val .entry)) (now (cw .entry)) (now (bw .entry)) k) (limitIn x (now (codes .entry))) (memoryOf (now (ws .exit)) (now (val .exit)) (now (cw .exit)) (now (bw .exit)) m) ⌝ }
 {
     let item = x.item;
     let limit = x.limit;
     let end = x.end;
-    let codes = x.codes;
     let len = x.len;
     let first = BlockNo(end.0 + 1);
     if len == 0 {
@@ -217,15 +217,16 @@ fn compile_slot_item(
     bw: &mut [u16; 20480],
     k: Counts,
     x: ItemContext,
+    codes: &[u64; 32],
 ) -> Counts
-    requires { ⌜ Room (memoryOf (now ws) (now val) (now cw) (now bw) k) (soldOf x) ⌝ }
+    requires { ⌜ Room (memoryOf (now ws) (now val) (now cw) (now bw) k) (soldOf x (now codes)) ⌝ }
     requires { ⌜ Fitting x × (x .end .0 + 1 ≤ k .blocks) ⌝ }
-    ensures { λ m. ⌜ PutBlocks (memoryOf (now (ws .entry)) (now (val .entry)) (now (cw .entry)) (now (bw .entry)) k) (soldOf x) (memoryOf (now (ws .exit)) (now (val .exit)) (now (cw .exit)) (now (bw .exit)) m) ⌝ }
+    ensures { λ m. ⌜ PutBlocks (memoryOf (now (ws .entry)) (now (val .entry)) (now (cw .entry)) (now (bw .entry)) k) (soldOf x (now (codes .entry))) (memoryOf (now (ws .exit)) (now (val .exit)) (now (cw .exit)) (now (bw .exit)) m) ⌝ }
 {
     if x.limit <= 1 {
-        return compile_slot_unique(ws, val, cw, bw, k, x);
+        return compile_slot_unique(ws, val, cw, bw, k, x, codes);
     }
-    compile_slot_limit(ws, val, cw, bw, k, x)
+    compile_slot_limit(ws, val, cw, bw, k, x, codes)
 }
 
 // A slot with an item: requirements need a block that hides it.
@@ -236,18 +237,19 @@ fn compile_slot_filled(
     bw: &mut [u16; 20480],
     k: Counts,
     x: ItemContext,
+    codes: &[u64; 32],
 ) -> Counts
-    requires { ⌜ Room (memoryOf (now ws) (now val) (now cw) (now bw) k) (filledOf x) ⌝ }
+    requires { ⌜ Room (memoryOf (now ws) (now val) (now cw) (now bw) k) (filledOf x (now codes)) ⌝ }
     requires { ⌜ Fitting x × (x .end .0 + 1 ≤ k .blocks) ⌝ }
-    ensures { λ m. ⌜ PutBlocks (memoryOf (now (ws .entry)) (now (val .entry)) (now (cw .entry)) (now (bw .entry)) k) (filledOf x) (memoryOf (now (ws .exit)) (now (val .exit)) (now (cw .exit)) (now (bw .exit)) m) ⌝ }
+    ensures { λ m. ⌜ PutBlocks (memoryOf (now (ws .entry)) (now (val .entry)) (now (cw .entry)) (now (bw .entry)) k) (filledOf x (now (codes .entry))) (memoryOf (now (ws .exit)) (now (val .exit)) (now (cw .exit)) (now (bw .exit)) m) ⌝ }
 {
     let index = x.index;
     let end = x.end;
     if x.len == 0 {
-        return compile_slot_item(ws, val, cw, bw, k, x);
+        return compile_slot_item(ws, val, cw, bw, k, x, codes);
     }
     let k1 = compile_slot_hidden(ws, val, cw, bw, k, index, end);
-    compile_slot_item(ws, val, cw, bw, k1, x)
+    compile_slot_item(ws, val, cw, bw, k1, x, codes)
 }
 
 // The rate of a timer that counts as having it; 0 for any other item.
@@ -296,32 +298,29 @@ fn acquired_of(attached: &[u8], item: ItemId, rate: u16) -> Acquired
 fn item_context(
     attached: &[u8],
     sheet: Sheet,
-    slot: Slot,
+    limit: i16,
     item: ItemId,
     index: u16,
     end: BlockNo,
+    len: u8,
 ) -> ItemContext
-    requires { ⌜ Exact slot ⌝ }
-    ensures { λ r. ⌜ Context r (sheetOf (now (attached .entry)) sheet) slot index end item ⌝ }
+    ensures { λ r. ⌜ Context r (sheetOf (now (attached .entry)) sheet) limit index end item len ⌝ }
 {
     let timer = timer_of(sheet, item);
     let a = acquired_of(attached, item, rate_of(timer));
-    let limit = limit_of(attached, sheet, item, slot.limit);
-    let reqs = sorted(slot);
-    let codes = reqs.codes;
+    let most = limit_of(attached, sheet, item, limit);
     let ten = sheet.timer10;
     let fifteen = sheet.timer15;
     ItemContext {
         index: index,
         item: item,
-        limit: limit,
+        limit: most,
         end: end,
         acquired: a,
         five: is_five(timer),
         ten: ten,
         fifteen: fifteen,
-        codes: codes,
-        len: reqs.len,
+        len: len,
     }
 }
 
@@ -346,8 +345,10 @@ fn compile_slot(
     match item {
         SlotItem::Nothing => compile_slot_hidden(ws, val, cw, bw, k, index, end),
         SlotItem::Of(w) => {
-            let x = item_context(attached, sheet, slot, w, index, end);
-            compile_slot_filled(ws, val, cw, bw, k, x)
+            let reqs = sorted(slot);
+            let codes = reqs.codes;
+            let x = item_context(attached, sheet, slot.limit, w, index, end, reqs.len);
+            compile_slot_filled(ws, val, cw, bw, k, x, &codes)
         }
     }
 }

@@ -26,6 +26,7 @@ use model::BlockNo;
 use model::ItemId;
 use model::Op1;
 use model::Op2;
+use shop::capacity;
 
 // How an item counts as acquired: of is Item or Atc, id is its id there, rate that of a timer or 0.
 pub struct Acquired {
@@ -154,13 +155,14 @@ pub fn push_tests(
     ws: &mut [u16; 98304],
     val: &mut [i32; 32768],
     n: u16,
-    codes: [u64; 32],
+    codes: &[u64; 32],
     len: u8,
 ) -> u16
     requires { ⌜ (0 < len) × (len ≤ 32) ⌝ }
-    requires { ⌜ n + size (joinCodes codes len) ≤ 32768 ⌝ }
-    ensures { λ m. ⌜ PutExpr (nodesIn (now (ws .entry)) (now (val .entry)) n) (joinCodes codes len) (nodesIn (now (ws .exit)) (now (val .exit)) m) ⌝ }
+    requires { ⌜ n + size (joinCodes (now codes) len) ≤ 32768 ⌝ }
+    ensures { λ m. ⌜ PutExpr (nodesIn (now (ws .entry)) (now (val .entry)) n) (joinCodes (now (codes .entry)) len) (nodesIn (now (ws .exit)) (now (val .exit)) m) ⌝ }
 {
+    capacity(codes);
     let mut at = push_test(ws, val, n, codes[0]);
     let end = len as usize;
     let mut i = 1;
@@ -220,11 +222,11 @@ pub fn push_missing_and(
     val: &mut [i32; 32768],
     n: u16,
     a: Acquired,
-    codes: [u64; 32],
+    codes: &[u64; 32],
     len: u8,
 ) -> u16
-    requires { ⌜ (n + size (missingAnd a codes len) ≤ 32768) × (a .rate < 32768) × (len ≤ 32) ⌝ }
-    ensures { λ m. ⌜ PutExpr (nodesIn (now (ws .entry)) (now (val .entry)) n) (missingAnd a codes len) (nodesIn (now (ws .exit)) (now (val .exit)) m) ⌝ }
+    requires { ⌜ (n + size (missingAnd a (now codes) len) ≤ 32768) × (a .rate < 32768) × (len ≤ 32) ⌝ }
+    ensures { λ m. ⌜ PutExpr (nodesIn (now (ws .entry)) (now (val .entry)) n) (missingAnd a (now (codes .entry)) len) (nodesIn (now (ws .exit)) (now (val .exit)) m) ⌝ }
 {
     let n1 = push_either(ws, val, n, Op2::Equal, Op2::BitAnd, Op2::NotEqual, a);
     if len == 0 {
@@ -547,14 +549,14 @@ pub fn push_if_missing(
     bw: &mut [u16; 20480],
     k: Counts,
     a: Acquired,
-    codes: [u64; 32],
+    codes: &[u64; 32],
     len: u8,
     next: BlockNo,
     other: BlockNo,
 ) -> Counts
-    requires { ⌜ Room (memoryOf (now ws) (now val) (now cw) (now bw) k) (ifBlock (next .0) (missingAnd a codes len) (other .0) ∷ []) ⌝ }
+    requires { ⌜ Room (memoryOf (now ws) (now val) (now cw) (now bw) k) (ifBlock (next .0) (missingAnd a (now codes) len) (other .0) ∷ []) ⌝ }
     requires { ⌜ (a .rate < 32768) × (len ≤ 32) × (next .0 < 4096) × (other .0 < 4096) ⌝ }
-    ensures { λ m. ⌜ PutBlocks (memoryOf (now (ws .entry)) (now (val .entry)) (now (cw .entry)) (now (bw .entry)) k) (ifBlock (next .0) (missingAnd a codes len) (other .0) ∷ []) (memoryOf (now (ws .exit)) (now (val .exit)) (now (cw .exit)) (now (bw .exit)) m) ⌝ }
+    ensures { λ m. ⌜ PutBlocks (memoryOf (now (ws .entry)) (now (val .entry)) (now (cw .entry)) (now (bw .entry)) k) (ifBlock (next .0) (missingAnd a (now (codes .entry)) len) (other .0) ∷ []) (memoryOf (now (ws .exit)) (now (val .exit)) (now (cw .exit)) (now (bw .exit)) m) ⌝ }
 {
     let n0 = k.nodes;
     let n1 = push_missing_and(ws, val, n0, a, codes, len);
@@ -568,14 +570,14 @@ pub fn push_if_visible(
     cw: &mut [u16; 65536],
     bw: &mut [u16; 20480],
     k: Counts,
-    codes: [u64; 32],
+    codes: &[u64; 32],
     len: u8,
     next: BlockNo,
     other: BlockNo,
 ) -> Counts
-    requires { ⌜ Room (memoryOf (now ws) (now val) (now cw) (now bw) k) (ifBlock (next .0) (joinCodes codes len) (other .0) ∷ []) ⌝ }
+    requires { ⌜ Room (memoryOf (now ws) (now val) (now cw) (now bw) k) (ifBlock (next .0) (joinCodes (now codes) len) (other .0) ∷ []) ⌝ }
     requires { ⌜ (0 < len) × (len ≤ 32) × (next .0 < 4096) × (other .0 < 4096) ⌝ }
-    ensures { λ m. ⌜ PutBlocks (memoryOf (now (ws .entry)) (now (val .entry)) (now (cw .entry)) (now (bw .entry)) k) (ifBlock (next .0) (joinCodes codes len) (other .0) ∷ []) (memoryOf (now (ws .exit)) (now (val .exit)) (now (cw .exit)) (now (bw .exit)) m) ⌝ }
+    ensures { λ m. ⌜ PutBlocks (memoryOf (now (ws .entry)) (now (val .entry)) (now (cw .entry)) (now (bw .entry)) k) (ifBlock (next .0) (joinCodes (now (codes .entry)) len) (other .0) ∷ []) (memoryOf (now (ws .exit)) (now (val .exit)) (now (cw .exit)) (now (bw .exit)) m) ⌝ }
 {
     let n0 = k.nodes;
     let n1 = push_tests(ws, val, n0, codes, len);

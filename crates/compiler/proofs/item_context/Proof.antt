@@ -1,4 +1,3 @@
-use mir.Syntax.{w16}
 use mir.Facts.{toZ-ofZ}
 use Rattle.compiler.specs.Context.{context-made}
 use denote.Ref.{now}
@@ -18,16 +17,18 @@ acquired-of-requires c κs = search needs
 limit-of-requires : tie.Need-limit-of-requires
 limit-of-requires c κs = search needs
 
-sorted-requires : tie.Need-sorted-requires
-sorted-requires c κs = search needs
-
 is-five-requires : tie.Need-is-five-requires
 is-five-requires c κs = search needs
 
 returns : tie.Need-returns
 returns c =
-    context-made (now (c .before .before .before .before .before .before .before .before .before .before .before .args .attached)) (c .before .before .before .before .before .before .before .before .before .before .before .args .sheet) (c .before .before .before .before .before .before .before .before .before .before .before .args .slot) (c .before .before .before .before .before .before .before .before .before .before .before .args .index) (c .before .before .before .before .before .before .before .before .before .before .before .args .end) (c .before .before .before .before .before .before .before .before .before .before .before .args .item) (c .before .before .before .before .before .before .before .before .before .timer-of .result) (c .before .before .before .before .before .before .before .before .rate-of .result) (c .before .before .before .before .before .limit-of .result) (c .before .before .before .before .before .before .before .acquired-of .result) (c .is-five .result) (c .before .before .before .before .sorted .result)
-    (c .before .before .before .before .before .before .before .before .before .timer-of .ensures (now (c .before .before .before .before .before .before .before .before .before .before .before .args .attached))) (c .before .before .before .before .before .before .before .before .rate-of .ensures) (c .before .before .before .before .before .before .before .acquired-of .ensures) (rw (toZ-ofZ {w = w16} {z = c .before .before .before .before .before .before .before .before .before .before .before .args .slot .limit} (record { sfits = c .before .before .before .before .before .before .struct-told .given .1 .0 .1 })) at (c .before .before .before .before .before .limit-of .ensures)) (c .is-five .ensures) (c .before .before .before .before .before .before .before .before .before .before .before .pre) (c .before .before .before .before .sorted .ensures)
+    let l = c .before .before .before in
+    let a = l .before in
+    let r = a .before in
+    let t = r .before in
+    let s = t .before .before in
+    context-made (now (s .args .attached)) (s .args .sheet) (s .args .limit) (s .args .index) (s .args .end) (s .args .item) (s .args .len) (t .timer-of .result) (r .rate-of .result) (l .limit-of .result) (a .acquired-of .result) (c .is-five .result)
+    (t .timer-of .ensures (now (s .args .attached))) (r .rate-of .ensures) (a .acquired-of .ensures) (rw (toZ-ofZ (s .fits .limit)) at (l .limit-of .ensures)) (c .is-five .ensures)
 
 pub item-context-spec : {M : Type 1} → statement M
 item-context-spec =
@@ -37,6 +38,5 @@ item-context-spec =
     rate-of-requires
     acquired-of-requires
     limit-of-requires
-    sorted-requires
     is-five-requires
     returns)
