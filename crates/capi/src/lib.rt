@@ -22,12 +22,11 @@ use image_write::write_script;
 use memory::Counts;
 use model::BlockNo;
 use model::ItemId;
-use parse::parse;
+use parse::parse_arrays;
 use preview::preview;
 use runner::run;
 use shop::Sheet;
 use shop_arrays::shop_from;
-use shop_arrays::shop_to;
 
 // The refusal or 0, and the kept counts of the script; all are 0 where a read is refused.
 #[repr(C)]
@@ -258,10 +257,20 @@ pub extern "C" fn lk_parse(
         commands: commands,
         blocks: blocks,
     };
-    let r = parse(attached, sheet, ws, val, cw, bw, counts, BlockNo(setup));
-    let shop = r.shop;
-    shop_to(shop, items, limits, codes, lens);
-    r.refusal
+    parse_arrays(
+        attached,
+        sheet,
+        ws,
+        val,
+        cw,
+        bw,
+        counts,
+        BlockNo(setup),
+        items,
+        limits,
+        codes,
+        lens,
+    )
 }
 
 // What the shop that the arrays stand for means under a save.

@@ -13,6 +13,7 @@ use Rattle.shop.specs.declared.Shop.{Shop}
 use Rattle.shop.specs.declared.Reqs.{Reqs}
 use Rattle.shop.specs.Shapes.{codeOf, slotsOf}
 use Rattle.shop.specs.Sets.{reqsOf}
+use Rattle.shop_arrays.specs.Arrays.{Arrays, shopFrom, arraysOf}
 use Rattle.scan.specs.Slots.{GoodShop}
 use Rattle.parse.specs.declared.ParsedShop.{ParsedShop}
 
@@ -36,3 +37,9 @@ pub record ParsedAs (p : Parsed) (r : ParsedShop) : Type 0 where
   pub is : r ≡ answerOf p
   pub slots : r .refusal ≡ 0 → slotsOf (r .shop) ≡ p .slots
   pub good : GoodShop (r .shop)
+
+-- the answer with its slots in arrays: those of that value, and they stand for its slots
+pub record ParsedInto (p : Parsed) (n : ℕ) (a : Arrays) : Type 0 where
+  pub refusal : n ≡ answerOf p .refusal
+  pub arrays : a ≡ arraysOf (answerOf p .shop)
+  pub stands : ParsedAs p (record { refusal = n; shop = shopFrom a })

@@ -1,5 +1,5 @@
 -- What a parse answers where a check refuses, where the walk stops and where the slots were read. Assumes nothing.
-use mathlib.Core.Path.{_≡_, refl, sym, ap, ap₂, _∙_}
+use mathlib.Core.Path.{_≡_, refl, sym, ap, ap₂, _∙_, subst}
 use mathlib.Core.List.{List, [], _∷_, map}
 use Prim.Native.Nat.{ℕ, zero, suc, _≤_, _<_}
 use native.Mathlib.Omega.{arith}
@@ -21,10 +21,14 @@ use Rattle.shop.specs.declared.Reqs.{Reqs}
 use Rattle.shop.specs.Shapes.{sheetOf, itemOf, slotOf, slotsOf, noShop}
 use Rattle.shop.specs.Sets.{reqsOf}
 use Rattle.shop.specs.Slots.{with-all, items-few}
+use Rattle.shop_arrays.specs.Arrays.{Arrays, shopFrom, arraysOf}
+use Rattle.shop_arrays.specs.Slots.{slots-long, noArrays, shop-none}
+use Rattle.shop_arrays.specs.Back.{Full, none-back}
 use Rattle.scan.specs.Slots.{beyond, GoodSlot, GoodShop, good-start}
 use Rattle.checks.specs.Calls.{callIn}
 use Rattle.checks.specs.Passed.{call-passed}
-use Rattle.parse.specs.Answer.{itemAs, slotWith, slotAs, answerOf, ParsedAs}
+use Rattle.parse.specs.Answer.{itemAs, slotWith, slotAs, answerOf, ParsedAs, ParsedInto}
+use Rattle.parse.specs.Known.{slots-arrays}
 use Rattle.parse.specs.declared.ParsedShop.{ParsedShop}
 
 -- ---- slots and what they stand for
@@ -57,6 +61,9 @@ nothing : (n : ℕ) → refusedBy n ≡ answerOf (record { answer = n; slots = [
 unfolding answerOf padded reqsOf
 nothing n = refl
 
+into : (p : Parsed) (n : ℕ) (a : Arrays) → ParsedAs p (record { refusal = n; shop = shopFrom a }) → a ≡ arraysOf (shopFrom a) → ParsedInto p n a
+into p n a q e = record { refusal = ap (λ (r : ParsedShop). r .refusal) (q .is); arrays = e ∙ ap (λ (r : ParsedShop). arraysOf (r .shop)) (q .is); stands = q }
+
 module _ (h : Model.Sheet) (m : Memory) (b : ℕ) where
   abbrev end : State
   end = parse h (scriptOf m .blocks) b
@@ -70,30 +77,39 @@ module _ (h : Model.Sheet) (m : Memory) (b : ℕ) where
   checked (suc n) d = nothing (suc n)
 
   -- nothing was handed out
-  refused-as : (n : ℕ) → (n ≡ 0 → ⊥) → refusedBy n ≡ answerOf (parseIn h m b) → ParsedAs (parseIn h m b) (refusedBy n)
-  refused-as n d e = record { is = e; slots = λ z. absurd (d z); good = good-start }
+  refused-as : (n : ℕ) → (n ≡ 0 → ⊥) → refusedBy n ≡ answerOf (parseIn h m b) → (a : Arrays) → a ≡ noArrays → ParsedInto (parseIn h m b) n a
+  refused-as n d e a k =
+      let s : shopFrom a ≡ noShop = ap shopFrom k ∙ shop-none in
+      into (parseIn h m b) n a (record { is = ap (λ (t : Shop). record { refusal = n; shop = t }) s ∙ e; slots = λ z. absurd (d z); good = subst GoodShop (sym s) good-start })
+      (k ∙ none-back ∙ ap arraysOf (sym s))
 
-  pub parse-refused : (n : ℕ) → n ≡ callIn h m b → (n ≡ 0 → ⊥) → ParsedAs (parseIn h m b) (refusedBy n)
+  pub parse-refused : (n : ℕ) → n ≡ callIn h m b → (n ≡ 0 → ⊥) → (a : Arrays) → a ≡ noArrays → ParsedInto (parseIn h m b) n a
   parse-refused n e d = refused-as n d (checked n d ∙ ap (λ k. answerOf (afterChecks k end)) e ∙ ap answerOf (sym by-call))
 
   stopped : (n : ℕ) (st : State) → n ≡ st .answer → (n ≡ 0 → ⊥) → refusedBy n ≡ answerOf (afterChecks 0 st)
   stopped zero st e d = absurd (d refl)
   stopped (suc n) st e d = nothing (suc n) ∙ rw (← e) refl
 
-  pub parse-stopped : (n : ℕ) → callIn h m b ≡ 0 → n ≡ end .answer → (n ≡ 0 → ⊥) → ParsedAs (parseIn h m b) (refusedBy n)
+  pub parse-stopped : (n : ℕ) → callIn h m b ≡ 0 → n ≡ end .answer → (n ≡ 0 → ⊥) → (a : Arrays) → a ≡ noArrays → ParsedInto (parseIn h m b) n a
   parse-stopped n c e d = refused-as n d (stopped n end e d ∙ ap answerOf (sym (by-call ∙ ap (λ k. afterChecks k end) c)))
 
-  module _ (n : ℕ) (s : Shop) (c : callIn h m b ≡ 0) (e : n ≡ end .answer) (z : n ≡ 0) (p : slotsOf s ≡ end .slots) where
-    handed : parseIn h m b ≡ record { answer = 0; slots = slotsOf s }
+  module _ (n : ℕ) (a : Arrays) (c : callIn h m b ≡ 0) (e : n ≡ end .answer) (z : n ≡ 0) (p : slotsOf (shopFrom a) ≡ end .slots) where
+    abbrev read : Shop
+    read = shopFrom a
+
+    handed : parseIn h m b ≡ record { answer = 0; slots = slotsOf read }
     handed = rw (by-call, c, ← e, z, p)
 
-    pub parse-read : length (s .slots) ≡ slotCount → GoodShop s → ParsedAs (parseIn h m b) (record { refusal = 0; shop = s })
+    read-as : GoodShop read → ParsedAs (parseIn h m b) (record { refusal = 0; shop = read })
     unfolding answerOf
-    parse-read l g = record {
-      is = ap (λ xs. record { refusal = 0; shop = record { slots = xs } }) (sym (ap (map slotAs) (with-all s l) ∙ shop-back s l g)) ∙ ap answerOf (sym handed);
+    read-as g = record {
+      is = ap (λ xs. record { refusal = 0; shop = record { slots = xs } }) (sym (ap (map slotAs) (with-all read (slots-long a)) ∙ shop-back read (slots-long a) g)) ∙ ap answerOf (sym handed);
       slots = λ o. sym (ap (λ (q : Parsed). q .slots) handed);
       good = g;
     }
+
+    pub parse-read : Full a → GoodShop read → ParsedInto (parseIn h m b) n a
+    parse-read f g = rw z (into (parseIn h m b) 0 a (read-as g) (slots-arrays h (scriptOf m .blocks) b a f (items-few h (call-passed h m b c .sheet)) p))
 
 -- ---- what the walk wants
 

@@ -1,17 +1,18 @@
 // The call parse: its checks in 01's order, then the walk from the setup block and the slots that it read.
 ghost use mathlib.Core.Path.{_≡_};
-ghost use Prim.Native.Nat.{_<_};
 ghost use Rattle.model.specs.Memory.{memoryIn};
 ghost use Rattle.model.specs.RecordCalls.{parseIn};
-ghost use Rattle.shop.specs.Shapes.{sheetOf, noShop};
-ghost use Rattle.parse.specs.Answer.{ParsedAs};
+ghost use Rattle.shop.specs.Shapes.{sheetOf};
+ghost use Rattle.shop_arrays.specs.Arrays.{arraysIn};
+ghost use Rattle.parse.specs.Answer.{ParsedAs, ParsedInto};
 use checks::check_call;
 use memory::Counts;
 use model::BlockNo;
 use shop::Sheet;
 use shop::Shop;
-use shop::empty_shop;
+use shop_arrays::clear_arrays;
 use shop_arrays::shop_from;
+use shop_arrays::sizes;
 use visit::Walk;
 use walk::walk;
 
@@ -21,17 +22,52 @@ pub struct ParsedShop {
     pub shop: Shop,
 }
 
-// A refused parse hands out nothing.
-fn refused_by(n: u8) -> ParsedShop
-    ensures { λ r. ⌜ r ≡ record { refusal = n; shop = noShop } ⌝ }
+// As ShopParser::parse, from the block with the number setup on, into the arrays; refused, they are those of the empty shop.
+pub fn parse_arrays(
+    attached: &[u8],
+    sheet: Sheet,
+    ws: &[u16; 98304],
+    val: &[i32; 32768],
+    cw: &[u16; 65536],
+    bw: &[u16; 20480],
+    counts: Counts,
+    setup: BlockNo,
+    items: &mut [i32; 20],
+    limits: &mut [i16; 20],
+    codes: &mut [u64; 640],
+    lens: &mut [u8; 20],
+) -> u8
+    ensures { λ r. ⌜ ParsedInto (parseIn (sheetOf (now (attached .entry)) sheet) (memoryIn (now (ws .entry)) (now (val .entry)) (now (cw .entry)) (now (bw .entry)) (counts .nodes) (counts .commands) (counts .blocks)) (setup .0)) r (arraysIn (now (items .exit)) (now (limits .exit)) (now (codes .exit)) (now (lens .exit))) ⌝ }
 {
-    ParsedShop {
-        refusal: n,
-        shop: empty_shop(),
+    clear_arrays(items, limits, codes, lens);
+    let refused = check_call(attached, sheet, ws, val, cw, bw, counts, setup);
+    if refused != 0 {
+        return refused;
     }
+    let known = attached.len() as u16;
+    let w = walk(
+        ws,
+        val,
+        cw,
+        bw,
+        items,
+        limits,
+        codes,
+        lens,
+        counts,
+        known,
+        sheet.atcs,
+        setup.0 as u16,
+    );
+    if w.answer != 0 {
+        clear_arrays(items, limits, codes, lens);
+        return w.answer;
+    }
+    sizes(items, limits, codes, lens);
+    w.answer
 }
 
-// As ShopParser::parse, from the block with the number setup on.
+// The same as a value.
 pub fn parse(
     attached: &[u8],
     sheet: Sheet,
@@ -44,32 +80,24 @@ pub fn parse(
 ) -> ParsedShop
     ensures { λ r. ⌜ ParsedAs (parseIn (sheetOf (now (attached .entry)) sheet) (memoryIn (now (ws .entry)) (now (val .entry)) (now (cw .entry)) (now (bw .entry)) (counts .nodes) (counts .commands) (counts .blocks)) (setup .0)) r ⌝ }
 {
-    let refused = check_call(attached, sheet, ws, val, cw, bw, counts, setup);
-    if refused != 0 {
-        return refused_by(refused);
-    }
-    let known = attached.len() as u16;
     let mut items = [-1; 20];
     let mut limits = [0; 20];
     let mut codes = [0; 640];
     let mut lens = [0; 20];
-    let w = walk(
+    let refusal = parse_arrays(
+        attached,
+        sheet,
         ws,
         val,
         cw,
         bw,
+        counts,
+        setup,
         &mut items,
         &mut limits,
         &mut codes,
         &mut lens,
-        counts,
-        known,
-        sheet.atcs,
-        setup.0 as u16,
     );
-    if w.answer != 0 {
-        return refused_by(w.answer);
-    }
     let shop = shop_from(&items, &limits, &codes, &lens);
-    ParsedShop { refusal: 0, shop }
+    ParsedShop { refusal, shop }
 }

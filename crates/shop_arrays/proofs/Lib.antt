@@ -1,5 +1,5 @@
 -- What the proofs of several functions use.
 mod Fill
 mod Items
-mod Rows
+mod Placed
 mod Puts

@@ -1,0 +1,88 @@
+-- `parse_arrays` meets its contract: where no check refuses, the walk's slots, and empty ones where it refuses. Assumes nothing.
+use mathlib.Core.Path.{_≡_, sym, ap, _∙_}
+use native.Mathlib.Omega.{arith}
+use borrow.Author.Needs.{needs}
+use Rattle.model.specs.Memory.{Memory, memoryIn}
+use Rattle.model.specs.Sheet as Model
+use Rattle.shop.specs.Shapes.{sheetOf}
+use Rattle.shop_arrays.specs.Arrays.{shopFrom}
+use Rattle.shop_arrays.specs.Slots.{shop-none}
+use Rattle.memory.specs.Transfer.{judged-kept}
+use Rattle.checks.specs.Calls.{callIn}
+use Rattle.checks.specs.Passed.{call-passed}
+use Rattle.parse.specs.Checked.{parse-refused, parse-stopped, parse-read, items-counted, atcs-counted, items-low}
+use Rattle.parse.proofs.parse_arrays.Statement.{statement}
+use Rattle.parse.proofs.parse_arrays.Tie as tie
+
+-- the record and the sheet of the call
+abbrev memory : tie.Start → Memory
+memory s = memoryIn (s .args .ws .now) (s .args .val .now) (s .args .cw .now) (s .args .bw .now) (s .args .counts .nodes) (s .args .counts .commands) (s .args .counts .blocks)
+
+abbrev sheet : tie.Start → Model.Sheet
+sheet s = sheetOf (s .args .attached .now) (s .args .sheet)
+
+-- no check refuses
+passes : (c : tie.Else1) → let s = c .before .before .before .before .before .before .before .before in callIn (sheet s) (memory s) (s .args .setup .0) ≡ 0
+passes c = sym (c .before .check-call .ensures) ∙ c .if1 .left
+
+clear-arrays-requires : tie.Need-clear-arrays-requires
+clear-arrays-requires c κs = search needs
+
+check-call-requires : tie.Need-check-call-requires
+check-call-requires c κs = search needs
+
+returns : tie.Need-returns
+returns c = let s = c .before .before .before .before .before .before .before .before in parse-refused (sheet s) (memory s) (s .args .setup .0) _ (c .before .check-call .ensures) (c .if1 .taken) _ (c .before .before .clear-arrays .ensures)
+
+cast-known : tie.Need-cast-known
+cast-known c = let s = c .before .before .before .before .before .before .before .before in record { fits = omega (arith, items-low (s .args .attached .now) (s .args .sheet) (memory s) (s .args .setup .0) (passes c)) }
+
+cast-walk : tie.Need-cast-walk
+cast-walk c =
+    let e = c .before .before .before .before .before in
+    let s = e .before .before .before .before .before .before .before .before in
+    let p = call-passed (sheet s) (memory s) (s .args .setup .0) (passes e) in
+    record { fits = omega (arith, p .inside, judged-kept (memory s) (p .blocks) (p .rest) (p .judged) .0) }
+
+walk-requires : tie.Need-walk-requires
+walk-requires c κs =
+    let e = c .before .before .before .before .before in
+    let s = e .before .before .before .before .before .before .before .before in
+    let p = call-passed (sheet s) (memory s) (s .args .setup .0) (passes e) in
+    (record { blocks = p .blocks; rest = p .rest; is = p .judged }, ap shopFrom (e .before .before .clear-arrays .ensures) ∙ shop-none)
+
+clear-arrays-requires-2 : tie.Need-clear-arrays-requires-2
+clear-arrays-requires-2 c κs = search needs
+
+returns-2 : tie.Need-returns-2
+returns-2 c =
+    let e = c .before .before .before .before .before .before .before .before .before .before .before .before .before in
+    let s = e .before .before .before .before .before .before .before .before in
+    let w = c .before .before .before .before .before .before .before .walk .ensures (sheet s) (items-counted (s .args .attached .now) (s .args .sheet)) (atcs-counted (s .args .attached .now) (s .args .sheet)) in
+    parse-stopped (sheet s) (memory s) (s .args .setup .0) _ (passes e) (w .answer) (c .before .before .before .before .before .if2 .taken) _ (c .clear-arrays2 .ensures)
+
+sizes-requires : tie.Need-sizes-requires
+sizes-requires c κs = search needs
+
+returns-3 : tie.Need-returns-3
+returns-3 c =
+    let e = c .before .before .before .before .before .before .before .before .before .before .before .before .before in
+    let s = e .before .before .before .before .before .before .before .before in
+    let o = c .before .before .before .before .before .if2 .left in
+    let w = c .before .before .before .before .before .before .before .walk .ensures (sheet s) (items-counted (s .args .attached .now) (s .args .sheet)) (atcs-counted (s .args .attached .now) (s .args .sheet)) in
+    parse-read (sheet s) (memory s) (s .args .setup .0) _ _ (passes e) (w .answer) o (w .slots o) (c .sizes .ensures) (w .good o)
+
+pub parse-arrays-spec : {M : Type 1} → statement M
+parse-arrays-spec =
+    tie.close
+    (tie.spec
+    clear-arrays-requires
+    check-call-requires
+    returns
+    cast-known
+    cast-walk
+    walk-requires
+    clear-arrays-requires-2
+    returns-2
+    sizes-requires
+    returns-3)
