@@ -16,8 +16,8 @@ use borrow.Author.Tests.{le-leb, lt-leb, leb-true, leb-false}
 use Rattle.model.specs.Limits.{wide, entryLimit}
 use Rattle.model.specs.Requirement.{Requirement, haveItem, missingItem, haveAtc, missingAtc, haveFlag, missingFlag, kind, number}
 use Rattle.shop.specs.Shapes.{shift, codeOf, requirementOf}
-use Rattle.shop.specs.Sets.{insertCode, held, added, reqsOf, noReqs}
-use Rattle.shop.specs.SetLaws.{insert-more, insert-set}
+use Rattle.shop.specs.Sets.{insertCode, held, Filled, Inserted, added, reqsOf, noReqs}
+use Rattle.shop.specs.SetLaws.{insert-more, insert-set, answer-in, answer-full}
 use Rattle.shop.specs.Codes.{Narrow, code-narrow}
 use Rattle.shop.specs.declared.Reqs.{Reqs}
 use Rattle.shop.specs.declared.Added.{Added}
@@ -163,6 +163,10 @@ module _ (ks : List ℕ) (s : List Bool) (m : ℕ) where
   unfolding sweepTo
   sweeping-start at e = record { low = omega arith; few = omega arith; is = e ∙ no-set }
 
+  pub sweeping-few : (at : Reqs) (j : ℕ) → Sweeping ks s m at j → at .len ≤ entryLimit
+  unfolding reqsOf
+  sweeping-few at j w = let e : at .len ≡ length (sweepTo ks s j []) = ap (λ (r : Reqs). r .len) (w .is) in omega (arith, w .few)
+
   pub sweeping-end : (at : Reqs) (j : ℕ) → Sweeping ks s m at j → 2 * m ≤ j → _≡_ {A = Added} (record { ok = true; reqs = at }) (asSet (sweepTo ks s (2 * m) []))
   sweeping-end at j w h = let e : 2 * m ≡ j = omega (arith, w .low) in rw e (set-few (sweepTo ks s j []) at (w .few) (w .is))
 
@@ -174,17 +178,28 @@ module _ (ks : List ℕ) (s : List Bool) (m : ℕ) where
       into : sweepTo ks s (j + 1) [] ≡ insertCode x (sweepTo ks s j [])
       into = sweep-yes ks s j [] (sym e ∙ f) ∙ rw (u, g)
 
-      pub sweeping-on : a .ok ≡ true → Sweeping ks s m (a .reqs) (j + 1)
+      sweeping-on : a .ok ≡ true → Sweeping ks s m (a .reqs) (j + 1)
       sweeping-on o = record {
         low = omega arith;
         few = rw into (put-few x (sweepTo ks s j []) at a (w .is) v o);
         is = rw into (put-is x (sweepTo ks s j []) at a (w .is) v o);
       }
 
-      pub sweeping-many : (r : Added) → a .ok ≡ false → r ≡ record { ok = false; reqs = reqsOf [] } → r ≡ asSet (sweepTo ks s (2 * m) [])
+      sweeping-many : (r : Added) → a .ok ≡ false → r ≡ record { ok = false; reqs = reqsOf [] } → r ≡ asSet (sweepTo ks s (2 * m) [])
       sweeping-many r o z =
           set-many (sweepTo ks s (2 * m) []) r
           (omega (arith, put-many x (sweepTo ks s j []) at a (w .is) v o, ap length into, sweep-grows ks s (j + 1) (2 * m) [] (omega arith))) z
+
+    -- the code went in in place
+    module _ (b : Bool) (k x : ℕ) (out : List ℕ) (n : ℕ) (e : b ≡ survives s (j + 2)) (f : b ≡ true) (g : k ≡ turned true (j + 2)) (u : x ≡ entryCode ks k) (i : Inserted (at .codes) (at .len) x out n) where
+      filled : Filled at (at .len)
+      filled = record { most = sweeping-few at j w; is = refl }
+
+      pub sweeping-in : n ≤ entryLimit → Sweeping ks s m (record { codes = out; len = n }) (j + 1)
+      sweeping-in h = sweeping-on b k x (record { ok = true; reqs = record { codes = out; len = n } }) e f g u (answer-in at x (at .len) filled out n i h) refl
+
+      pub sweeping-full : entryLimit < n → (r : Added) → r ≡ record { ok = false; reqs = reqsOf [] } → r ≡ asSet (sweepTo ks s (2 * m) [])
+      sweeping-full h r z = sweeping-many b k x (record { ok = false; reqs = at }) e f g u (answer-full at x (at .len) filled out n i h) r refl z
 
     pub entry-at : (k : ℕ) → k ≡ turned true (j + 2) → Valid m k
     entry-at k e = rw e (turn-valid m (j + 2) true (record { low = omega arith; high = omega arith }))

@@ -21,7 +21,8 @@ use memory::kind_of;
 use model::Kind;
 use model::Op1;
 use shop::Added;
-use shop::insert;
+use shop::Reqs;
+use shop::insert_in;
 use shop::no_reqs;
 
 // ---- marks
@@ -361,19 +362,25 @@ fn survivors(keys: &[u64], m: u16, seen: &[bool]) -> Added
     requires { ⌜ ((m < 32768) × (2 * m + 2 ≤ length (now seen))) × Keys (now keys) m ⌝ }
     ensures { λ r. ⌜ r ≡ asSet (sweepTo (now (keys .entry)) (now (seen .entry)) (2 * m) []) ⌝ }
 {
-    let mut at = no_reqs();
+    let mut codes = [0; 32];
+    let mut n = 0;
     let mut j: u16 = 0;
     while j < 2 * m {
         if survives(seen, j + 2) {
-            let a = insert(at, entry_code(keys, m, turn(j + 2, true)));
-            if !a.ok {
+            n = insert_in(&mut codes, n, entry_code(keys, m, turn(j + 2, true)));
+            if 32 < n {
                 return refused();
             }
-            at = a.reqs;
         }
         j += 1;
     }
-    Added { ok: true, reqs: at }
+    Added {
+        ok: true,
+        reqs: Reqs {
+            codes: codes,
+            len: n as u8,
+        },
+    }
 }
 
 // No mark on the entries of m keys; marks past them count nowhere.

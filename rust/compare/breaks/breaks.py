@@ -65,19 +65,23 @@ def reached(name):
 
 
 def apply(edit, crates):
-    """Makes the replacements of a must-fail edit in the copies of the crates."""
+    """Makes the replacements of a must-fail edit in the copies of the crates: lines of `old:`, then lines of `new:`."""
     crate, label = edit.split("/")
     file = None
-    old = None
+    pairs = []
     for line in (TOP / "crates" / crate / "must-fail" / f"{label}.edit").read_text().splitlines():
         if line.startswith("file: "):
             file = crates / crate / line[6:]
-        elif line.startswith("old: "):
-            old = line[5:]
+        elif line.startswith("old:"):
+            if not pairs or pairs[-1][2]:
+                pairs.append((file, [], []))
+            pairs[-1][1].append(line[5:])
         elif line.startswith("new:"):
-            text = file.read_text()
-            assert text.count(old) == 1, (edit, old)
-            file.write_text(text.replace(old, line[5:]))
+            pairs[-1][2].append(line[5:])
+    for file, old, new in pairs:
+        text = file.read_text()
+        assert text.count("\n".join(old)) == 1, (edit, old)
+        file.write_text(text.replace("\n".join(old), "\n".join(new)))
 
 
 def module(crates, work):
