@@ -105,7 +105,7 @@ fn mark(ws: &[u16; 98304], lf: &[u16], seen: &mut [bool], b: usize, i: usize, ne
 }
 
 // ---- lists: word 32768 + i of lf is 0 or the start s of root i's list; at 65536 + s stands its end, and between the two its entries.
-// A lf of fewer than 98304 words has no lists.
+// With fewer than 98304 words lf has no lists.
 
 // The word x of a leaf, with its sign, at place at: the place after it; 32769 where there is no room.
 fn append_leaf(lf: &mut [u16], x: u16, neg: bool, at: usize) -> usize
