@@ -37,6 +37,7 @@ use shop::Added;
 use shop::Reqs;
 use shop::Slot;
 use shop::SlotItem;
+use shop::insert_in;
 use shop_arrays::put_slot;
 use shop_arrays::slot_at;
 
@@ -378,30 +379,24 @@ fn hide(slot: Slot, more: Reqs) -> Changed
     requires { ⌜ (more .len ≤ entryLimit) × GoodSlot slot ⌝ }
     ensures { λ r. ⌜ Hid slot more r ⌝ }
 {
-    let n = more.len;
-    let own = slot.requirements;
-    let mut out = Reqs {
-        codes: own,
-        len: slot.len,
-    };
+    let mut codes = slot.requirements;
+    let mut n = slot.len as usize;
     let mut i = 0;
-    while i < n as usize {
-        let a = shop::insert(out, more.codes[i]);
-        if !a.ok {
+    while i < more.len as usize {
+        n = insert_in(&mut codes, n, more.codes[i]);
+        if 32 < n {
             return Changed { ok: false, slot };
         }
-        out = a.reqs;
         i += 1;
     }
     let item = slot.item;
-    let codes = out.codes;
     Changed {
         ok: true,
         slot: Slot {
             item,
             limit: slot.limit,
             requirements: codes,
-            len: out.len,
+            len: n as u8,
         },
     }
 }
