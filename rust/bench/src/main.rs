@@ -1,5 +1,5 @@
 //! Times the proved library beside the Rust sides, on the same inputs: microseconds a call, the
-//! best and the median of 15 rounds.
+//! best and the median of 31 rounds.
 
 mod cases;
 mod clock;
@@ -8,11 +8,14 @@ mod shops;
 mod worst;
 
 use cases::Case;
-use clock::{row, time};
+use clock::{Times, by_turns, row, time};
 use compare::{convert, interpret};
 use locustkeno::Script;
 use oracle::image;
 use std::hint::black_box;
+
+/// How many places a long run's arrays are tried in.
+const PLACES: usize = 24;
 
 fn main() {
     println!(
@@ -92,38 +95,57 @@ fn write(case: &Case) {
     );
 }
 
-/// A run that only its budget ends, so that its checks take no part.
+/// A run that only its budget ends, so that its checks take no part. How fast it is depends on where its arrays lie: both
+/// sides write to the stack between reads, and addresses that differ by a multiple of 4,096 wait for each other.
 fn long_run() {
+    let mut placed: Vec<[Times; 2]> = (0..PLACES).map(placed_run).collect();
+    placed.sort_by(|a, b| ratio(a).total_cmp(&ratio(b)));
+    let [ours, theirs] = placed[PLACES / 2];
+    row("run", "loop", &[("library", ours), ("Rust", theirs)]);
+    let ratios: Vec<String> = placed.iter().map(|p| format!("{:.2}", ratio(p))).collect();
+    println!("ratios by place: {}", ratios.join(" "));
+}
+
+fn ratio([ours, theirs]: &[Times; 2]) -> f64 {
+    ours.best / theirs.best
+}
+
+/// The same run with its arrays in another place.
+fn placed_run(place: usize) -> [Times; 2] {
+    std::mem::forget(vec![1u8; 700 * place + 16]);
     let (plain_sheet, plain) = cases::endless();
     let sheet = convert::sheet(&plain_sheet);
     let script = Script::read(&image::write(&plain)).expect("it is a script");
     let save = || cases::save(&plain_sheet);
-    let ours = time(1, save, |save| {
-        black_box(script.run(&sheet, 0, save, black_box(100_000)));
-    });
-    let theirs = time(1, save, |save| {
-        black_box(interpret::run(
-            &plain_sheet,
-            script.arrays(),
-            0,
-            save,
-            black_box(100_000),
-        ));
-    });
-    let sides = [("library", ours), ("Rust", theirs)];
-    row("run", "loop", &sides);
+    by_turns(
+        1,
+        save,
+        |save| {
+            black_box(script.run(&sheet, 0, save, black_box(100_000)));
+        },
+        save,
+        |save| {
+            let a = script.arrays();
+            black_box(interpret::run(&plain_sheet, a, 0, save, black_box(100_000)));
+        },
+    )
 }
 
 fn run(case: &Case) {
     let sheet = convert::sheet(&case.sheet);
     let save = || cases::save(&case.sheet);
     let a = case.script.arrays();
-    let ours = time(200, save, |save| {
-        black_box(case.script.run(&sheet, 0, save, black_box(82)));
-    });
-    let theirs = time(200, save, |save| {
-        black_box(interpret::run(&case.sheet, a, 0, save, black_box(82)));
-    });
+    let [ours, theirs] = by_turns(
+        200,
+        save,
+        |save| {
+            black_box(case.script.run(&sheet, 0, save, black_box(82)));
+        },
+        save,
+        |save| {
+            black_box(interpret::run(&case.sheet, a, 0, save, black_box(82)));
+        },
+    );
     let alone = time(200, save, |save| {
         black_box(interpret::run_blocks(a, 0, save, black_box(82)));
     });

@@ -1,7 +1,7 @@
 //! Times of parse, compile and preview beside the original's parse and compile.
 
 use crate::cases::{self, Case};
-use crate::clock::{row, time};
+use crate::clock::{by_turns, row, time};
 use compare::{convert, meaning};
 use locustkeno::Shop;
 use oracle::calls::{self, Original};
@@ -17,13 +17,14 @@ pub fn all(case: &Case) {
 
 fn parse(case: &Case) {
     let sheet = convert::sheet(&case.sheet);
-    let ours = time(
+    let original = Original::new(&case.plain);
+    let [ours, theirs] = by_turns(
         20,
         || (),
         |()| drop(black_box(case.script.parse(&sheet, 0))),
+        || (),
+        |()| drop(black_box(original.parse(0))),
     );
-    let original = Original::new(&case.plain);
-    let theirs = time(20, || (), |()| drop(black_box(original.parse(0))));
     row(
         "parse",
         case.name,
@@ -35,14 +36,11 @@ fn parse(case: &Case) {
 fn compile(case: &Case) {
     let sheet = convert::sheet(&case.sheet);
     let shop = Shop::with_slots(case.slots.iter().map(convert::slot));
-    let ours = time(
+    let slots = calls::original_slots(&case.slots);
+    let [ours, theirs] = by_turns(
         20,
         || case.script.clone(),
         |script| script.compile(&sheet, 0, &shop).expect("it has room"),
-    );
-    let slots = calls::original_slots(&case.slots);
-    let theirs = time(
-        20,
         || Original::new(&case.plain),
         |script| script.compile(0, &slots),
     );
