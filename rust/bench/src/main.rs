@@ -95,8 +95,8 @@ fn write(case: &Case) {
     );
 }
 
-/// A run that only its budget ends, so that its checks take no part. How fast it is depends on where its arrays lie: both
-/// sides write to the stack between reads, and addresses that differ by a multiple of 4,096 wait for each other.
+/// A run that only its budget ends, so that its checks take no part. How fast it is depends on where its arrays lie, on both
+/// sides: it is timed in several places, of which the one with the median ratio is kept.
 fn long_run() {
     let mut placed: Vec<[Times; 2]> = (0..PLACES).map(placed_run).collect();
     placed.sort_by(|a, b| ratio(a).total_cmp(&ratio(b)));
