@@ -35,6 +35,7 @@ pub fn all(seed: u64, count: usize, longest: usize, small: bool) -> Tally {
         runs::small(&mut tally, &mut random);
         shops::small(&mut tally);
     }
+    runs::operators(&mut tally, &mut random);
     tally
 }
 

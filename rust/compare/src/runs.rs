@@ -4,12 +4,25 @@ use crate::meaning::meaning;
 use crate::tally::Tally;
 use crate::{convert, interpret, saves, small};
 use locustkeno::{Arrays, NUM_SLOTS, Save, Script};
-use oracle::plain::{Sheet, Slot};
+use oracle::plain::{Binary, Command, Expr, Sheet, Slot, Target};
 use oracle::rules::InUse;
 use oracle::{image, plain};
 use record::make::{self, Maker};
 use record::parse_cases;
 use record::random::Random;
+
+const OPERATORS: [Binary; 10] = [
+    Binary::Equal,
+    Binary::NotEqual,
+    Binary::Less,
+    Binary::LessEqual,
+    Binary::Greater,
+    Binary::GreaterEqual,
+    Binary::Add,
+    Binary::Subtract,
+    Binary::BitAnd,
+    Binary::BitOr,
+];
 
 /// The most blocks that the run of a compiled shop enters.
 const MOST: u32 = 82;
@@ -188,6 +201,29 @@ pub fn compiled(tally: &mut Tally, random: &mut Random, count: usize) {
         for _ in 0..4 {
             let save = saves::save(random, &sheet);
             check_meaning(tally, &sheet, &shop, &script, 0, &save);
+        }
+    }
+}
+
+/// Every operator of two operands on every pair of numbers at a boundary: where sums leave 32 bits too.
+pub fn operators(tally: &mut Tally, random: &mut Random) {
+    let sheet = small::sheet();
+    let save = saves::save(random, &sheet);
+    for kind in OPERATORS {
+        for left in saves::NUMBERS {
+            for right in saves::NUMBERS {
+                let value = Expr::binary(kind, Expr::Imm32(left), Expr::Imm32(right));
+                let target = Target::Variable(Expr::Imm16(5));
+                let block = plain::Block::Code(plain::Code {
+                    commands: vec![Command::Set(target, value), Command::Return],
+                    ..plain::Code::default()
+                });
+                let plain = plain::Script {
+                    blocks: vec![block],
+                };
+                let script = Script::read(&image::write(&plain)).expect("it is a script");
+                check(tally, &sheet, &script, 0, &save, 1);
+            }
         }
     }
 }

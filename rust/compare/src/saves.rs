@@ -6,7 +6,8 @@ use record::random::Random;
 
 const COUNTS: [i16; 10] = [0, 0, 0, 1, 1, 2, 5, 10, 11, 32_767];
 const TIME: [i16; 10] = [0, 66, 67, 68, 100, 200, 201, -1, 32_767, -32_768];
-const NUMBERS: [i32; 9] = [0, 1, -1, 600, 639, 640, 65_536, i32::MIN, i32::MAX];
+/// Numbers at and beside the boundaries of variables.
+pub const NUMBERS: [i32; 9] = [0, 1, -1, 600, 639, 640, 65_536, i32::MIN, i32::MAX];
 
 /// A save that fits the sheet. The flags and variables that scripts name most are drawn anew.
 pub fn save(random: &mut Random, sheet: &Sheet) -> Save {
