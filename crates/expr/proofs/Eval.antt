@@ -33,6 +33,10 @@ value-eval : (s : Save) (v : List ℤ) (e : Expr) (z : ℤ) → value e ≡ some
 unfolding Worth
 value-eval s v e z p = subst (Worth (eval s v e)) p (imm-worth s v e)
 
+-- an Imm is read on the spot
+pub number-worth : (s : Save) (v : List ℤ) (e : Expr) {x : Value} {y z : ℤ} → x ≡ ok y → y ≡ z → some z ≡ value e → x ≡ eval s v e
+number-worth s v e {z = z} p q h = p ∙ ap ok q ∙ sym (value-eval s v e z (sym h))
+
 pub out-done : (s : Save) (v : List ℤ) (ns : Nodes) (b i : ℕ) → b ≤ i → stop 13 ≡ eval s v (treeBelow ns b i)
 out-done s v ns b i h = sym (ap (eval s v) (below-out ns b i h))
 

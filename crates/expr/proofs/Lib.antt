@@ -2,3 +2,4 @@ mod Signed
 mod Eval
 mod Put
 mod Parse
+mod Packing

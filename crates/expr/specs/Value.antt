@@ -1,7 +1,11 @@
 -- What an evaluation answers, in the terms of the definitions, and the save that it reads. Assumes nothing.
 use mathlib.Core.Path.{_≡_, refl, ap}
 use mathlib.Core.List.{List, []}
-use Prim.Native.Nat.{ℕ}
+use mathlib.Core.Bool.{cond}
+use Prim.Native.Nat.{ℕ, _-_, _<_}
+use lib.Dec.{ltb}
+use mir.Syntax.{w32}
+use mir.Val.{toZ}
 use lib.IntN.{ℤ, pos, negsuc}
 use Rattle.model.specs.Save.{Save}
 use Rattle.model.specs.Expr.{Expr, two, one, imm16, imm32, other, ok, stop, andThen, apply2, apply1, eval}
@@ -16,6 +20,15 @@ use Rattle.expr.specs.declared.Value.the-variants.{Is, Refused}
 abbrev pub valueOf : Value → model.Value
 valueOf (Is z) = ok z
 valueOf (Refused n) = stop n
+
+-- ---- a value as one number: below 2 ^ 32 the bits of a value, from there on the number of a refusal
+
+abbrev pub unpackedOf : ℕ → Value
+unpackedOf x = cond (ltb x 4294967296) (Is (toZ w32 x)) (Refused (x - 4294967296))
+
+pub record Packed (v : Value) (x : ℕ) : Type 0 where
+  pub is : unpackedOf x ≡ v
+  pub low : x < 4294967552
 
 -- a save of these parts; its variables are those of the moment, handed in apart
 abbrev pub reads : List ℤ → List ℕ → List ℕ → List ℤ → Save

@@ -11,7 +11,7 @@ ghost use Rattle.memory.specs.Pushed.{PutExpr};
 ghost use Rattle.expr.specs.Tree.{treeBelow};
 ghost use Rattle.expr.specs.Negate.{turned, flip, isSum, planOf, drops, wrapSize, Grown, Room};
 ghost use Rattle.expr.specs.Requirement.{Has, coded, numberOf, idOf, tagged, testOf, otherKind, otherOf, keptIf, compared};
-ghost use Rattle.expr.specs.Value.{valueOf, reads, placeOf, join2, join1};
+ghost use Rattle.expr.specs.Value.{valueOf, reads, placeOf, join2, join1, unpackedOf, Packed};
 use memory::code_one;
 use memory::code_two;
 use memory::kind_of;
@@ -19,6 +19,9 @@ use memory::push_node;
 use model::Kind;
 use model::Op1;
 use model::Op2;
+
+// Refusals as numbers stand above the bits of every value.
+const REFUSED: u64 = 4294967296;
 
 // A value, or the number of the refusal.
 pub enum Value {
@@ -147,8 +150,117 @@ fn join_one(
     }
 }
 
-// What node i is worth as an operand of node b, by a save of these parts and the variables of the moment. A root is taken
-// as an operand of node i + 1. Both operands are evaluated, left first; an Imm under one operator is read on the spot.
+// A value as one number, which a call returns in a register where it would write an enum to memory: below 2^32 the bits of a
+// value, from there on the number of a refusal.
+fn packed(v: Value) -> u64
+    ensures { λ r. ⌜ Packed v r ⌝ }
+{
+    match v {
+        Value::Is(z) => ints::to_bits(z) as u64,
+        Value::Refused(n) => REFUSED + (n as u64),
+    }
+}
+
+fn unpacked(x: u64) -> Value
+    requires { ⌜ x < 4294967552 ⌝ }
+    ensures { λ r. ⌜ r ≡ unpackedOf x ⌝ }
+{
+    if x < REFUSED {
+        return Value::Is(ints::from_bits(x as u32));
+    }
+    Value::Refused((x - REFUSED) as u8)
+}
+
+// What node i is worth as an operand of node b, by a save of these parts and the variables of the moment. Both operands are
+// evaluated, left first; an Imm is read on the spot.
+fn evaluate_below(
+    ws: &[u16; 98304],
+    val: &[i32; 32768],
+    b: u16,
+    i: u16,
+    items: &[i16],
+    atcs: &[u8],
+    flags: &[u8],
+    times: &[i16],
+    vars: &[i32; 1024],
+) -> u64
+    requires { ⌜ b ≤ 32768 ⌝ }
+    ensures { λ r. ⌜ ((n : ℕ) → valueOf (unpackedOf r) ≡ eval (reads (now (items .entry)) (now (atcs .entry)) (now (flags .entry)) (now (times .entry))) (now (vars .entry)) (treeBelow (nodesIn (now (ws .entry)) (now (val .entry)) n) b i)) × (r < 4294967552) ⌝ }
+{
+    if i >= b {
+        return packed(Value::Refused(13));
+    }
+    let at = i as usize;
+    let k = kind_of(ws[3 * at]);
+    match k {
+        Kind::Two(o) => {
+            let p = number_below(ws, val, i, ws[3 * at + 1]);
+            let x = match p {
+                MaybeNumber::Is(z) => Value::Is(z),
+                MaybeNumber::Nothing => unpacked(evaluate_below(
+                    ws,
+                    val,
+                    i,
+                    ws[3 * at + 1],
+                    items,
+                    atcs,
+                    flags,
+                    times,
+                    vars,
+                )),
+            };
+            let q = number_below(ws, val, i, ws[3 * at + 2]);
+            let y = match q {
+                MaybeNumber::Is(z) => Value::Is(z),
+                MaybeNumber::Nothing => unpacked(evaluate_below(
+                    ws,
+                    val,
+                    i,
+                    ws[3 * at + 2],
+                    items,
+                    atcs,
+                    flags,
+                    times,
+                    vars,
+                )),
+            };
+            packed(join_two(o, x, y))
+        }
+        Kind::One(o) => {
+            let v = number_below(ws, val, i, ws[3 * at + 1]);
+            match v {
+                MaybeNumber::Is(z) => packed(Value::Is(apply_one(
+                    items,
+                    atcs,
+                    flags,
+                    times,
+                    vars,
+                    o,
+                    z,
+                ))),
+                MaybeNumber::Nothing => {
+                    let x = unpacked(evaluate_below(
+                        ws,
+                        val,
+                        i,
+                        ws[3 * at + 1],
+                        items,
+                        atcs,
+                        flags,
+                        times,
+                        vars,
+                    ));
+                    packed(join_one(items, atcs, flags, times, vars, o, x))
+                }
+            }
+        }
+        Kind::Imm16 => packed(Value::Is(val[at])),
+        Kind::Imm32 => packed(Value::Is(val[at])),
+        Kind::Other => packed(Value::Refused(13)),
+    }
+}
+
+// What node i is worth as an operand of node b; a root is taken as an operand of node i + 1. An Imm takes no call.
 pub fn evaluate(
     ws: &[u16; 98304],
     val: &[i32; 32768],
@@ -163,30 +275,20 @@ pub fn evaluate(
     requires { ⌜ b ≤ 32768 ⌝ }
     ensures { λ r. ⌜ ((n : ℕ) → valueOf r ≡ eval (reads (now (items .entry)) (now (atcs .entry)) (now (flags .entry)) (now (times .entry))) (now (vars .entry)) (treeBelow (nodesIn (now (ws .entry)) (now (val .entry)) n) b i)) ⌝ }
 {
-    if i >= b {
-        return Value::Refused(13);
-    }
-    let at = i as usize;
-    let k = kind_of(ws[3 * at]);
-    match k {
-        Kind::Two(o) => {
-            let x = evaluate(ws, val, i, ws[3 * at + 1], items, atcs, flags, times, vars);
-            let y = evaluate(ws, val, i, ws[3 * at + 2], items, atcs, flags, times, vars);
-            join_two(o, x, y)
-        }
-        Kind::One(o) => {
-            let v = number_below(ws, val, i, ws[3 * at + 1]);
-            match v {
-                MaybeNumber::Is(z) => Value::Is(apply_one(items, atcs, flags, times, vars, o, z)),
-                MaybeNumber::Nothing => {
-                    let x = evaluate(ws, val, i, ws[3 * at + 1], items, atcs, flags, times, vars);
-                    join_one(items, atcs, flags, times, vars, o, x)
-                }
-            }
-        }
-        Kind::Imm16 => Value::Is(val[at]),
-        Kind::Imm32 => Value::Is(val[at]),
-        Kind::Other => Value::Refused(13),
+    let v = number_below(ws, val, b, i);
+    match v {
+        MaybeNumber::Is(z) => Value::Is(z),
+        MaybeNumber::Nothing => unpacked(evaluate_below(
+            ws,
+            val,
+            b,
+            i,
+            items,
+            atcs,
+            flags,
+            times,
+            vars,
+        )),
     }
 }
 

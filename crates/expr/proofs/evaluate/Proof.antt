@@ -1,0 +1,47 @@
+use mathlib.Core.Path.{ap, refl}
+-- `evaluate` meets its contract: an Imm is worth its number, all else what `evaluate_below` packs. Assumes nothing.
+use mathlib.Core.Path.{refl, ap, sym, _∙_}
+use mir.Syntax.{w32}
+use mir.Val.{SFits}
+use mir.Facts.{toZ-ofZ}
+use Rattle.model.specs.Memory.{nodesIn}
+use Rattle.expr.specs.Tree.{treeBelow}
+use Rattle.expr.specs.Value.{valueOf, reads}
+use Rattle.expr.specs.Requirement.{numberOf}
+use Rattle.expr.proofs.Eval.{number-worth}
+use borrow.Author.Needs.{needs}
+use Rattle.expr.proofs.evaluate.Statement.{statement}
+use Rattle.expr.proofs.evaluate.Tie as tie
+
+number-below-requires : tie.Need-number-below-requires
+number-below-requires c κs = search needs
+
+enum-known-v : tie.Need-enum-known-v
+enum-known-v c = search needs
+
+enum-told : tie.Need-enum-told
+enum-told c = search needs
+
+evaluate-below-requires : tie.Need-evaluate-below-requires
+evaluate-below-requires c κs = search needs
+
+unpacked-requires : tie.Need-unpacked-requires
+unpacked-requires c κs = search needs
+
+returns : tie.Need-returns
+returns c = let f : SFits w32 (c .before .v .given .0 .0) = record { sfits = c .known-told .given .0 .1 } in λ n. number-worth (reads (c .before .before .before .before .before .before .args .items .now) (c .before .before .before .before .before .before .args .atcs .now) (c .before .before .before .before .before .before .args .flags .now) (c .before .before .before .before .before .before .args .times .now)) (c .before .before .before .before .before .before .args .vars .now) (treeBelow (nodesIn (c .before .before .before .before .before .before .args .ws .now) (c .before .before .before .before .before .before .args .val .now) n) (c .before .before .before .before .before .before .args .b) (c .before .before .before .before .before .before .args .i)) refl (toZ-ofZ f) (ap numberOf (sym (c .before .v .given .1)) ∙ c .before .before .before .number-below .ensures n)
+
+returns-2 : tie.Need-returns-2
+returns-2 c = λ n. ap valueOf (c .unpacked .ensures) ∙ c .before .evaluate-below .ensures .0 n
+
+pub evaluate-spec : {M : Type 1} → statement M
+evaluate-spec =
+    tie.close
+    (tie.spec
+    number-below-requires
+    enum-known-v
+    enum-told
+    evaluate-below-requires
+    unpacked-requires
+    returns
+    returns-2)
