@@ -192,65 +192,38 @@ fn evaluate_below(
     }
     let at = i as usize;
     let k = kind_of(ws[3 * at]);
+    let left = ws[3 * at + 1];
+    let right = ws[3 * at + 2];
     match k {
         Kind::Two(o) => {
-            let p = number_below(ws, val, i, ws[3 * at + 1]);
+            let p = number_below(ws, val, i, left);
             let x = match p {
                 MaybeNumber::Is(z) => Value::Is(z),
-                MaybeNumber::Nothing => unpacked(evaluate_below(
-                    ws,
-                    val,
-                    i,
-                    ws[3 * at + 1],
-                    items,
-                    atcs,
-                    flags,
-                    times,
-                    vars,
-                )),
+                MaybeNumber::Nothing => {
+                    let w = evaluate_below(ws, val, i, left, items, atcs, flags, times, vars);
+                    unpacked(w)
+                }
             };
-            let q = number_below(ws, val, i, ws[3 * at + 2]);
+            let q = number_below(ws, val, i, right);
             let y = match q {
                 MaybeNumber::Is(z) => Value::Is(z),
-                MaybeNumber::Nothing => unpacked(evaluate_below(
-                    ws,
-                    val,
-                    i,
-                    ws[3 * at + 2],
-                    items,
-                    atcs,
-                    flags,
-                    times,
-                    vars,
-                )),
+                MaybeNumber::Nothing => {
+                    let w = evaluate_below(ws, val, i, right, items, atcs, flags, times, vars);
+                    unpacked(w)
+                }
             };
             packed(join_two(o, x, y))
         }
         Kind::One(o) => {
-            let v = number_below(ws, val, i, ws[3 * at + 1]);
+            let v = number_below(ws, val, i, left);
             match v {
-                MaybeNumber::Is(z) => packed(Value::Is(apply_one(
-                    items,
-                    atcs,
-                    flags,
-                    times,
-                    vars,
-                    o,
-                    z,
-                ))),
+                MaybeNumber::Is(z) => {
+                    let y = apply_one(items, atcs, flags, times, vars, o, z);
+                    packed(Value::Is(y))
+                }
                 MaybeNumber::Nothing => {
-                    let x = unpacked(evaluate_below(
-                        ws,
-                        val,
-                        i,
-                        ws[3 * at + 1],
-                        items,
-                        atcs,
-                        flags,
-                        times,
-                        vars,
-                    ));
-                    packed(join_one(items, atcs, flags, times, vars, o, x))
+                    let w = evaluate_below(ws, val, i, left, items, atcs, flags, times, vars);
+                    packed(join_one(items, atcs, flags, times, vars, o, unpacked(w)))
                 }
             }
         }

@@ -50,6 +50,10 @@ evaluate-below-below t =
 abbrev evaluate-below-claims : ℕ → evaluate-below-lts.Claims
 evaluate-below-claims t = (packed-reads.Asked, packed-reads.Learnt, kind-of-reads.Asked, kind-of-reads.Learnt, number-below-reads.Asked, number-below-reads.Learnt, evaluate-below-below t, evaluate-below.Post, unpacked-reads.Asked, unpacked-reads.Learnt, join-two-reads.Asked, join-two-reads.Learnt, apply-one-reads.Asked, apply-one-reads.Learnt, join-one-reads.Asked, join-one-reads.Learnt)
 
+-- what the calls ask and give, at the measure t
+abbrev evaluate-below-claims : ℕ → evaluate-below-lts.Claims
+evaluate-below-claims t = (packed-reads.Asked, packed-reads.Learnt, kind-of-reads.Asked, kind-of-reads.Learnt, number-below-reads.Asked, number-below-reads.Learnt, evaluate-below-below t, evaluate-below.Post, unpacked-reads.Asked, unpacked-reads.Learnt, join-two-reads.Asked, join-two-reads.Learnt, apply-one-reads.Asked, apply-one-reads.Learnt, join-one-reads.Asked, join-one-reads.Learnt)
+
 evaluate-below-packed-requires : (t : ℕ) → evaluate-below-lts.Need-packed-requires (evaluate-below-claims t) (evaluate-below-at t) evaluate-below.Post
 evaluate-below-packed-requires t c κs = search needs
 
@@ -71,21 +75,32 @@ evaluate-below-element-copy-out-kind-of t c = search needs
 evaluate-below-kind-of-requires : (t : ℕ) → evaluate-below-lts.Need-kind-of-requires (evaluate-below-claims t) (evaluate-below-at t) evaluate-below.Post
 evaluate-below-kind-of-requires t c κs = search needs
 
+evaluate-below-mul-left : (t : ℕ) → evaluate-below-lts.Need-mul-left (evaluate-below-claims t) (evaluate-below-at t) evaluate-below.Post
+evaluate-below-mul-left t c = search needs
+
+evaluate-below-add-left : (t : ℕ) → evaluate-below-lts.Need-add-left (evaluate-below-claims t) (evaluate-below-at t) evaluate-below.Post
+evaluate-below-add-left t c = search needs
+
+evaluate-below-mul-left-2 : (t : ℕ) → evaluate-below-lts.Need-mul-left-2 (evaluate-below-claims t) (evaluate-below-at t) evaluate-below.Post
+evaluate-below-mul-left-2 t c = search needs
+
+evaluate-below-element-copy-out-left : (t : ℕ) → evaluate-below-lts.Need-element-copy-out-left (evaluate-below-claims t) (evaluate-below-at t) evaluate-below.Post
+evaluate-below-element-copy-out-left t c = search needs
+
+evaluate-below-mul-right : (t : ℕ) → evaluate-below-lts.Need-mul-right (evaluate-below-claims t) (evaluate-below-at t) evaluate-below.Post
+evaluate-below-mul-right t c = search needs
+
+evaluate-below-add-right : (t : ℕ) → evaluate-below-lts.Need-add-right (evaluate-below-claims t) (evaluate-below-at t) evaluate-below.Post
+evaluate-below-add-right t c = search needs
+
+evaluate-below-mul-right-2 : (t : ℕ) → evaluate-below-lts.Need-mul-right-2 (evaluate-below-claims t) (evaluate-below-at t) evaluate-below.Post
+evaluate-below-mul-right-2 t c = search needs
+
+evaluate-below-element-copy-out-right : (t : ℕ) → evaluate-below-lts.Need-element-copy-out-right (evaluate-below-claims t) (evaluate-below-at t) evaluate-below.Post
+evaluate-below-element-copy-out-right t c = search needs
+
 evaluate-below-enum-known-k : (t : ℕ) → evaluate-below-lts.Need-enum-known-k (evaluate-below-claims t) (evaluate-below-at t) evaluate-below.Post
 evaluate-below-enum-known-k t c = search needs
-
-evaluate-below-mul-number-below : (t : ℕ) → evaluate-below-lts.Need-mul-number-below (evaluate-below-claims t) (evaluate-below-at t) evaluate-below.Post
-evaluate-below-mul-number-below t c = search needs
-
-evaluate-below-add-number-below : (t : ℕ) → evaluate-below-lts.Need-add-number-below (evaluate-below-claims t) (evaluate-below-at t) evaluate-below.Post
-evaluate-below-add-number-below t c = search needs
-
-evaluate-below-mul-number-below-2 : (t : ℕ) → evaluate-below-lts.Need-mul-number-below-2 (evaluate-below-claims t) (evaluate-below-at t) evaluate-below.Post
-evaluate-below-mul-number-below-2 t c = search needs
-
-evaluate-below-element-copy-out-number-below :
-    (t : ℕ) → evaluate-below-lts.Need-element-copy-out-number-below (evaluate-below-claims t) (evaluate-below-at t) evaluate-below.Post
-evaluate-below-element-copy-out-number-below t c = search needs
 
 evaluate-below-number-below-requires : (t : ℕ) → evaluate-below-lts.Need-number-below-requires (evaluate-below-claims t) (evaluate-below-at t) evaluate-below.Post
 evaluate-below-number-below-requires t c κs = search needs
@@ -96,19 +111,6 @@ evaluate-below-enum-known-p t c = search needs
 evaluate-below-enum-told : (t : ℕ) → evaluate-below-lts.Need-enum-told (evaluate-below-claims t) (evaluate-below-at t) evaluate-below.Post
 evaluate-below-enum-told t c = search needs
 
-evaluate-below-mul-evaluate-below : (t : ℕ) → evaluate-below-lts.Need-mul-evaluate-below (evaluate-below-claims t) (evaluate-below-at t) evaluate-below.Post
-evaluate-below-mul-evaluate-below t c = search needs
-
-evaluate-below-add-evaluate-below : (t : ℕ) → evaluate-below-lts.Need-add-evaluate-below (evaluate-below-claims t) (evaluate-below-at t) evaluate-below.Post
-evaluate-below-add-evaluate-below t c = search needs
-
-evaluate-below-mul-evaluate-below-2 : (t : ℕ) → evaluate-below-lts.Need-mul-evaluate-below-2 (evaluate-below-claims t) (evaluate-below-at t) evaluate-below.Post
-evaluate-below-mul-evaluate-below-2 t c = search needs
-
-evaluate-below-element-copy-out-evaluate-below :
-    (t : ℕ) → evaluate-below-lts.Need-element-copy-out-evaluate-below (evaluate-below-claims t) (evaluate-below-at t) evaluate-below.Post
-evaluate-below-element-copy-out-evaluate-below t c = search needs
-
 evaluate-below-evaluate-below-requires : (t : ℕ) → evaluate-below-lts.Need-evaluate-below-requires (evaluate-below-claims t) (evaluate-below-at t) evaluate-below.Post
 evaluate-below-evaluate-below-requires t c κs =
     let s = c .before .before .before .before .before .before .before .before .before .before .before .before .before in
@@ -116,19 +118,6 @@ evaluate-below-evaluate-below-requires t c κs =
 
 evaluate-below-unpacked-requires : (t : ℕ) → evaluate-below-lts.Need-unpacked-requires (evaluate-below-claims t) (evaluate-below-at t) evaluate-below.Post
 evaluate-below-unpacked-requires t c κs = search needs
-
-evaluate-below-mul-number-below-3 : (t : ℕ) → evaluate-below-lts.Need-mul-number-below-3 (evaluate-below-claims t) (evaluate-below-at t) evaluate-below.Post
-evaluate-below-mul-number-below-3 t c = search needs
-
-evaluate-below-add-number-below-2 : (t : ℕ) → evaluate-below-lts.Need-add-number-below-2 (evaluate-below-claims t) (evaluate-below-at t) evaluate-below.Post
-evaluate-below-add-number-below-2 t c = search needs
-
-evaluate-below-mul-number-below-4 : (t : ℕ) → evaluate-below-lts.Need-mul-number-below-4 (evaluate-below-claims t) (evaluate-below-at t) evaluate-below.Post
-evaluate-below-mul-number-below-4 t c = search needs
-
-evaluate-below-element-copy-out-number-below-2 :
-    (t : ℕ) → evaluate-below-lts.Need-element-copy-out-number-below-2 (evaluate-below-claims t) (evaluate-below-at t) evaluate-below.Post
-evaluate-below-element-copy-out-number-below-2 t c = search needs
 
 evaluate-below-number-below-requires-2 : (t : ℕ) → evaluate-below-lts.Need-number-below-requires-2 (evaluate-below-claims t) (evaluate-below-at t) evaluate-below.Post
 evaluate-below-number-below-requires-2 t c κs = search needs
@@ -139,24 +128,11 @@ evaluate-below-enum-known-q t c = search needs
 evaluate-below-enum-told-2 : (t : ℕ) → evaluate-below-lts.Need-enum-told-2 (evaluate-below-claims t) (evaluate-below-at t) evaluate-below.Post
 evaluate-below-enum-told-2 t c = search needs
 
-evaluate-below-mul-evaluate-below-3 : (t : ℕ) → evaluate-below-lts.Need-mul-evaluate-below-3 (evaluate-below-claims t) (evaluate-below-at t) evaluate-below.Post
-evaluate-below-mul-evaluate-below-3 t c = search needs
-
-evaluate-below-add-evaluate-below-2 : (t : ℕ) → evaluate-below-lts.Need-add-evaluate-below-2 (evaluate-below-claims t) (evaluate-below-at t) evaluate-below.Post
-evaluate-below-add-evaluate-below-2 t c = search needs
-
-evaluate-below-mul-evaluate-below-4 : (t : ℕ) → evaluate-below-lts.Need-mul-evaluate-below-4 (evaluate-below-claims t) (evaluate-below-at t) evaluate-below.Post
-evaluate-below-mul-evaluate-below-4 t c = search needs
-
-evaluate-below-element-copy-out-evaluate-below-2 :
-    (t : ℕ) → evaluate-below-lts.Need-element-copy-out-evaluate-below-2 (evaluate-below-claims t) (evaluate-below-at t) evaluate-below.Post
-evaluate-below-element-copy-out-evaluate-below-2 t c = search needs
-
 evaluate-below-evaluate-below-requires-2 :
     (t : ℕ) → evaluate-below-lts.Need-evaluate-below-requires-2 (evaluate-below-claims t) (evaluate-below-at t) evaluate-below.Post
 evaluate-below-evaluate-below-requires-2 t c κs =
-    let s = c .before .before .before .before .before .before .before .before .before .before .before .before .before .before .before .before in
-    let p : s .args .b ≡ t = s .pre .0 in omega (arith, s .pre .1, c .before .before .before .before .before .before .before .before .before .before .before .before .before .if1 .left)
+    let s = c .before .before .before .before .before .before .before .before .before .before .before .before .before .before .before in
+    let p : s .args .b ≡ t = s .pre .0 in omega (arith, s .pre .1, c .before .before .before .before .before .before .before .before .before .before .before .before .if1 .left)
 
 evaluate-below-unpacked-requires-2 : (t : ℕ) → evaluate-below-lts.Need-unpacked-requires-2 (evaluate-below-claims t) (evaluate-below-at t) evaluate-below.Post
 evaluate-below-unpacked-requires-2 t c κs = search needs
@@ -169,19 +145,6 @@ evaluate-below-packed-requires-2 t c κs = search needs
 
 evaluate-below-enum-known-k-2 : (t : ℕ) → evaluate-below-lts.Need-enum-known-k-2 (evaluate-below-claims t) (evaluate-below-at t) evaluate-below.Post
 evaluate-below-enum-known-k-2 t c = search needs
-
-evaluate-below-mul-number-below-5 : (t : ℕ) → evaluate-below-lts.Need-mul-number-below-5 (evaluate-below-claims t) (evaluate-below-at t) evaluate-below.Post
-evaluate-below-mul-number-below-5 t c = search needs
-
-evaluate-below-add-number-below-3 : (t : ℕ) → evaluate-below-lts.Need-add-number-below-3 (evaluate-below-claims t) (evaluate-below-at t) evaluate-below.Post
-evaluate-below-add-number-below-3 t c = search needs
-
-evaluate-below-mul-number-below-6 : (t : ℕ) → evaluate-below-lts.Need-mul-number-below-6 (evaluate-below-claims t) (evaluate-below-at t) evaluate-below.Post
-evaluate-below-mul-number-below-6 t c = search needs
-
-evaluate-below-element-copy-out-number-below-3 :
-    (t : ℕ) → evaluate-below-lts.Need-element-copy-out-number-below-3 (evaluate-below-claims t) (evaluate-below-at t) evaluate-below.Post
-evaluate-below-element-copy-out-number-below-3 t c = search needs
 
 evaluate-below-number-below-requires-3 : (t : ℕ) → evaluate-below-lts.Need-number-below-requires-3 (evaluate-below-claims t) (evaluate-below-at t) evaluate-below.Post
 evaluate-below-number-below-requires-3 t c κs = search needs
@@ -197,19 +160,6 @@ evaluate-below-packed-requires-3 t c κs = search needs
 
 evaluate-below-enum-told-3 : (t : ℕ) → evaluate-below-lts.Need-enum-told-3 (evaluate-below-claims t) (evaluate-below-at t) evaluate-below.Post
 evaluate-below-enum-told-3 t c = search needs
-
-evaluate-below-mul-evaluate-below-5 : (t : ℕ) → evaluate-below-lts.Need-mul-evaluate-below-5 (evaluate-below-claims t) (evaluate-below-at t) evaluate-below.Post
-evaluate-below-mul-evaluate-below-5 t c = search needs
-
-evaluate-below-add-evaluate-below-3 : (t : ℕ) → evaluate-below-lts.Need-add-evaluate-below-3 (evaluate-below-claims t) (evaluate-below-at t) evaluate-below.Post
-evaluate-below-add-evaluate-below-3 t c = search needs
-
-evaluate-below-mul-evaluate-below-6 : (t : ℕ) → evaluate-below-lts.Need-mul-evaluate-below-6 (evaluate-below-claims t) (evaluate-below-at t) evaluate-below.Post
-evaluate-below-mul-evaluate-below-6 t c = search needs
-
-evaluate-below-element-copy-out-evaluate-below-3 :
-    (t : ℕ) → evaluate-below-lts.Need-element-copy-out-evaluate-below-3 (evaluate-below-claims t) (evaluate-below-at t) evaluate-below.Post
-evaluate-below-element-copy-out-evaluate-below-3 t c = search needs
 
 evaluate-below-evaluate-below-requires-3 :
     (t : ℕ) → evaluate-below-lts.Need-evaluate-below-requires-3 (evaluate-below-claims t) (evaluate-below-at t) evaluate-below.Post
@@ -229,11 +179,11 @@ evaluate-below-packed-requires-4 t c κs = search needs
 evaluate-below-enum-told-4 : (t : ℕ) → evaluate-below-lts.Need-enum-told-4 (evaluate-below-claims t) (evaluate-below-at t) evaluate-below.Post
 evaluate-below-enum-told-4 t c = search needs
 
-evaluate-below-mul-t73 : (t : ℕ) → evaluate-below-lts.Need-mul-t73 (evaluate-below-claims t) (evaluate-below-at t) evaluate-below.Post
-evaluate-below-mul-t73 t c = search needs
+evaluate-below-mul-t48 : (t : ℕ) → evaluate-below-lts.Need-mul-t48 (evaluate-below-claims t) (evaluate-below-at t) evaluate-below.Post
+evaluate-below-mul-t48 t c = search needs
 
-evaluate-below-element-copy-out-t76 : (t : ℕ) → evaluate-below-lts.Need-element-copy-out-t76 (evaluate-below-claims t) (evaluate-below-at t) evaluate-below.Post
-evaluate-below-element-copy-out-t76 t c = search needs
+evaluate-below-element-copy-out-t51 : (t : ℕ) → evaluate-below-lts.Need-element-copy-out-t51 (evaluate-below-claims t) (evaluate-below-at t) evaluate-below.Post
+evaluate-below-element-copy-out-t51 t c = search needs
 
 evaluate-below-packed-requires-5 : (t : ℕ) → evaluate-below-lts.Need-packed-requires-5 (evaluate-below-claims t) (evaluate-below-at t) evaluate-below.Post
 evaluate-below-packed-requires-5 t c κs = search needs
@@ -241,11 +191,11 @@ evaluate-below-packed-requires-5 t c κs = search needs
 evaluate-below-enum-told-5 : (t : ℕ) → evaluate-below-lts.Need-enum-told-5 (evaluate-below-claims t) (evaluate-below-at t) evaluate-below.Post
 evaluate-below-enum-told-5 t c = search needs
 
-evaluate-below-mul-t78 : (t : ℕ) → evaluate-below-lts.Need-mul-t78 (evaluate-below-claims t) (evaluate-below-at t) evaluate-below.Post
-evaluate-below-mul-t78 t c = search needs
+evaluate-below-mul-t53 : (t : ℕ) → evaluate-below-lts.Need-mul-t53 (evaluate-below-claims t) (evaluate-below-at t) evaluate-below.Post
+evaluate-below-mul-t53 t c = search needs
 
-evaluate-below-element-copy-out-t81 : (t : ℕ) → evaluate-below-lts.Need-element-copy-out-t81 (evaluate-below-claims t) (evaluate-below-at t) evaluate-below.Post
-evaluate-below-element-copy-out-t81 t c = search needs
+evaluate-below-element-copy-out-t56 : (t : ℕ) → evaluate-below-lts.Need-element-copy-out-t56 (evaluate-below-claims t) (evaluate-below-at t) evaluate-below.Post
+evaluate-below-element-copy-out-t56 t c = search needs
 
 evaluate-below-packed-requires-6 : (t : ℕ) → evaluate-below-lts.Need-packed-requires-6 (evaluate-below-claims t) (evaluate-below-at t) evaluate-below.Post
 evaluate-below-packed-requires-6 t c κs = search needs
@@ -259,32 +209,32 @@ evaluate-below-packed-requires-7 t c κs = search needs
 evaluate-below-returns-2 : (t : ℕ) → evaluate-below-lts.Need-returns-2 (evaluate-below-claims t) (evaluate-below-at t) evaluate-below.Post
 evaluate-below-returns-2 t c =
     let s = c .before .before .before .before .before .before .before .before .before .before .before .before .before .before .before .before in
-    (λ n. ap valueOf (c .packed2 .ensures .is) ∙ two-done (reads (s .args .items .now) (s .args .atcs .now) (s .args .flags .now) (s .args .times .now)) (s .args .vars .now) (nodesIn (s .args .ws .now) (s .args .val .now) n) (s .args .b) (s .args .i) (c .before .before .before .before .before .before .before .before .before .before .before .before .before .if1 .left) _ (c .before .before .before .before .before .before .before .before .before .before .before .kind-of .ensures) _ _ _ _ (c .before .before .before .before .before .before .before .before .before .k .given .1) (c .before .join-two .ensures) (⊎-elim (λ w. let f : SFits w32 (w .1 .given .0 .0) = record { sfits = w .2 .given .0 .1 } in number-worth (reads (s .args .items .now) (s .args .atcs .now) (s .args .flags .now) (s .args .times .now)) (s .args .vars .now) (treeBelow (nodesIn (s .args .ws .now) (s .args .val .now) n) (s .args .i) (leftAt (nodesIn (s .args .ws .now) (s .args .val .now) n) (s .args .i))) (ap valueOf (w .3)) (toZ-ofZ f) (ap numberOf (sym (w .1 .given .1)) ∙ c .before .before .before .before .before .before .number-below .ensures n)) (λ w. ap valueOf (w .5 ∙ w .4 .ensures) ∙ w .3 .ensures .0 n) (c .before .before .before .before .before .match2 .came)) (⊎-elim (λ w. let f : SFits w32 (w .1 .given .0 .0) = record { sfits = w .2 .given .0 .1 } in number-worth (reads (s .args .items .now) (s .args .atcs .now) (s .args .flags .now) (s .args .times .now)) (s .args .vars .now) (treeBelow (nodesIn (s .args .ws .now) (s .args .val .now) n) (s .args .i) (rightAt (nodesIn (s .args .ws .now) (s .args .val .now) n) (s .args .i))) (ap valueOf (w .3)) (toZ-ofZ f) (ap numberOf (sym (w .1 .given .1)) ∙ c .before .before .before .number-below2 .ensures n)) (λ w. ap valueOf (w .5 ∙ w .4 .ensures) ∙ w .3 .ensures .0 n) (c .before .before .match3 .came)), c .packed2 .ensures .low)
+    (λ n. ap valueOf (c .packed2 .ensures .is) ∙ two-done (reads (s .args .items .now) (s .args .atcs .now) (s .args .flags .now) (s .args .times .now)) (s .args .vars .now) (nodesIn (s .args .ws .now) (s .args .val .now) n) (s .args .b) (s .args .i) (c .before .before .before .before .before .before .before .before .before .before .before .before .before .if1 .left) _ (c .before .before .before .before .before .before .before .before .before .before .before .kind-of .ensures) _ _ _ _ (c .before .before .before .before .before .before .before .k .given .1) (c .before .join-two .ensures) (⊎-elim (λ w. let f : SFits w32 (w .1 .given .0 .0) = record { sfits = w .2 .given .0 .1 } in number-worth (reads (s .args .items .now) (s .args .atcs .now) (s .args .flags .now) (s .args .times .now)) (s .args .vars .now) (treeBelow (nodesIn (s .args .ws .now) (s .args .val .now) n) (s .args .i) (leftAt (nodesIn (s .args .ws .now) (s .args .val .now) n) (s .args .i))) (ap valueOf (w .3)) (toZ-ofZ f) (ap numberOf (sym (w .1 .given .1)) ∙ c .before .before .before .before .before .number-below .ensures n)) (λ w. ap valueOf (w .4 ∙ w .3 .ensures) ∙ w .2 .ensures .0 n) (c .before .before .before .before .match2 .came)) (⊎-elim (λ w. let f : SFits w32 (w .1 .given .0 .0) = record { sfits = w .2 .given .0 .1 } in number-worth (reads (s .args .items .now) (s .args .atcs .now) (s .args .flags .now) (s .args .times .now)) (s .args .vars .now) (treeBelow (nodesIn (s .args .ws .now) (s .args .val .now) n) (s .args .i) (rightAt (nodesIn (s .args .ws .now) (s .args .val .now) n) (s .args .i))) (ap valueOf (w .3)) (toZ-ofZ f) (ap numberOf (sym (w .1 .given .1)) ∙ c .before .before .before .number-below2 .ensures n)) (λ w. ap valueOf (w .4 ∙ w .3 .ensures) ∙ w .2 .ensures .0 n) (c .before .before .match3 .came)), c .packed2 .ensures .low)
 
 evaluate-below-returns-3 : (t : ℕ) → evaluate-below-lts.Need-returns-3 (evaluate-below-claims t) (evaluate-below-at t) evaluate-below.Post
 evaluate-below-returns-3 t c =
-    let s = c .before .before .before .before .before .before .before .before .before .before .before .before .before .before .before in
-    let f : SFits w32 (c .before .before .before .v .given .0 .0) = record { sfits = c .before .before .known-told5 .given .0 .1 } in (λ n. ap valueOf (c .packed3 .ensures .is) ∙ number-done (reads (s .args .items .now) (s .args .atcs .now) (s .args .flags .now) (s .args .times .now)) (s .args .vars .now) (nodesIn (s .args .ws .now) (s .args .val .now) n) (s .args .b) (s .args .i) (c .before .before .before .before .before .before .before .before .before .before .before .before .if1 .left) _ (c .before .before .before .before .before .before .before .before .before .before .kind-of .ensures) _ _ (c .before .before .before .v .given .0 .0) (c .before .before .before .before .before .before .before .before .k2 .given .1) (toZ-ofZ {w = w32} (record { sfits = c .before .apply-one .ok }) ∙ (rw (toZ-ofZ f) at (c .before .apply-one .ensures))) (ap numberOf (sym (c .before .before .before .v .given .1)) ∙ c .before .before .before .before .before .number-below3 .ensures n), c .packed3 .ensures .low)
+    let s = c .before .before .before .before .before .before .before .before .before .before .before .before .before .before .before .before in
+    let f : SFits w32 (c .before .before .before .v .given .0 .0) = record { sfits = c .before .before .known-told5 .given .0 .1 } in (λ n. ap valueOf (c .packed3 .ensures .is) ∙ number-done (reads (s .args .items .now) (s .args .atcs .now) (s .args .flags .now) (s .args .times .now)) (s .args .vars .now) (nodesIn (s .args .ws .now) (s .args .val .now) n) (s .args .b) (s .args .i) (c .before .before .before .before .before .before .before .before .before .before .before .before .before .if1 .left) _ (c .before .before .before .before .before .before .before .before .before .before .before .kind-of .ensures) _ _ (c .before .before .before .v .given .0 .0) (c .before .before .before .before .before .before .before .k2 .given .1) (toZ-ofZ {w = w32} (record { sfits = c .before .apply-one .ok }) ∙ (rw (toZ-ofZ f) at (c .before .apply-one .ensures))) (ap numberOf (sym (c .before .before .before .v .given .1)) ∙ c .before .before .before .before .before .number-below3 .ensures n), c .packed3 .ensures .low)
 
 evaluate-below-returns-4 : (t : ℕ) → evaluate-below-lts.Need-returns-4 (evaluate-below-claims t) (evaluate-below-at t) evaluate-below.Post
 evaluate-below-returns-4 t c =
     let s = c .before .before .before .before .before .before .before .before .before .before .before .before .before .before .before .before .before in
-    (λ n. ap valueOf (c .packed4 .ensures .is) ∙ one-done (reads (s .args .items .now) (s .args .atcs .now) (s .args .flags .now) (s .args .times .now)) (s .args .vars .now) (nodesIn (s .args .ws .now) (s .args .val .now) n) (s .args .b) (s .args .i) (c .before .before .before .before .before .before .before .before .before .before .before .before .before .before .if1 .left) _ (c .before .before .before .before .before .before .before .before .before .before .before .before .kind-of .ensures) _ _ _ (c .before .before .before .before .before .before .before .before .before .before .k2 .given .1) (c .before .join-one .ensures) (ap valueOf (c .before .before .unpacked3 .ensures) ∙ c .before .before .before .evaluate-below3 .ensures .0 n), c .packed4 .ensures .low)
+    (λ n. ap valueOf (c .packed4 .ensures .is) ∙ one-done (reads (s .args .items .now) (s .args .atcs .now) (s .args .flags .now) (s .args .times .now)) (s .args .vars .now) (nodesIn (s .args .ws .now) (s .args .val .now) n) (s .args .b) (s .args .i) (c .before .before .before .before .before .before .before .before .before .before .before .before .before .before .if1 .left) _ (c .before .before .before .before .before .before .before .before .before .before .before .before .kind-of .ensures) _ _ _ (c .before .before .before .before .before .before .before .before .k2 .given .1) (c .before .join-one .ensures) (ap valueOf (c .before .before .unpacked3 .ensures) ∙ c .before .before .before .evaluate-below3 .ensures .0 n), c .packed4 .ensures .low)
 
 evaluate-below-returns-5 : (t : ℕ) → evaluate-below-lts.Need-returns-5 (evaluate-below-claims t) (evaluate-below-at t) evaluate-below.Post
 evaluate-below-returns-5 t c =
-    let s = c .before .before .before .before .before .before .before .before .before in
-    (λ n. ap valueOf (c .packed5 .ensures .is) ∙ imm16-done (reads (s .args .items .now) (s .args .atcs .now) (s .args .flags .now) (s .args .times .now)) (s .args .vars .now) (nodesIn (s .args .ws .now) (s .args .val .now) n) (s .args .b) (s .args .i) (c .before .before .before .before .before .before .if1 .left) _ (c .before .before .before .before .kind-of .ensures) _ (c .before .before .enum-told4 .given .1) (toZ-ofZ {w = w32} (record { sfits = c .before .t76 .given })), c .packed5 .ensures .low)
+    let s = c .before .before .before .before .before .before .before .before .before .before .before in
+    (λ n. ap valueOf (c .packed5 .ensures .is) ∙ imm16-done (reads (s .args .items .now) (s .args .atcs .now) (s .args .flags .now) (s .args .times .now)) (s .args .vars .now) (nodesIn (s .args .ws .now) (s .args .val .now) n) (s .args .b) (s .args .i) (c .before .before .before .before .before .before .before .before .if1 .left) _ (c .before .before .before .before .before .before .kind-of .ensures) _ (c .before .before .enum-told4 .given .1) (toZ-ofZ {w = w32} (record { sfits = c .before .t51 .given })), c .packed5 .ensures .low)
 
 evaluate-below-returns-6 : (t : ℕ) → evaluate-below-lts.Need-returns-6 (evaluate-below-claims t) (evaluate-below-at t) evaluate-below.Post
 evaluate-below-returns-6 t c =
-    let s = c .before .before .before .before .before .before .before .before .before in
-    (λ n. ap valueOf (c .packed6 .ensures .is) ∙ imm32-done (reads (s .args .items .now) (s .args .atcs .now) (s .args .flags .now) (s .args .times .now)) (s .args .vars .now) (nodesIn (s .args .ws .now) (s .args .val .now) n) (s .args .b) (s .args .i) (c .before .before .before .before .before .before .if1 .left) _ (c .before .before .before .before .kind-of .ensures) _ (c .before .before .enum-told5 .given .1) (toZ-ofZ {w = w32} (record { sfits = c .before .t81 .given })), c .packed6 .ensures .low)
+    let s = c .before .before .before .before .before .before .before .before .before .before .before in
+    (λ n. ap valueOf (c .packed6 .ensures .is) ∙ imm32-done (reads (s .args .items .now) (s .args .atcs .now) (s .args .flags .now) (s .args .times .now)) (s .args .vars .now) (nodesIn (s .args .ws .now) (s .args .val .now) n) (s .args .b) (s .args .i) (c .before .before .before .before .before .before .before .before .if1 .left) _ (c .before .before .before .before .before .before .kind-of .ensures) _ (c .before .before .enum-told5 .given .1) (toZ-ofZ {w = w32} (record { sfits = c .before .t56 .given })), c .packed6 .ensures .low)
 
 evaluate-below-returns-7 : (t : ℕ) → evaluate-below-lts.Need-returns-7 (evaluate-below-claims t) (evaluate-below-at t) evaluate-below.Post
 evaluate-below-returns-7 t c =
-    let s = c .before .before .before .before .before .before .before .before in
-    (λ n. ap valueOf (c .packed7 .ensures .is) ∙ other-done (reads (s .args .items .now) (s .args .atcs .now) (s .args .flags .now) (s .args .times .now)) (s .args .vars .now) (nodesIn (s .args .ws .now) (s .args .val .now) n) (s .args .b) (s .args .i) (c .before .before .before .before .before .if1 .left) _ (c .before .before .before .kind-of .ensures) (c .before .enum-told6 .given .1), c .packed7 .ensures .low)
+    let s = c .before .before .before .before .before .before .before .before .before .before in
+    (λ n. ap valueOf (c .packed7 .ensures .is) ∙ other-done (reads (s .args .items .now) (s .args .atcs .now) (s .args .flags .now) (s .args .times .now)) (s .args .vars .now) (nodesIn (s .args .ws .now) (s .args .val .now) n) (s .args .b) (s .args .i) (c .before .before .before .before .before .before .before .if1 .left) _ (c .before .before .before .before .before .kind-of .ensures) (c .before .enum-told6 .given .1), c .packed7 .ensures .low)
 
 pub +evaluate-below-spec : {M : Type 1} → statement M
 +evaluate-below-spec = close μ-evaluate-below λ t. evaluate-below-lts.spec (evaluate-below-claims t)
@@ -296,60 +246,44 @@ pub +evaluate-below-spec : {M : Type 1} → statement M
     (evaluate-below-mul-kind-of-2 t)
     (evaluate-below-element-copy-out-kind-of t)
     (evaluate-below-kind-of-requires t)
+    (evaluate-below-mul-left t)
+    (evaluate-below-add-left t)
+    (evaluate-below-mul-left-2 t)
+    (evaluate-below-element-copy-out-left t)
+    (evaluate-below-mul-right t)
+    (evaluate-below-add-right t)
+    (evaluate-below-mul-right-2 t)
+    (evaluate-below-element-copy-out-right t)
     (evaluate-below-enum-known-k t)
-    (evaluate-below-mul-number-below t)
-    (evaluate-below-add-number-below t)
-    (evaluate-below-mul-number-below-2 t)
-    (evaluate-below-element-copy-out-number-below t)
     (evaluate-below-number-below-requires t)
     (evaluate-below-enum-known-p t)
     (evaluate-below-enum-told t)
-    (evaluate-below-mul-evaluate-below t)
-    (evaluate-below-add-evaluate-below t)
-    (evaluate-below-mul-evaluate-below-2 t)
-    (evaluate-below-element-copy-out-evaluate-below t)
     (evaluate-below-evaluate-below-requires t)
     (evaluate-below-unpacked-requires t)
-    (evaluate-below-mul-number-below-3 t)
-    (evaluate-below-add-number-below-2 t)
-    (evaluate-below-mul-number-below-4 t)
-    (evaluate-below-element-copy-out-number-below-2 t)
     (evaluate-below-number-below-requires-2 t)
     (evaluate-below-enum-known-q t)
     (evaluate-below-enum-told-2 t)
-    (evaluate-below-mul-evaluate-below-3 t)
-    (evaluate-below-add-evaluate-below-2 t)
-    (evaluate-below-mul-evaluate-below-4 t)
-    (evaluate-below-element-copy-out-evaluate-below-2 t)
     (evaluate-below-evaluate-below-requires-2 t)
     (evaluate-below-unpacked-requires-2 t)
     (evaluate-below-join-two-requires t)
     (evaluate-below-packed-requires-2 t)
     (evaluate-below-enum-known-k-2 t)
-    (evaluate-below-mul-number-below-5 t)
-    (evaluate-below-add-number-below-3 t)
-    (evaluate-below-mul-number-below-6 t)
-    (evaluate-below-element-copy-out-number-below-3 t)
     (evaluate-below-number-below-requires-3 t)
     (evaluate-below-enum-known-v t)
     (evaluate-below-apply-one-requires t)
     (evaluate-below-packed-requires-3 t)
     (evaluate-below-enum-told-3 t)
-    (evaluate-below-mul-evaluate-below-5 t)
-    (evaluate-below-add-evaluate-below-3 t)
-    (evaluate-below-mul-evaluate-below-6 t)
-    (evaluate-below-element-copy-out-evaluate-below-3 t)
     (evaluate-below-evaluate-below-requires-3 t)
     (evaluate-below-unpacked-requires-3 t)
     (evaluate-below-join-one-requires t)
     (evaluate-below-packed-requires-4 t)
     (evaluate-below-enum-told-4 t)
-    (evaluate-below-mul-t73 t)
-    (evaluate-below-element-copy-out-t76 t)
+    (evaluate-below-mul-t48 t)
+    (evaluate-below-element-copy-out-t51 t)
     (evaluate-below-packed-requires-5 t)
     (evaluate-below-enum-told-5 t)
-    (evaluate-below-mul-t78 t)
-    (evaluate-below-element-copy-out-t81 t)
+    (evaluate-below-mul-t53 t)
+    (evaluate-below-element-copy-out-t56 t)
     (evaluate-below-packed-requires-6 t)
     (evaluate-below-enum-told-6 t)
     (evaluate-below-packed-requires-7 t)
