@@ -50,10 +50,6 @@ evaluate-below-below t =
 abbrev evaluate-below-claims : ℕ → evaluate-below-lts.Claims
 evaluate-below-claims t = (packed-reads.Asked, packed-reads.Learnt, kind-of-reads.Asked, kind-of-reads.Learnt, number-below-reads.Asked, number-below-reads.Learnt, evaluate-below-below t, evaluate-below.Post, unpacked-reads.Asked, unpacked-reads.Learnt, join-two-reads.Asked, join-two-reads.Learnt, apply-one-reads.Asked, apply-one-reads.Learnt, join-one-reads.Asked, join-one-reads.Learnt)
 
--- what the calls ask and give, at the measure t
-abbrev evaluate-below-claims : ℕ → evaluate-below-lts.Claims
-evaluate-below-claims t = (packed-reads.Asked, packed-reads.Learnt, kind-of-reads.Asked, kind-of-reads.Learnt, number-below-reads.Asked, number-below-reads.Learnt, evaluate-below-below t, evaluate-below.Post, unpacked-reads.Asked, unpacked-reads.Learnt, join-two-reads.Asked, join-two-reads.Learnt, apply-one-reads.Asked, apply-one-reads.Learnt, join-one-reads.Asked, join-one-reads.Learnt)
-
 evaluate-below-packed-requires : (t : ℕ) → evaluate-below-lts.Need-packed-requires (evaluate-below-claims t) (evaluate-below-at t) evaluate-below.Post
 evaluate-below-packed-requires t c κs = search needs
 
