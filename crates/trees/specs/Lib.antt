@@ -1,0 +1,2 @@
+-- The specifications of `trees`. Assumes nothing.
+pub mod Trees
