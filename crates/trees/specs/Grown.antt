@@ -19,12 +19,13 @@ use Rattle.model.specs.declared.Op2.{Op2}
 use Rattle.model.specs.declared.Op1.{Op1}
 use Rattle.model.specs.declared.Kind.{Kind}
 use Rattle.model.specs.declared.Kind.the-variants.{Two, One, Imm16, Imm32, Other}
-use Rattle.terms.specs.Told.{Told}
+use Rattle.terms.specs.Told.{Told, immJudged}
 use Rattle.terms.specs.Numbers.{imm-fine}
 use Rattle.terms.specs.Nodes.{Within, node-other, node-imm16, node-imm32, node-one, node-two}
+use Rattle.terms.specs.declared.Step.{Step}
 use Rattle.terms.specs.declared.Step.the-variants.{Fine}
 use Rattle.trees.specs.Trees.{nodesOf, levelsOf, Reads, Tree, Trees}
-use Rattle.trees.specs.Words.{Word, Joined, Short, word-not, word-leaf}
+use Rattle.trees.specs.Words.{Word, Joined, Number, word-not, word-leaf}
 
 -- ---- what they promise
 
@@ -76,36 +77,24 @@ module _ (ws : List ℕ) (vs : List ℤ) where
       };
     }
 
-    pub sound-imm32 : k ≡ Imm32 → zig (getD vs i (pos 0)) < wide → Sound ws vs i 65537
-    sound-imm32 kk wd = record {
-      word = word-leaf;
-      tree = record {
-        levels = word-leaf .levels;
-        reads = λ b h n at o l hl ho hn. record {
-          to = at + 1 + length (word (zig (getD vs i (pos 0))));
-          told = node-imm32 (nodesIn ws vs l) b i l n at o k (within b l n o h (omega arith) (omega arith)) _ kk wd (imm-fine (zig (getD vs i (pos 0))) 4294967296 (n + 1) (at + 1) _ (zig (getD vs i (pos 0))) refl wd refl);
-        };
-      };
-    }
-
     module _ {r : ℕ} where
-      pub sound-imm16 : k ≡ Imm16 → Short (getD vs i (pos 0)) r → Sound ws vs i r
-      sound-imm16 kk S = record {
-        word = S .word;
-        tree = record {
-          levels = S .word .levels;
-          reads = reads;
-        };
-      }
+      -- a number below its limit
+      sound-imm : (lim : ℕ) → lim ≤ wide
+          → ((b n at o l : ℕ) → Within (nodesIn ws vs l) b i l n o k → zig (getD vs i (pos 0)) < wide → (s : Step) → s ≡ immJudged (zig (getD vs i (pos 0))) lim (n + 1) (at + 1) → Told (readExpr l (64 - o) n) size (nodeImage (nodesIn ws vs l) b i) l 0 n at s)
+          → Number (getD vs i (pos 0)) lim r → Sound ws vs i r
+      sound-imm lim wd f N = record { word = N .word; tree = record { levels = N .word .levels; reads = reads } }
         where
           reads : (b : ℕ) → i < b → (n at o l : ℕ) → l ≤ 32768 → o + levelsOf r ≤ 64 → n + nodesOf r ≤ l → Reads ws vs l b i n at o (nodesOf r)
           reads b h n at o l hl ho hn =
-              let e = S .leaf (omega arith) in
-              let z = S .low (omega arith) in
-              rw e (record {
-                to = at + 1 + length (word (zig (getD vs i (pos 0))));
-                told = node-imm16 (nodesIn ws vs l) b i l n at o k (within b l n o h (omega arith) (omega arith)) _ kk (omega arith) (imm-fine (zig (getD vs i (pos 0))) 65536 (n + 1) (at + 1) _ (zig (getD vs i (pos 0))) refl z refl);
-              })
+              let e = N .leaf (omega arith) in
+              let z = N .low (omega arith) in
+              reads-as (rw e) (f b n at o l (within b l n o h (omega arith) (omega arith)) (omega arith) _ (imm-fine (zig (getD vs i (pos 0))) lim (n + 1) (at + 1) _ (zig (getD vs i (pos 0))) refl z refl))
+
+      pub sound-imm16 : k ≡ Imm16 → Number (getD vs i (pos 0)) 65536 r → Sound ws vs i r
+      sound-imm16 kk N = sound-imm 65536 (omega arith) (λ b n at o l W wd s e. node-imm16 (nodesIn ws vs l) b i l n at o k W s kk wd e) N
+
+      pub sound-imm32 : k ≡ Imm32 → Number (getD vs i (pos 0)) wide r → Sound ws vs i r
+      sound-imm32 kk N = sound-imm wide (omega arith) (λ b n at o l W wd s e. node-imm32 (nodesIn ws vs l) b i l n at o k W s kk wd e) N
 
       pub sound-one : (x : Op1) → k ≡ One x → {a : ℕ} → Operand ws vs i (getD ws (3 * i + 1) 0) a → Joined a 0 r → Sound ws vs i r
       sound-one x kk {a} A J = record { word = J .word; tree = record { levels = J .word .levels; reads = reads } }
@@ -130,9 +119,9 @@ module _ (ws : List ℕ) (vs : List ℤ) where
               reads-as e (node-two (nodesIn ws vs l) b i l n at o k (within b l n o h (omega arith) (omega arith)) x kk (P .told) refl (Q .told))
 
   -- the code 11 by itself
-  pub sound-11 : (i : ℕ) {r : ℕ} → getD ws (3 * i) 0 ≡ 11 → Short (getD vs i (pos 0)) r → Sound ws vs i r
+  pub sound-11 : (i : ℕ) {r : ℕ} → getD ws (3 * i) 0 ≡ 11 → Number (getD vs i (pos 0)) 65536 r → Sound ws vs i r
   unfolding kindOf kinds
-  sound-11 i e S = sound-imm16 i Imm16 (omega arith) (ap kindOf (sym e)) refl S
+  sound-11 i e N = sound-imm16 i Imm16 (omega arith) (ap kindOf (sym e)) refl N
 
   -- ---- the table
 

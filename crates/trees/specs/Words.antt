@@ -6,7 +6,11 @@ use native.Mathlib.Omega.{arith}
 use lib.IntN.{ℤ, pos, negsuc}
 use lib.Signed.{ltZ}
 use borrow.Author.Tests.{ltb-false}
+use mir.Syntax.{w32}
+use mir.Val.{SFits}
+use Rattle.model.specs.Limits.{wide}
 use Rattle.model.specs.Reading.{zig}
+use Rattle.terms.specs.Numbers.{zig-low}
 use Rattle.trees.specs.Trees.{nodesOf, levelsOf}
 
 -- ---- what a function says of the word that it answers
@@ -29,11 +33,11 @@ pub record Joined (a b r : ℕ) : Type 0 where
   pub right : nodesOf r ≤ 32768 → levelsOf b < levelsOf r
   pub nodes : nodesOf r ≤ 32768 → nodesOf r ≡ nodesOf a + nodesOf b + 1
 
--- r is the node of an immediate of 16 bits, or too many
-pub record Short (z : ℤ) (r : ℕ) : Type 0 where
+-- r is the node of a number whose image is below the limit, or too many
+pub record Number (z : ℤ) (lim r : ℕ) : Type 0 where
   pub word : Word r
   pub leaf : nodesOf r ≤ 32768 → r ≡ 65537
-  pub low : nodesOf r ≤ 32768 → zig z < 65536
+  pub low : nodesOf r ≤ 32768 → zig z < lim
 
 -- ---- the two words that are always within bounds
 
@@ -42,14 +46,6 @@ word-not = record { high = omega arith; few = λ h. omega arith; levels = λ h. 
 
 pub word-leaf : Word 65537
 word-leaf = record { high = omega arith; few = λ h. omega arith; levels = λ h. omega arith }
-
--- ---- the cap
-
-pub capped-not : (x : ℕ) → Capped x 65576000
-capped-not x = record { word = word-not; same = λ h. absurd (omega arith) }
-
-pub capped-same : (x : ℕ) → x < 4259840 → x % 65536 < 32768 → Capped x x
-capped-same x h g = record { word = record { high = omega arith; few = λ q. g; levels = λ q. omega arith }; same = λ q. refl }
 
 -- ---- one node above
 
@@ -74,15 +70,19 @@ joined-one {a} A C =
     let e : a + 0 % 65536 + 65537 ≡ a + 65537 = omega arith in
     joined-left A (record { high = omega arith; few = λ h. omega arith; levels = λ h. omega arith }) (omega arith) (rw e C)
 
--- ---- an immediate of 16 bits
-
-pub short-not : (z : ℤ) → Short z 65576000
-short-not z = record { word = word-not; leaf = λ h. absurd (omega arith); low = λ h. absurd (omega arith) }
+-- ---- an immediate
 
 zig-short : (z : ℤ) → ltZ z (negsuc 32767) ≡ false → ltZ (pos 32767) z ≡ false → zig z < 65536
 unfolding zig
 zig-short (pos n) p q = omega (arith, ltb-false 32767 n q)
 zig-short (negsuc n) p q = omega (arith, ltb-false 32767 n p)
 
-pub short-leaf : (z : ℤ) → ltZ z (negsuc 32767) ≡ false → ltZ (pos 32767) z ≡ false → Short z 65537
-short-leaf z p q = record { word = word-leaf; leaf = λ h. refl; low = λ h. zig-short z p q }
+module _ (z : ℤ) where
+  number-leaf : {lim : ℕ} → zig z < lim → Number z lim 65537
+  number-leaf g = record { word = word-leaf; leaf = λ h. refl; low = λ h. g }
+
+  pub number-16 : ltZ z (negsuc 32767) ≡ false → ltZ (pos 32767) z ≡ false → Number z 65536 65537
+  number-16 p q = number-leaf (zig-short z p q)
+
+  pub number-32 : SFits w32 z → Number z wide 65537
+  number-32 f = number-leaf (zig-low z f)

@@ -4,8 +4,9 @@ ghost use mathlib.Core.List.{List};
 ghost use Prim.Native.Nat.{ℕ, _≤_, _<_};
 ghost use lib.IntN.{ℤ};
 ghost use lib.ListN.{length};
+ghost use Rattle.model.specs.Limits.{wide};
 ghost use Rattle.trees.specs.Trees.{nodesOf, Trees};
-ghost use Rattle.trees.specs.Words.{Word, Capped, Joined, Short};
+ghost use Rattle.trees.specs.Words.{Word, Capped, Joined, Number};
 ghost use Rattle.trees.specs.Grown.{Operand, Sound, Held};
 use memory::index_of;
 use memory::kind_of;
@@ -60,8 +61,9 @@ fn above_two(a: u32, b: u32) -> u32
     capped(a + b % 65536 + NODE)
 }
 
+// The number of an Imm16, which has to have 16 bits.
 fn imm16_tree(z: i32) -> u32
-    ensures { λ r. ⌜ Short z r ⌝ }
+    ensures { λ r. ⌜ Number z 65536 r ⌝ }
 {
     if z < -32768 {
         return TOO_MANY;
@@ -69,6 +71,13 @@ fn imm16_tree(z: i32) -> u32
     if 32767 < z {
         return TOO_MANY;
     }
+    NODE
+}
+
+// The number of an Imm32, of which each is fine.
+fn imm32_tree(z: i32) -> u32
+    ensures { λ r. ⌜ Number z wide r ⌝ }
+{
     NODE
 }
 
@@ -92,7 +101,7 @@ fn tree_of(ws: &[u16; 98304], val: &[i32; 32768], table: &[u32], i: usize) -> u3
         ),
         Kind::One(_) => capped(operand(table, i, ws[3 * i + 1]) + NODE),
         Kind::Imm16 => imm16_tree(val[i]),
-        Kind::Imm32 => NODE,
+        Kind::Imm32 => imm32_tree(val[i]),
         Kind::Other => NODE,
     }
 }
