@@ -7,12 +7,21 @@ ghost use Prim.Native.Nat.{ℕ, _+_, _≤_, _<_};
 ghost use lib.IntN.{ℤ};
 ghost use lib.ListN.{length};
 ghost use Rattle.model.specs.Limits.{nodeLimit};
+ghost use Rattle.model.specs.Memory.{memoryIn};
 ghost use Rattle.trees.specs.Trees.{Trees};
-ghost use Rattle.judge.specs.Stages.{memoryBy};
+ghost use Rattle.judge.specs.Stages.{memoryBy, KeptBy};
 ghost use Rattle.plain.specs.Counted.{Ready, TermCount, Named, TailCount, CommandCount, CommandsCount, CodeCount, Held, BlockCount, Plain};
 use memory::Counts;
 use memory::index_of;
+use trees::measure_trees;
 use trees::nodes_of;
+
+// An element as a number that is known to be one of 16 bits.
+fn element(x: u16) -> usize
+    ensures { λ r. ⌜ (r ≡ x) × (r < 65536) ⌝ }
+{
+    x as usize
+}
 
 // The nodes of the expression i of a command, or too many.
 fn term_nodes(table: &[u32], nodes: u16, i: u16) -> usize
@@ -110,8 +119,8 @@ fn code_nodes(
     requires { ⌜ (i < counts .blocks) × Ready counts (now table) ⌝ }
     ensures { λ r. ⌜ CodeCount (now (table .entry)) (now (cw .entry)) (now (bw .entry)) counts i r ⌝ }
 {
-    let first = index_of(bw[5 * i + 1]);
-    let held = index_of(bw[5 * i + 2]);
+    let first = element(bw[5 * i + 1]);
+    let held = element(bw[5 * i + 2]);
     if index_of(counts.commands) < first + held {
         return 40000;
     }
@@ -130,7 +139,7 @@ fn block_commands(bw: &[u16; 20480], i: usize) -> usize
     ensures { λ r. ⌜ Held (now (bw .entry)) i r ⌝ }
 {
     if bw[5 * i] == 1 {
-        return index_of(bw[5 * i + 2]);
+        return element(bw[5 * i + 2]);
     }
     0
 }
@@ -173,4 +182,80 @@ fn plain_by(table: &[u32], cw: &[u16; 65536], bw: &[u16; 20480], counts: Counts)
         return false;
     }
     m <= index_of(counts.commands)
+}
+
+// With a table for 64 nodes: to clear a large one takes longer than to go over a small script.
+fn plain_up_to_64(
+    ws: &[u16; 98304],
+    val: &[i32; 32768],
+    cw: &[u16; 65536],
+    bw: &[u16; 20480],
+    counts: Counts,
+) -> bool
+    requires { ⌜ (counts .nodes ≤ 64) × KeptBy counts ⌝ }
+    ensures { λ r. ⌜ (r ≡ true → Plain (memoryBy (now (ws .entry)) (now (val .entry)) (now (cw .entry)) (now (bw .entry)) counts)) ⌝ }
+{
+    let mut table = [0u32; 64];
+    measure_trees(ws, val, &mut table, index_of(counts.nodes));
+    plain_by(&table, cw, bw, counts)
+}
+
+// With a table for 1,024 nodes.
+fn plain_up_to_1024(
+    ws: &[u16; 98304],
+    val: &[i32; 32768],
+    cw: &[u16; 65536],
+    bw: &[u16; 20480],
+    counts: Counts,
+) -> bool
+    requires { ⌜ (counts .nodes ≤ 1024) × KeptBy counts ⌝ }
+    ensures { λ r. ⌜ (r ≡ true → Plain (memoryBy (now (ws .entry)) (now (val .entry)) (now (cw .entry)) (now (bw .entry)) counts)) ⌝ }
+{
+    let mut table = [0u32; 1024];
+    measure_trees(ws, val, &mut table, index_of(counts.nodes));
+    plain_by(&table, cw, bw, counts)
+}
+
+// With a table for any script.
+fn plain_any(
+    ws: &[u16; 98304],
+    val: &[i32; 32768],
+    cw: &[u16; 65536],
+    bw: &[u16; 20480],
+    counts: Counts,
+) -> bool
+    requires { ⌜ KeptBy counts ⌝ }
+    ensures { λ r. ⌜ (r ≡ true → Plain (memoryBy (now (ws .entry)) (now (val .entry)) (now (cw .entry)) (now (bw .entry)) counts)) ⌝ }
+{
+    let mut table = [0u32; 32768];
+    measure_trees(ws, val, &mut table, index_of(counts.nodes));
+    plain_by(&table, cw, bw, counts)
+}
+
+// True says that the record is judged fine, false says nothing.
+pub fn is_plain(
+    ws: &[u16; 98304],
+    val: &[i32; 32768],
+    cw: &[u16; 65536],
+    bw: &[u16; 20480],
+    counts: Counts,
+) -> bool
+    ensures { λ r. ⌜ (r ≡ true → Plain (memoryIn (now (ws .entry)) (now (val .entry)) (now (cw .entry)) (now (bw .entry)) (counts .nodes) (counts .commands) (counts .blocks))) ⌝ }
+{
+    if counts.blocks > 4096 {
+        return false;
+    }
+    if counts.commands > 16384 {
+        return false;
+    }
+    if counts.nodes > 32768 {
+        return false;
+    }
+    if counts.nodes > 1024 {
+        return plain_any(ws, val, cw, bw, counts);
+    }
+    if counts.nodes > 64 {
+        return plain_up_to_1024(ws, val, cw, bw, counts);
+    }
+    plain_up_to_64(ws, val, cw, bw, counts)
 }

@@ -1,5 +1,4 @@
 -- `plain::block_commands` meets its contract. Assumes nothing.
-use native.Mathlib.Omega.{arith}
 use Rattle.plain.specs.Blocks.{held-code}
 use borrow.Author.Needs.{needs}
 use Rattle.plain.proofs.block_commands.Statement.{statement}
@@ -14,23 +13,23 @@ mul-if1-2 c = search needs
 element-copy-out-if1 : tie.Need-element-copy-out-if1
 element-copy-out-if1 c = search needs
 
-mul-index-of : tie.Need-mul-index-of
-mul-index-of c = search needs
+mul-element : tie.Need-mul-element
+mul-element c = search needs
 
-add-index-of : tie.Need-add-index-of
-add-index-of c = search needs
+add-element : tie.Need-add-element
+add-element c = search needs
 
-mul-index-of-2 : tie.Need-mul-index-of-2
-mul-index-of-2 c = search needs
+mul-element-2 : tie.Need-mul-element-2
+mul-element-2 c = search needs
 
-element-copy-out-index-of : tie.Need-element-copy-out-index-of
-element-copy-out-index-of c = search needs
+element-copy-out-element : tie.Need-element-copy-out-element
+element-copy-out-element c = search needs
 
-index-of-requires : tie.Need-index-of-requires
-index-of-requires c κs = search needs
+element-requires : tie.Need-element-requires
+element-requires c κs = search needs
 
 returns : tie.Need-returns
-returns c = held-code _ _ _ (c .before .before .if1 .taken) (c .index-of .ensures) (omega (arith, c .index-of .ok))
+returns c = held-code _ _ _ (c .before .before .if1 .taken) (c .element .ensures .0) (c .element .ensures .1)
 
 returns-2 : tie.Need-returns-2
 returns-2 c = search needs
@@ -42,10 +41,10 @@ block-commands-spec =
     mul-if1
     mul-if1-2
     element-copy-out-if1
-    mul-index-of
-    add-index-of
-    mul-index-of-2
-    element-copy-out-index-of
-    index-of-requires
+    mul-element
+    add-element
+    mul-element-2
+    element-copy-out-element
+    element-requires
     returns
     returns-2)
