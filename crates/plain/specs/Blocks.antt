@@ -34,22 +34,21 @@ module _ (t cw bw : List ℕ) (k : Counts) (K : KeptBy k) (i : ℕ) where
   pub code-past : CodeCount t cw bw k i 40000
   code-past = let kn = K .nodes in record { few = omega arith; reads = λ ws vs T n m at room more. absurd (omega arith) }
 
-  module _ {r : ℕ} (C : CommandsCount t cw k (getD bw (5 * i + 1) 0) (getD bw (5 * i + 2) 0) r) (fit : getD bw (5 * i + 2) 0 ≤ k .commands)
-      (next : getD bw (5 * i + 3) 0 ≤ k .blocks) (else : getD bw (5 * i + 4) 0 ≤ k .blocks) where
-    pub code-count : CodeCount t cw bw k i r
-    code-count =
-        let kc = K .commands in
-        let held = getD bw (5 * i + 2) 0 in
-        record {
-          few = omega (arith, C .few);
-          reads = λ ws vs T n m at room more.
+  pub code-count : {f h r : ℕ} → CommandsCount t cw k f h r → f ≡ getD bw (5 * i + 1) 0 → h ≡ getD bw (5 * i + 2) 0 → h ≤ k .commands → getD bw (5 * i + 3) 0 ≤ k .blocks → getD bw (5 * i + 4) 0 ≤ k .blocks → CodeCount t cw bw k i r
+  code-count {f} {h} {r} D ef eh fit next else =
+      let kc = K .commands in
+      let held = getD bw (5 * i + 2) 0 in
+      let C : CommandsCount t cw k (getD bw (5 * i + 1) 0) held r = rw (ef, eh) at D in
+      record {
+        few = omega (arith, C .few);
+        reads = λ ws vs T n m at room more.
             let len = length (word held) in
             let P = C .reads ws vs T n (at + len) room in
             let A = link-told (getD bw (5 * i + 3) 0) (n + r) (P .to) next in
             let B = link-told (getD bw (5 * i + 4) 0) (n + r) (P .to + length (word (getD bw (5 * i + 3) 0))) else in
             let L = links-told (k .blocks) (getD bw (5 * i + 3) 0) (getD bw (5 * i + 4) 0) (n + r) (P .to) A refl B in
             stands (code-told (limitsBy k) (memoryBy ws vs cw bw k) i n m at len (short-word held len (omega arith) refl) more (P .told) refl L refl) refl refl;
-        }
+      }
 
   -- ---- a block, by its kind
 
@@ -60,25 +59,25 @@ module _ (t cw bw : List ℕ) (k : Counts) (K : KeptBy k) (i : ℕ) where
   count-placeholder e = record {
     few = omega arith;
     reads = λ ws vs T n m h at H room more.
-      let z : h ≡ 0 = H .none (λ o. omega arith) in
-      stands (block-placeholder (limitsBy k) (memoryBy ws vs cw bw k) i n m at e (omega arith) (omega arith)) (omega arith) (omega arith);
+        let z : h ≡ 0 = H .none (λ o. omega arith) in
+        stands (block-placeholder (limitsBy k) (memoryBy ws vs cw bw k) i n m at e (omega arith) (omega arith)) (omega arith) (omega arith);
   }
 
   pub count-data : getD bw (5 * i) 0 ≡ 2 → BlockCount t cw bw k i 0
   count-data e = record {
     few = omega arith;
     reads = λ ws vs T n m h at H room more.
-      let z : h ≡ 0 = H .none (λ o. omega arith) in
-      stands (block-data (limitsBy k) (memoryBy ws vs cw bw k) i n m at e (omega arith) (omega arith)) (omega arith) (omega arith);
+        let z : h ≡ 0 = H .none (λ o. omega arith) in
+        stands (block-data (limitsBy k) (memoryBy ws vs cw bw k) i n m at e (omega arith) (omega arith)) (omega arith) (omega arith);
   }
 
   pub count-code : {r : ℕ} → getD bw (5 * i) 0 ≡ 1 → CodeCount t cw bw k i r → BlockCount t cw bw k i r
   count-code e C = record {
     few = C .few;
     reads = λ ws vs T n m h at H room more.
-      let z : h ≡ getD bw (5 * i + 2) 0 = H .code e in
-      let S = C .reads ws vs T n m (at + 1) room (omega arith) in
-      stands (block-code (limitsBy k) (memoryBy ws vs cw bw k) i n m at e (S .staged)) refl (omega arith);
+        let z : h ≡ getD bw (5 * i + 2) 0 = H .code e in
+        let S = C .reads ws vs T n m (at + 1) room (omega arith) in
+        stands (block-code (limitsBy k) (memoryBy ws vs cw bw k) i n m at e (S .staged)) refl (omega arith);
   }
 
 -- ---- the commands that a block holds

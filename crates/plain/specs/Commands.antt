@@ -57,17 +57,17 @@ module _ (t cw : List ℕ) (k : Counts) (K : KeptBy k) where
     set-both {a} {b} {r} e A B er = record {
       few = omega (arith, A .few, B .few);
       reads = λ ws vs T n at room.
-        let P = term-passes ws vs T A n (at + 1) (omega arith) in
-        let Q = term-passes ws vs T B (n + a) (P .to) (omega arith) in
-        passes (set-variable (limitsBy k) (codedBy ws vs cw k) i n at e (pair-told (limitsBy k) (nodesBy ws vs k) _ _ n (at + 1) (P .told) refl (Q .told))) (omega arith);
+          let P = term-passes ws vs T A n (at + 1) (omega arith) in
+          let Q = term-passes ws vs T B (n + a) (P .to) (omega arith) in
+          passes (set-variable (limitsBy k) (codedBy ws vs cw k) i n at e (pair-told (limitsBy k) (nodesBy ws vs k) _ _ n (at + 1) (P .told) refl (Q .told))) (omega arith);
     }
 
     pub set-value : {r : ℕ} → getD cw (4 * i + 3) 0 ≡ 1 → TermCount t (k .nodes) (getD cw (4 * i + 2) 0) r → TailCount t cw k i 2 r
     set-value e B = record {
       few = omega (arith, B .few);
       reads = λ ws vs T n at room.
-        let Q = term-passes ws vs T B n (at + 1) room in
-        passes (set-other (limitsBy k) (codedBy ws vs cw k) i n at e (Q .told)) refl;
+          let Q = term-passes ws vs T B n (at + 1) room in
+          passes (set-other (limitsBy k) (codedBy ws vs cw k) i n at e (Q .told)) refl;
     }
 
     pub set-past : TailCount t cw k i 2 40000
@@ -104,8 +104,8 @@ module _ (t cw : List ℕ) (k : Counts) (K : KeptBy k) where
         record {
           few = omega (arith, A .few, N .few);
           reads = λ ws vs T n at room.
-            let P = term-passes ws vs T A n at (omega arith) in
-            passes (if-told (limitsBy k) (codedBy ws vs cw k) i n at (P .told) refl (named-told N (omega arith) (n + a) (P .to))) (omega (arith, N .none (omega arith)));
+              let P = term-passes ws vs T A n at (omega arith) in
+              passes (if-told (limitsBy k) (codedBy ws vs cw k) i n at (P .told) refl (named-told N (omega arith) (n + a) (P .to))) (omega (arith, N .none (omega arith)));
         }
 
     -- ---- a command, by its code
@@ -116,9 +116,9 @@ module _ (t cw : List ℕ) (k : Counts) (K : KeptBy k) where
       coded {c} {r} e lt C = record {
         few = C .few;
         reads = λ ws vs T n at room.
-          let P = C .reads ws vs T n (at + 1) room in
-          let p : Told (commandOf (limitsBy k) n (getD cw (4 * i) 0)) commandNodes (commandTail (codedBy ws vs cw k) i (getD cw (4 * i) 0)) (k .nodes) 3 n (at + 1) (Fine (n + r) (P .to)) = rw e (P .told) in
-          passes (command-told (limitsBy k) (codedBy ws vs cw k) i n at there (omega arith) p) refl;
+            let P = C .reads ws vs T n (at + 1) room in
+            let p : Told (commandOf (limitsBy k) n (getD cw (4 * i) 0)) commandNodes (commandTail (codedBy ws vs cw k) i (getD cw (4 * i) 0)) (k .nodes) 3 n (at + 1) (Fine (n + r) (P .to)) = rw e (P .told) in
+            passes (command-told (limitsBy k) (codedBy ws vs cw k) i n at there (omega arith) p) refl;
       }
 
     pub command-past : CommandCount t cw k i 40000
@@ -141,24 +141,24 @@ module _ (t cw : List ℕ) (k : Counts) (h first : ℕ) where
   count-start = record {
     few = omega arith;
     walks = λ ws vs T n at room.
-      let z : n + 0 ≡ n = omega arith in
-      record { to = at; walked = rw z (walk-start (limitsBy k) (codedBy ws vs cw k) h first n at (omega arith)) };
+        let z : n + 0 ≡ n = omega arith in
+        record { to = at; walked = rw z (walk-start (limitsBy k) (codedBy ws vs cw k) h first n at (omega arith)) };
   }
 
   pub count-next : {i r c : ℕ} → WalkCount t cw k h first i r → i < h → CommandCount t cw k (first + i) c → WalkCount t cw k h first (i + 1) (r + c)
   count-next {i} {r} {c} W lt C = record {
     few = omega (arith, W .few, C .few);
     walks = λ ws vs T n at room.
-      let w = W .walks ws vs T n at (omega arith) in
-      let q = C .reads ws vs T (n + r) (w .to) (omega arith) in
-      let z : n + (r + c) ≡ (n + r) + c = omega arith in
-      record { to = q .to; walked = rw z (walk-next (limitsBy k) (codedBy ws vs cw k) h first n at (w .walked) lt refl (q .told) refl) };
+        let w = W .walks ws vs T n at (omega arith) in
+        let q = C .reads ws vs T (n + r) (w .to) (omega arith) in
+        let z : n + (r + c) ≡ (n + r) + c = omega arith in
+        record { to = q .to; walked = rw z (walk-next (limitsBy k) (codedBy ws vs cw k) h first n at (w .walked) lt refl (q .told) refl) };
   }
 
   pub count-done : {i r : ℕ} → WalkCount t cw k h first i r → h ≤ i → i ≤ h → CommandsCount t cw k first h r
   count-done {i} {r} W ge le = record {
     few = omega (arith, W .few);
     reads = λ ws vs T n at room.
-      let w = W .walks ws vs T n at room in
-      passes (walk-done (limitsBy k) (codedBy ws vs cw k) h first n at (w .walked) ge le) refl;
+        let w = W .walks ws vs T n at room in
+        passes (walk-done (limitsBy k) (codedBy ws vs cw k) h first n at (w .walked) ge le) refl;
   }

@@ -1,8 +1,10 @@
 -- A record whose blocks all have room is judged fine. Assumes nothing.
-use mathlib.Core.Path.{_≡_, refl}
+use mathlib.Core.Path.{_≡_, refl, sym, subst}
+use mathlib.Core.Bool.{true, false}
 use mathlib.Core.List.{List}
 use Prim.Native.Nat.{ℕ, _+_, _*_, _≤_, _<_}
 use native.Mathlib.Omega.{arith}
+use lib.Dec.{T as Holds}
 use lib.IntN.{ℤ}
 use lib.ListN.{length}
 use Rattle.memory.specs.declared.Counts.{Counts}
@@ -26,6 +28,10 @@ pub record PassCount (t cw bw : List ℕ) (k : Counts) (i n m : ℕ) : Type 0 wh
   pub held : m ≤ 65536 * i
   pub passes : (ws : List ℕ) (vs : List ℤ) → Trees ws vs t (k .nodes) → n ≤ k .nodes → m ≤ k .commands → Passage (memoryBy ws vs cw bw k) i n m
 
+-- an answer of false says nothing
+pub never : {A : Type 0} → false ≡ true → A
+never e = absurd (subst Holds (sym e) tt)
+
 accepted : (me : Memory) {to : ℕ} → JudgedAs me (Fine to) → Accepted me to
 unfolding JudgedAs
 accepted me j = j
@@ -36,9 +42,9 @@ module _ (t cw bw : List ℕ) (k : Counts) (K : KeptBy k) where
     few = omega arith;
     held = omega arith;
     passes = λ ws vs T few room.
-      let b = k .blocks in
-      let kb = K .blocks in
-      record { to = length (word b); passing = pass-start (memoryBy ws vs cw bw k) K (length (word b)) (short-word b (length (word b)) (omega arith) refl) };
+        let b = k .blocks in
+        let kb = K .blocks in
+        record { to = length (word b); passing = pass-start (memoryBy ws vs cw bw k) K (length (word b)) (short-word b (length (word b)) (omega arith) refl) };
   }
 
   pub pass-more : {i n m r h : ℕ} → PassCount t cw bw k i n m → i < k .blocks → BlockCount t cw bw k i r → Held bw i h → PassCount t cw bw k (i + 1) (n + r) (m + h)
@@ -46,9 +52,9 @@ module _ (t cw bw : List ℕ) (k : Counts) (K : KeptBy k) where
     few = omega (arith, P .few, C .few);
     held = omega (arith, P .held, H .few);
     passes = λ ws vs T few room.
-      let p = P .passes ws vs T (omega arith) (omega arith) in
-      let q = C .reads ws vs T n m h (p .to) H few room in
-      record { to = q .to; passing = pass-next (memoryBy ws vs cw bw k) K (p .passing) lt (q .staged) refl };
+        let p = P .passes ws vs T (omega arith) (omega arith) in
+        let q = C .reads ws vs T n m h (p .to) H few room in
+        record { to = q .to; passing = pass-next (memoryBy ws vs cw bw k) K (p .passing) lt (q .staged) refl };
   }
 
   pub pass-plain : {i n m : ℕ} → PassCount t cw bw k i n m → k .blocks ≤ i → n ≤ k .nodes → m ≤ k .commands → (ws : List ℕ) (vs : List ℤ) → Trees ws vs t (k .nodes) → Plain (memoryBy ws vs cw bw k)
