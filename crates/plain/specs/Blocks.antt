@@ -7,17 +7,17 @@ use lib.IntN.{ℤ}
 use lib.ListN.{length, getD}
 use Rattle.memory.specs.declared.Counts.{Counts}
 use Rattle.model.specs.Reading.{Answer, word}
-use Rattle.model.specs.Script.{Block}
-use Rattle.model.specs.Image.{readLink, readBlock}
+use Rattle.model.specs.Script.{Block, commandsNodes}
+use Rattle.model.specs.Image.{readLink, readCommands, blockOf}
+use Rattle.model.specs.Record.{commandsImageIn, blockTail}
 use Rattle.terms.specs.Told.{Told, limitsBy}
 use Rattle.terms.specs.Numbers.{short-word}
 use Rattle.terms.specs.declared.Step.the-variants.{Fine}
-use Rattle.judge.specs.Stages.{memoryBy, KeptBy, uncounted, readLinks, Staged, blockImageIn}
+use Rattle.judge.specs.Stages.{codedBy, memoryBy, KeptBy, uncounted, readLinks, Staged}
 use Rattle.judge.specs.Links.{link-there}
 use Rattle.judge.specs.Blocks.{links-told, code-told, block-placeholder, block-data, block-code}
 use Rattle.judge.specs.declared.Stage.the-variants.{Fine as Passed}
-use Rattle.trees.specs.Trees.{Trees}
-use Rattle.plain.specs.Counted.{Passes, Stands, CommandsCount, CodeCount, Held, BlockCount}
+use Rattle.plain.specs.Counted.{Stands, CommandsCount, CodeCount, Held, BlockCount}
 
 -- the nodes and commands that a stage says are those counted before, and r and h more
 stands : {f : List ℕ → Answer Block} {w : List ℕ} {l c x n m at n′ m′ to r h : ℕ} → Staged f w l c x n m at (Passed n′ m′ to) → n′ ≡ n + r → m′ ≡ m + h → Stands f w l c x n m at r h
@@ -34,21 +34,29 @@ module _ (t cw bw : List ℕ) (k : Counts) (K : KeptBy k) (i : ℕ) where
   pub code-past : CodeCount t cw bw k i 40000
   code-past = let kn = K .nodes in record { few = omega arith; reads = λ ws vs T n m at room more. absurd (omega arith) }
 
+  links-fine : (x y n at : ℕ) → x ≤ k .blocks → y ≤ k .blocks → Told (readLinks (k .blocks)) uncounted (word x ++ word y) n 6 n at (Fine n ((at + length (word x)) + length (word y)))
+  links-fine x y n at next else = links-told (k .blocks) x y n at (link-told x n at next) refl (link-told y n (at + length (word x)) else)
+
+  module _ (held : getD bw (5 * i + 2) 0 ≤ k .commands) (next : getD bw (5 * i + 3) 0 ≤ k .blocks) (else : getD bw (5 * i + 4) 0 ≤ k .blocks) where
+    code-read : (ws : List ℕ) (vs : List ℤ) (n m at r to : ℕ) → m + getD bw (5 * i + 2) 0 ≤ k .commands
+        → Told (readCommands (limitsBy k) (getD bw (5 * i + 2) 0) n) commandsNodes (commandsImageIn (codedBy ws vs cw k) (getD bw (5 * i + 2) 0) (getD bw (5 * i + 1) 0)) (k .nodes) (4 * getD bw (5 * i + 2) 0) n (at + length (word (getD bw (5 * i + 2) 0))) (Fine (n + r) to)
+        → Stands (blockOf (limitsBy k) m n 1) (blockTail (memoryBy ws vs cw bw k) i 1) (k .nodes) (k .commands) 9 n m at r (getD bw (5 * i + 2) 0)
+    code-read ws vs n m at r to more P =
+        let kc = K .commands in
+        stands (code-told (limitsBy k) (memoryBy ws vs cw bw k) i n m at _ (short-word (getD bw (5 * i + 2) 0) _ (omega arith) refl) more P refl (links-fine (getD bw (5 * i + 3) 0) (getD bw (5 * i + 4) 0) (n + r) to next else) refl) refl refl
+
+    code-fine : {r : ℕ} → CommandsCount t cw k (getD bw (5 * i + 1) 0) (getD bw (5 * i + 2) 0) r → CodeCount t cw bw k i r
+    code-fine {r} C =
+        let kc = K .commands in
+        record {
+          few = omega (arith, C .few);
+          reads = λ ws vs T n m at room more.
+              let P = C .reads ws vs T n (at + length (word (getD bw (5 * i + 2) 0))) room in
+              code-read ws vs n m at r (P .to) more (P .told);
+        }
+
   pub code-count : {f h r : ℕ} → CommandsCount t cw k f h r → f ≡ getD bw (5 * i + 1) 0 → h ≡ getD bw (5 * i + 2) 0 → h ≤ k .commands → getD bw (5 * i + 3) 0 ≤ k .blocks → getD bw (5 * i + 4) 0 ≤ k .blocks → CodeCount t cw bw k i r
-  code-count {f} {h} {r} D ef eh fit next else =
-      let kc = K .commands in
-      let held = getD bw (5 * i + 2) 0 in
-      let C : CommandsCount t cw k (getD bw (5 * i + 1) 0) held r = rw (ef, eh) at D in
-      record {
-        few = omega (arith, C .few);
-        reads = λ ws vs T n m at room more.
-            let len = length (word held) in
-            let P = C .reads ws vs T n (at + len) room in
-            let A = link-told (getD bw (5 * i + 3) 0) (n + r) (P .to) next in
-            let B = link-told (getD bw (5 * i + 4) 0) (n + r) (P .to + length (word (getD bw (5 * i + 3) 0))) else in
-            let L = links-told (k .blocks) (getD bw (5 * i + 3) 0) (getD bw (5 * i + 4) 0) (n + r) (P .to) A refl B in
-            stands (code-told (limitsBy k) (memoryBy ws vs cw bw k) i n m at len (short-word held len (omega arith) refl) more (P .told) refl L refl) refl refl;
-      }
+  code-count C ef eh fit next else = code-fine (omega arith) next else (rw (ef, eh) at C)
 
   -- ---- a block, by its kind
 

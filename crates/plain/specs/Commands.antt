@@ -8,10 +8,9 @@ use lib.ListN.{length, getD}
 use Rattle.memory.specs.declared.Counts.{Counts}
 use Rattle.model.specs.Expr.{size}
 use Rattle.model.specs.Reading.{Answer, word}
-use Rattle.model.specs.Script.{commandNodes, commandsNodes}
-use Rattle.model.specs.Image.{readTerm, readBlockNo, commandOf, readCommand}
-use Rattle.model.specs.Memory.{commandWord}
-use Rattle.model.specs.Record.{rootImage, commandTail, commandImageIn}
+use Rattle.model.specs.Script.{commandNodes}
+use Rattle.model.specs.Image.{readTerm, readBlockNo, commandOf}
+use Rattle.model.specs.Record.{rootImage, commandTail}
 use Rattle.terms.specs.Told.{Told, limitsBy, nodesBy}
 use Rattle.terms.specs.Numbers.{short-word}
 use Rattle.terms.specs.Nodes.{term-told}
@@ -20,7 +19,7 @@ use Rattle.judge.specs.Stages.{codedBy, KeptBy, uncounted}
 use Rattle.judge.specs.Links.{block-there}
 use Rattle.judge.specs.Commands.{pair-told, set-variable, set-other, if-told, tail-return, tail-goto, tail-endIf, tail-other, command-told}
 use Rattle.judge.specs.CommandList.{Walked, walk-start, walk-next, walk-done}
-use Rattle.trees.specs.Trees.{nodesOf, Trees, Reads, root-reads}
+use Rattle.trees.specs.Trees.{nodesOf, Trees, root-reads}
 use Rattle.plain.specs.Counted.{Passes, TermCount, Named, TailCount, CommandCount, CommandsCount}
 
 -- the nodes that a step says are those counted before and r more
