@@ -14,6 +14,7 @@ use judge::Judged;
 use judge::judge_record;
 use memory::Counts;
 use model::BlockNo;
+use plain::is_plain;
 use shop::Sheet;
 use shop::check_sheet;
 
@@ -124,7 +125,7 @@ fn check_setup(bw: &[u16; 20480], blocks: u16, start: BlockNo) -> u8
 
 // ---- the call
 
-// Checks 1, 2 to 5, 6 and 7, in this order: the number of the first that refuses, or 0.
+// Checks 1, 2 to 5, 6 and 7, in this order: the number of the first that refuses, or 0. Most records are plainly fine; the others are judged.
 pub fn check_call(
     attached: &[u8],
     sheet: Sheet,
@@ -139,6 +140,9 @@ pub fn check_call(
 {
     if !check_sheet(attached, sheet) {
         return 1;
+    }
+    if is_plain(ws, val, cw, bw, counts) {
+        return check_setup(bw, counts.blocks, start);
     }
     let j = judge_record(ws, val, cw, bw, counts);
     match j {

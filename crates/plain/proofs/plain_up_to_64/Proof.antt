@@ -1,0 +1,33 @@
+-- `plain::plain_up_to_64` meets its contract: the table is filled for as many nodes as the script keeps. Assumes nothing.
+use borrow.Author.Needs.{needs}
+use Rattle.plain.proofs.plain_up_to_64.Statement.{statement}
+use Rattle.plain.proofs.plain_up_to_64.Tie as tie
+
+slice-aggregate-measure-trees : tie.Need-slice-aggregate-measure-trees
+slice-aggregate-measure-trees c = search needs
+
+index-of-requires : tie.Need-index-of-requires
+index-of-requires c κs = search needs
+
+measure-trees-requires : tie.Need-measure-trees-requires
+measure-trees-requires c κs = search needs
+
+slice-aggregate-plain-by : tie.Need-slice-aggregate-plain-by
+slice-aggregate-plain-by c = search needs
+
+plain-by-requires : tie.Need-plain-by-requires
+plain-by-requires c κs = search needs
+
+returns : tie.Need-returns
+returns c = λ e. c .plain-by .ensures e _ _ (rw (c .before .before .before .before .index-of .ensures) at (c .before .before .before .measure-trees .ensures))
+
+pub plain-up-to-64-spec : {M : Type 1} → statement M
+plain-up-to-64-spec =
+    tie.close
+    (tie.spec
+    slice-aggregate-measure-trees
+    index-of-requires
+    measure-trees-requires
+    slice-aggregate-plain-by
+    plain-by-requires
+    returns)

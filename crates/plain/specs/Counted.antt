@@ -1,0 +1,88 @@
+-- What counting the nodes promises: where the sum has room, reading is fine and comes to it. Assumes nothing: these are definitions.
+use mathlib.Core.Path.{_≡_}
+use mathlib.Core.List.{List, []}
+use Prim.Native.Nat.{ℕ, _+_, _*_, _≤_, _<_}
+use lib.IntN.{ℤ}
+use lib.ListN.{length, getD}
+use Rattle.memory.specs.declared.Counts.{Counts}
+use Rattle.model.specs.Reading.{Answer, got}
+use Rattle.model.specs.Script.{Block, commandNodes, commandsNodes}
+use Rattle.model.specs.Image.{commandOf, readCommand, readCommands, blockOf, readBlock}
+use Rattle.model.specs.Memory.{Memory}
+use Rattle.model.specs.Record.{commandTail, commandImageIn, commandsImageIn, blockTail, judgedRecord}
+use Rattle.terms.specs.Told.{Told, limitsBy}
+use Rattle.terms.specs.declared.Step.the-variants.{Fine}
+use Rattle.judge.specs.Stages.{codedBy, memoryBy, KeptBy, Staged, blockImageIn}
+use Rattle.judge.specs.declared.Stage.the-variants.{Fine as Passed}
+use Rattle.trees.specs.Trees.{Trees, Reads}
+
+-- ---- what callers have to bring
+
+-- kept counts within their limits, and a table with a word for each node
+pub record Ready (k : Counts) (t : List ℕ) : Type 0 where
+  pub kept : KeptBy k
+  pub long : k .nodes ≤ length t
+
+-- ---- what they get
+
+-- f reads w fine, with r nodes on top of n; how many bytes that takes is not kept
+pub record Passes {A : Type 0} (f : List ℕ → Answer A) (size : A → ℕ) (w : List ℕ) (l x n at r : ℕ) : Type 0 where
+  pub to : ℕ
+  pub told : Told f size w l x n at (Fine (n + r) to)
+
+-- the same of a block, with h commands on top of m
+pub record Stands (f : List ℕ → Answer Block) (w : List ℕ) (l c x n m at r h : ℕ) : Type 0 where
+  pub to : ℕ
+  pub staged : Staged f w l c x n m at (Passed (n + r) (m + h) to)
+
+-- an expression whose root is node i
+pub record TermCount (t : List ℕ) (l i r : ℕ) : Type 0 where
+  pub few : r < 65536
+  pub reads : (ws : List ℕ) (vs : List ℤ) → Trees ws vs t l → (n at : ℕ) → n + r ≤ l → Reads ws vs l l i n at 0 r
+
+-- block k is there, or too many
+pub record Named (k b r : ℕ) : Type 0 where
+  pub few : r ≤ 40000
+  pub none : r ≤ 32768 → r ≡ 0
+  pub there : r ≤ 32768 → k < b
+
+-- what follows the code c of command i
+pub record TailCount (t cw : List ℕ) (k : Counts) (i c r : ℕ) : Type 0 where
+  pub few : r ≤ 131072
+  pub reads : (ws : List ℕ) (vs : List ℤ) → Trees ws vs t (k .nodes) → (n at : ℕ) → n + r ≤ k .nodes
+      → Passes (commandOf (limitsBy k) n c) commandNodes (commandTail (codedBy ws vs cw k) i c) (k .nodes) 3 n at r
+
+-- command i
+pub record CommandCount (t cw : List ℕ) (k : Counts) (i r : ℕ) : Type 0 where
+  pub few : r ≤ 131072
+  pub reads : (ws : List ℕ) (vs : List ℤ) → Trees ws vs t (k .nodes) → (n at : ℕ) → n + r ≤ k .nodes
+      → Passes (readCommand (limitsBy k) n) commandNodes (commandImageIn (codedBy ws vs cw k) i) (k .nodes) 4 n at r
+
+-- h commands from the first on
+pub record CommandsCount (t cw : List ℕ) (k : Counts) (first h r : ℕ) : Type 0 where
+  pub few : r ≤ 131072 * h
+  pub reads : (ws : List ℕ) (vs : List ℤ) → Trees ws vs t (k .nodes) → (n at : ℕ) → n + r ≤ k .nodes
+      → Passes (readCommands (limitsBy k) h n) commandsNodes (commandsImageIn (codedBy ws vs cw k) h first) (k .nodes) (4 * h) n at r
+
+-- what follows the kind of block i, which is code
+pub record CodeCount (t cw bw : List ℕ) (k : Counts) (i r : ℕ) : Type 0 where
+  pub few : r ≤ 2147483648
+  pub reads : (ws : List ℕ) (vs : List ℤ) → Trees ws vs t (k .nodes) → (n m at : ℕ) → n + r ≤ k .nodes → m + getD bw (5 * i + 2) 0 ≤ k .commands
+      → Stands (blockOf (limitsBy k) m n 1) (blockTail (memoryBy ws vs cw bw k) i 1) (k .nodes) (k .commands) 9 n m at r (getD bw (5 * i + 2) 0)
+
+-- the commands of block i: none where it is not code
+pub record Held (bw : List ℕ) (i h : ℕ) : Type 0 where
+  pub few : h < 65536
+  pub code : getD bw (5 * i) 0 ≡ 1 → h ≡ getD bw (5 * i + 2) 0
+  pub none : (getD bw (5 * i) 0 ≡ 1 → ⊥) → h ≡ 0
+
+-- block i
+pub record BlockCount (t cw bw : List ℕ) (k : Counts) (i r : ℕ) : Type 0 where
+  pub few : r ≤ 2147483648
+  pub reads : (ws : List ℕ) (vs : List ℤ) → Trees ws vs t (k .nodes) → (n m h at : ℕ) → Held bw i h → n + r ≤ k .nodes → m + h ≤ k .commands
+      → Stands (readBlock (limitsBy k) m n) (blockImageIn (memoryBy ws vs cw bw k) i) (k .nodes) (k .commands) 10 n m at r h
+
+-- a record that is judged fine
+pub record Plain (m : Memory) : Type 0 where
+  pub blocks : List Block
+  pub judged : judgedRecord m ≡ got blocks []

@@ -1,0 +1,5 @@
+-- The specifications of `plain` and the laws that carry them. Assumes nothing.
+pub mod Counted
+pub mod Commands
+pub mod Blocks
+pub mod Whole

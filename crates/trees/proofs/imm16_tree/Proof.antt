@@ -1,0 +1,18 @@
+-- `trees::imm16_tree` meets its contract, by its two tests. Assumes nothing.
+use mir.Facts.{toZ-ofZ}
+use Rattle.trees.specs.Words.{number-16}
+use borrow.Author.Needs.{needs}
+use Rattle.trees.proofs.imm16_tree.Statement.{statement}
+use Rattle.trees.proofs.imm16_tree.Tie as tie
+
+returns : tie.Need-returns
+returns c = search needs
+
+returns-2 : tie.Need-returns-2
+returns-2 c = search needs
+
+returns-3 : tie.Need-returns-3
+returns-3 c = number-16 _ (rw (toZ-ofZ (c .before .before .fits .z)) at (c .before .if1 .left)) (rw (toZ-ofZ (c .before .before .fits .z)) at (c .if2 .left))
+
+pub imm16-tree-spec : {M : Type 1} → statement M
+imm16-tree-spec = tie.close (tie.spec returns returns-2 returns-3)
