@@ -16,6 +16,9 @@ use memory::index_of;
 use trees::measure_trees;
 use trees::nodes_of;
 
+// More nodes than a script may have: what is not plainly fine counts so many.
+const TOO_MANY: usize = 40000;
+
 // An element as a number that is known to be one of 16 bits.
 fn element(x: u16) -> usize
     ensures { λ r. ⌜ (r ≡ x) × (r < 65536) ⌝ }
@@ -31,7 +34,7 @@ fn term_nodes(table: &[u32], nodes: u16, i: u16) -> usize
     if i < nodes {
         return nodes_of(table[index_of(i)]);
     }
-    40000
+    TOO_MANY
 }
 
 // Nothing where block k is there, or too many.
@@ -41,7 +44,7 @@ fn named_block(k: u16, blocks: u16) -> usize
     if k < blocks {
         return 0;
     }
-    40000
+    TOO_MANY
 }
 
 // What follows the code of a Set: target and value.
@@ -58,7 +61,7 @@ fn set_nodes(table: &[u32], cw: &[u16; 65536], counts: Counts, i: usize) -> usiz
     if target == 1 {
         return term_nodes(table, counts.nodes, cw[4 * i + 2]);
     }
-    40000
+    TOO_MANY
 }
 
 // What follows the code of an If: condition and else block.
@@ -84,7 +87,7 @@ fn command_nodes(table: &[u32], cw: &[u16; 65536], counts: Counts, i: usize) -> 
         3 => if_nodes(table, cw, counts, i),
         4 => named_block(cw[4 * i + 3], counts.blocks),
         5 => 0,
-        _ => 40000,
+        _ => TOO_MANY,
     }
 }
 
@@ -122,13 +125,13 @@ fn code_nodes(
     let first = element(bw[5 * i + 1]);
     let held = element(bw[5 * i + 2]);
     if index_of(counts.commands) < first + held {
-        return 40000;
+        return TOO_MANY;
     }
     if counts.blocks < bw[5 * i + 3] {
-        return 40000;
+        return TOO_MANY;
     }
     if counts.blocks < bw[5 * i + 4] {
-        return 40000;
+        return TOO_MANY;
     }
     commands_nodes(table, cw, counts, first, held)
 }
@@ -160,7 +163,7 @@ fn block_nodes(
         0 => 0,
         1 => code_nodes(table, cw, bw, counts, i),
         2 => 0,
-        _ => 40000,
+        _ => TOO_MANY,
     }
 }
 
