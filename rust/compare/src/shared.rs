@@ -105,13 +105,17 @@ fn words(a: &Arrays) -> [&[u16]; 3] {
     ]
 }
 
-/// A record of one If, whose condition is the highest of so many nodes, each `code` over the one below it.
+/// A record of one If, whose condition is the highest of so many nodes, each `code` over the one below it on both sides.
 fn tower(code: u16, nodes: usize, kept: usize) -> Arrays {
+    stacked(nodes, kept, |below| [code, below, below])
+}
+
+/// A record of one If, whose condition is the highest of so many nodes, each with the words that `over` gives it over the one below.
+fn stacked(nodes: usize, kept: usize, over: impl Fn(u16) -> [u16; 3]) -> Arrays {
     let mut a = Arrays::default();
     a.ws[0] = 11;
     for i in 1..nodes {
-        let below = i as u16 - 1;
-        a.ws[3 * i..][..3].copy_from_slice(&[code, below, below]);
+        a.ws[3 * i..][..3].copy_from_slice(&over(i as u16 - 1));
     }
     a.cw[..4].copy_from_slice(&[3, nodes as u16 - 1, 0, 0]);
     a.bw[..5].copy_from_slice(&[1, 0, 1, 1, 0]);
@@ -119,11 +123,13 @@ fn tower(code: u16, nodes: usize, kept: usize) -> Arrays {
     a
 }
 
-/// Towers of Not around the depth of 64, and of And over one shared operand, whose trees double with
-/// each level, around the kept count and up to 2 to the 32nd.
+/// Towers of Not around the depth of 64, of And that lean to one side, and of And over one shared operand, whose trees double
+/// with each level, around the kept count and up to 2 to the 32nd.
 pub fn limits(tally: &mut Tally, random: &mut Random) {
     for nodes in 62..=67 {
         check(tally, random, tower(6, nodes, nodes));
+        check(tally, random, stacked(nodes, 2 * nodes, |below| [9, below, 0]));
+        check(tally, random, stacked(nodes, 2 * nodes, |below| [9, 0, below]));
     }
     for levels in 1..=15 {
         let whole = (1 << levels) - 1;
