@@ -95,8 +95,8 @@ fn write(case: &Case) {
     );
 }
 
-/// A run that only its budget ends, so that its checks take no part. How fast it is depends on where its arrays lie, on both
-/// sides: it is timed in several places, of which the one with the median ratio is kept.
+/// A run that only its budget ends, so that its checks take no part. It is timed with its arrays in several places, and so at
+/// several times, of which the one with the median ratio is kept.
 fn long_run() {
     let mut placed: Vec<[Times; 2]> = (0..PLACES).map(placed_run).collect();
     placed.sort_by(|a, b| ratio(a).total_cmp(&ratio(b)));
@@ -110,14 +110,14 @@ fn ratio([ours, theirs]: &[Times; 2]) -> f64 {
     ours.best / theirs.best
 }
 
-/// The same run with its arrays in another place.
+/// The same run with its arrays in another place: those of the runs before stay where they are.
 fn placed_run(place: usize) -> [Times; 2] {
     std::mem::forget(vec![1u8; 700 * place + 16]);
     let (plain_sheet, plain) = cases::endless();
     let sheet = convert::sheet(&plain_sheet);
     let script = Script::read(&image::write(&plain)).expect("it is a script");
     let save = || cases::save(&plain_sheet);
-    by_turns(
+    let times = by_turns(
         1,
         save,
         |save| {
@@ -128,7 +128,9 @@ fn placed_run(place: usize) -> [Times; 2] {
             let a = script.arrays();
             black_box(interpret::run(&plain_sheet, a, 0, save, black_box(100_000)));
         },
-    )
+    );
+    std::mem::forget(script);
+    times
 }
 
 fn run(case: &Case) {
