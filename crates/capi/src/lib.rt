@@ -15,7 +15,7 @@ ghost use Rattle.compile.specs.Answer.{callOf, CompiledAs};
 ghost use Rattle.parse.specs.Answer.{answerOf};
 ghost use Rattle.preview.specs.Shown.{previewedOf};
 ghost use Rattle.capi.specs.Answers.{sheetBy, readAs, ranAs, previewedAs};
-use compile::compile;
+use compile::compile_arrays;
 use image_read::Image;
 use image_read::read_script;
 use image_write::write_script;
@@ -207,8 +207,7 @@ pub extern "C" fn lk_compile(
         commands: commands,
         blocks: blocks,
     };
-    let shop = shop_from(items, limits, codes, lens);
-    let r = compile(
+    let r = compile_arrays(
         attached,
         sheet,
         ws,
@@ -217,7 +216,10 @@ pub extern "C" fn lk_compile(
         bw,
         counts,
         BlockNo(setup),
-        shop,
+        items,
+        limits,
+        codes,
+        lens,
     );
     let k = r.counts;
     Kept {

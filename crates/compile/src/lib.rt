@@ -2,6 +2,7 @@
 ghost use mathlib.Core.Path.{_≡_};
 ghost use Rattle.model.specs.RecordCalls.{compileRefusalIn};
 ghost use Rattle.shop.specs.Shapes.{sheetOf};
+ghost use Rattle.shop_arrays.specs.Arrays.{arraysIn, shopFrom};
 ghost use Rattle.emit.specs.Put.{memoryOf};
 ghost use Rattle.compile.specs.Answer.{callOf, CompiledAs};
 use checks::check_call;
@@ -11,7 +12,8 @@ use memory::set_block;
 use model::BlockNo;
 use shop::Sheet;
 use shop::Shop;
-use shop::check_shop;
+use shop_arrays::arrays_of;
+use shop_arrays::check_arrays;
 use sizes::fits;
 
 // The refusal or 0, and the counts of the script after the call.
@@ -30,24 +32,84 @@ fn check_compile(
     bw: &[u16; 20480],
     counts: Counts,
     setup: BlockNo,
-    shop: Shop,
+    items: &[i32; 20],
+    limits: &[i16; 20],
+    codes: &[u64; 640],
+    lens: &[u8; 20],
 ) -> u8
-    ensures { λ r. ⌜ r ≡ compileRefusalIn (sheetOf (now (attached .entry)) sheet) (memoryOf (now (ws .entry)) (now (val .entry)) (now (cw .entry)) (now (bw .entry)) counts) (callOf (setup .0) shop) ⌝ }
+    ensures { λ r. ⌜ r ≡ compileRefusalIn (sheetOf (now (attached .entry)) sheet) (memoryOf (now (ws .entry)) (now (val .entry)) (now (cw .entry)) (now (bw .entry)) counts) (callOf (setup .0) (shopFrom (arraysIn (now (items .entry)) (now (limits .entry)) (now (codes .entry)) (now (lens .entry))))) ⌝ }
 {
     let first = check_call(attached, sheet, ws, val, cw, bw, counts, setup);
     if first != 0 {
         return first;
     }
-    if !check_shop(attached, sheet, shop) {
+    if !check_arrays(attached, sheet, items, codes, lens) {
         return 8;
     }
-    if !fits(attached, sheet, counts, shop) {
+    if !fits(attached, sheet, counts, items, limits, codes, lens) {
         return 9;
     }
     0
 }
 
-// ShopCompiler::compile with replace: the blocks go to the end, the setup block becomes empty code whose next is the root, the block last pushed.
+// ShopCompiler::compile with replace, of the shop that the arrays stand for: the blocks go to the end, the setup block becomes empty code whose next is the root, the block last pushed.
+pub fn compile_arrays(
+    attached: &[u8],
+    sheet: Sheet,
+    ws: &mut [u16; 98304],
+    val: &mut [i32; 32768],
+    cw: &mut [u16; 65536],
+    bw: &mut [u16; 20480],
+    counts: Counts,
+    setup: BlockNo,
+    items: &[i32; 20],
+    limits: &[i16; 20],
+    codes: &[u64; 640],
+    lens: &[u8; 20],
+) -> Compiled
+    ensures { λ r. ⌜ CompiledAs (sheetOf (now (attached .entry)) sheet) (memoryOf (now (ws .entry)) (now (val .entry)) (now (cw .entry)) (now (bw .entry)) counts) (callOf (setup .0) (shopFrom (arraysIn (now (items .entry)) (now (limits .entry)) (now (codes .entry)) (now (lens .entry))))) (r .refusal) (memoryOf (now (ws .exit)) (now (val .exit)) (now (cw .exit)) (now (bw .exit)) (r .counts)) ⌝ }
+{
+    let refused = check_compile(
+        attached,
+        sheet,
+        ws,
+        val,
+        cw,
+        bw,
+        counts,
+        setup,
+        items,
+        limits,
+        codes,
+        lens,
+    );
+    if refused != 0 {
+        return Compiled {
+            refusal: refused,
+            counts: counts,
+        };
+    }
+    let after = compile_shop(
+        attached,
+        sheet,
+        ws,
+        val,
+        cw,
+        bw,
+        counts,
+        items,
+        limits,
+        codes,
+        lens,
+    );
+    set_block(bw, setup.0 as u16, 1, 0, 0, after.blocks, 0);
+    Compiled {
+        refusal: 0,
+        counts: after,
+    }
+}
+
+// The same of a shop as a value.
 pub fn compile(
     attached: &[u8],
     sheet: Sheet,
@@ -61,17 +123,23 @@ pub fn compile(
 ) -> Compiled
     ensures { λ r. ⌜ CompiledAs (sheetOf (now (attached .entry)) sheet) (memoryOf (now (ws .entry)) (now (val .entry)) (now (cw .entry)) (now (bw .entry)) counts) (callOf (setup .0) shop) (r .refusal) (memoryOf (now (ws .exit)) (now (val .exit)) (now (cw .exit)) (now (bw .exit)) (r .counts)) ⌝ }
 {
-    let refused = check_compile(attached, sheet, ws, val, cw, bw, counts, setup, shop);
-    if refused != 0 {
-        return Compiled {
-            refusal: refused,
-            counts: counts,
-        };
-    }
-    let after = compile_shop(attached, sheet, ws, val, cw, bw, counts, shop);
-    set_block(bw, setup.0 as u16, 1, 0, 0, after.blocks, 0);
-    Compiled {
-        refusal: 0,
-        counts: after,
-    }
+    let mut items = [-1; 20];
+    let mut limits = [0; 20];
+    let mut codes = [0; 640];
+    let mut lens = [0; 20];
+    arrays_of(shop, &mut items, &mut limits, &mut codes, &mut lens);
+    compile_arrays(
+        attached,
+        sheet,
+        ws,
+        val,
+        cw,
+        bw,
+        counts,
+        setup,
+        &items,
+        &limits,
+        &codes,
+        &lens,
+    )
 }

@@ -12,8 +12,10 @@ use Rattle.model.specs.Shop.{Slot, emptySlot}
 use Rattle.model.specs.Laws.Sound.{sum-append}
 use Rattle.model.specs.Compile.{slotBlocks, slotsBlocks, lastOf}
 use Rattle.shop.specs.declared.Slot as Given
-use Rattle.shop.specs.declared.Shop.{Shop}
-use Rattle.shop.specs.Shapes.{slotOf, slotsOf}
+use Rattle.shop.specs.Shapes.{slotOf, slotsOf, noSlot}
+use Rattle.shop_arrays.specs.Arrays as Arrays
+use Rattle.shop_arrays.specs.Arrays.{shopFrom}
+use Rattle.shop_arrays.specs.Slots.{slots-long, slot-in}
 use Rattle.memory.specs.Sound.{Room}
 use Rattle.emit.specs.Put.{PutBlocks}
 
@@ -88,34 +90,33 @@ mapped [] i d h = absurd (omega arith)
 mapped (x ∷ l) zero d h = refl
 mapped (x ∷ l) (suc i) d h = mapped l i d (omega arith)
 
-module _ (h : Model.Sheet) (s t : Memory) (shop : Shop) (i : ℕ) (d : Given.Slot)
-    (low : 0 < i) (high : i ≤ 20) (size : length (shop .slots) ≡ 20) (some : 0 < s .count)
-    (p : PutBlocks s (from h (s .count - 1) (slotsOf shop) i) t) where
-  all-slots : length (slotsOf shop) ≡ 20
+module _ (h : Model.Sheet) (s t : Memory) (a : Arrays.Arrays) (i : ℕ) (low : 0 < i) (high : i ≤ 20) (some : 0 < s .count)
+    (p : PutBlocks s (from h (s .count - 1) (slotsOf (shopFrom a)) i) t) where
+  all-slots : length (slotsOf (shopFrom a)) ≡ 20
   unfolding slotsOf
-  all-slots = length-map (shop .slots) slotOf ∙ size
+  all-slots = length-map (shopFrom a .slots) slotOf ∙ slots-long a
 
   before : suc (i - 1) ≡ i
   before = omega arith
 
-  q : PutBlocks s (from h (s .count - 1) (slotsOf shop) (suc (i - 1))) t
+  q : PutBlocks s (from h (s .count - 1) (slotsOf (shopFrom a)) (suc (i - 1))) t
   q = rw before p
 
   abbrev pub nextBlocks : List Block
-  nextBlocks = slotBlocks h (i - 1) (t .count - 1) (slotOf (getD (shop .slots) (i - 1) d))
+  nextBlocks = slotBlocks h (i - 1) (t .count - 1) (slotOf (Arrays.slotAt a (i - 1)))
 
-  next-same : slotAt h (s .count - 1) (slotsOf shop) (i - 1) ≡ nextBlocks
+  next-same : slotAt h (s .count - 1) (slotsOf (shopFrom a)) (i - 1) ≡ nextBlocks
   unfolding slotsOf
   next-same =
-      let e : s .count - 1 + length (from h (s .count - 1) (slotsOf shop) (suc (i - 1))) ≡ t .count - 1 = omega (arith, q .counted) in
-      rw (e, mapped (shop .slots) (i - 1) d (omega arith))
+      let e : s .count - 1 + length (from h (s .count - 1) (slotsOf (shopFrom a)) (suc (i - 1))) ≡ t .count - 1 = omega (arith, q .counted) in
+      rw (e, mapped (shopFrom a .slots) (i - 1) noSlot (omega (arith, slots-long a)), slot-in a (i - 1) noSlot (omega arith))
 
-  pub next-room : Room s (from h (s .count - 1) (slotsOf shop) 0) → Room t nextBlocks
-  next-room r = rw next-same at (slot-room h (s .count - 1) (slotsOf shop) s t (i - 1) (omega (arith, all-slots)) r q)
+  pub next-room : Room s (from h (s .count - 1) (slotsOf (shopFrom a)) 0) → Room t nextBlocks
+  next-room r = rw next-same at (slot-room h (s .count - 1) (slotsOf (shopFrom a)) s t (i - 1) (omega (arith, all-slots)) r q)
 
-  pub next-put : (u : Memory) → PutBlocks t nextBlocks u → PutBlocks s (from h (s .count - 1) (slotsOf shop) (i - 1)) u
-  next-put u r = slot-put h (s .count - 1) (slotsOf shop) s t u (i - 1) (omega (arith, all-slots)) q (rw next-same r)
+  pub next-put : (u : Memory) → PutBlocks t nextBlocks u → PutBlocks s (from h (s .count - 1) (slotsOf (shopFrom a)) (i - 1)) u
+  next-put u r = slot-put h (s .count - 1) (slotsOf (shopFrom a)) s t u (i - 1) (omega (arith, all-slots)) q (rw next-same r)
 
-pub none-yet : (h : Model.Sheet) (s : Memory) (shop : Shop) → length (shop .slots) ≡ 20 → PutBlocks s (from h (s .count - 1) (slotsOf shop) 20) s
+pub none-yet : (h : Model.Sheet) (s : Memory) (a : Arrays.Arrays) → PutBlocks s (from h (s .count - 1) (slotsOf (shopFrom a)) 20) s
 unfolding slotsOf
-none-yet h s shop size = rw (from-end h (s .count - 1) (map slotOf (shop .slots)) 20 (omega (arith, length-map (shop .slots) slotOf))) nothing-put
+none-yet h s a = rw (from-end h (s .count - 1) (map slotOf (shopFrom a .slots)) 20 (omega (arith, slots-long a, length-map (shopFrom a .slots) slotOf))) nothing-put

@@ -2,6 +2,7 @@
 ghost use mathlib.Core.Path.{_≡_};
 ghost use mathlib.Core.List.{[], _∷_};
 ghost use Prim.Native.Nat.{_+_, _-_, _≤_, _<_};
+ghost use Rattle.model.specs.Limits.{slotCount};
 ghost use Rattle.model.specs.Compile.{hideBlock, slotBlocks, slotsBlocks, shopBlocks};
 ghost use Rattle.memory.specs.Sound.{Room};
 ghost use Rattle.emit.specs.Put.{PutBlocks, memoryOf};
@@ -10,6 +11,7 @@ ghost use Rattle.compiler.specs.Parts.{itemBlock, enableOf, uniqueOf, li
 ghost use Rattle.compiler.specs.Context.{acquiredBy, Context};
 ghost use Rattle.shop.specs.Shapes.{atcAt, timerIs, sheetOf, slotOf, slotsOf};
 ghost use Rattle.shop.specs.Sets.{Exact, AllExact};
+ghost use Rattle.shop_arrays.specs.Arrays.{arraysIn, slotAt, shopFrom};
 use emit::Acquired;
 use emit::Value;
 use emit::push_if_acquired;
@@ -26,14 +28,13 @@ use model::ItemId;
 use model::Op1;
 use shop::ItemAtc;
 use shop::Sheet;
-use shop::Shop;
-use shop::Slot;
 use shop::SlotItem;
 use shop::Timer;
 use shop::atc_for;
 use shop::limit_of;
-use shop::sorted;
 use shop::timer_of;
+use shop_arrays::item_at;
+use shop_arrays::sort_row;
 
 const TIMER_5_RATE: u16 = 200;
 
@@ -324,7 +325,7 @@ fn item_context(
     }
 }
 
-// Compiles code for filling in slot at index. It ends at the block last pushed before it.
+// Compiles code for filling in slot i. It ends at the block last pushed before it.
 fn compile_slot(
     attached: &[u8],
     sheet: Sheet,
@@ -333,22 +334,26 @@ fn compile_slot(
     cw: &mut [u16; 65536],
     bw: &mut [u16; 20480],
     k: Counts,
-    slot: Slot,
-    index: u16,
+    items: &[i32; 20],
+    limits: &[i16; 20],
+    codes: &[u64; 640],
+    lens: &[u8; 20],
+    i: usize,
 ) -> Counts
-    requires { ⌜ Room (memoryOf (now ws) (now val) (now cw) (now bw) k) (slotBlocks (sheetOf (now attached) sheet) index (k .blocks - 1) (slotOf slot)) ⌝ }
-    requires { ⌜ Exact slot × (index < 20) × (0 < k .blocks) ⌝ }
-    ensures { λ m. ⌜ PutBlocks (memoryOf (now (ws .entry)) (now (val .entry)) (now (cw .entry)) (now (bw .entry)) k) (slotBlocks (sheetOf (now (attached .entry)) sheet) index (k .blocks - 1) (slotOf slot)) (memoryOf (now (ws .exit)) (now (val .exit)) (now (cw .exit)) (now (bw .exit)) m) ⌝ }
+    requires { ⌜ Room (memoryOf (now ws) (now val) (now cw) (now bw) k) (slotBlocks (sheetOf (now attached) sheet) i (k .blocks - 1) (slotOf (slotAt (arraysIn (now items) (now limits) (now codes) (now lens)) i))) ⌝ }
+    requires { ⌜ Exact (slotAt (arraysIn (now items) (now limits) (now codes) (now lens)) i) × (i < slotCount) × (0 < k .blocks) ⌝ }
+    ensures { λ m. ⌜ PutBlocks (memoryOf (now (ws .entry)) (now (val .entry)) (now (cw .entry)) (now (bw .entry)) k) (slotBlocks (sheetOf (now (attached .entry)) sheet) i (k .blocks - 1) (slotOf (slotAt (arraysIn (now (items .entry)) (now (limits .entry)) (now (codes .entry)) (now (lens .entry))) i))) (memoryOf (now (ws .exit)) (now (val .exit)) (now (cw .exit)) (now (bw .exit)) m) ⌝ }
 {
     let end = BlockNo((k.blocks - 1) as u32);
-    let item = slot.item;
+    let index = i as u16;
+    let item = item_at(items, i);
     match item {
         SlotItem::Nothing => compile_slot_hidden(ws, val, cw, bw, k, index, end),
         SlotItem::Of(w) => {
-            let reqs = sorted(slot);
-            let codes = reqs.codes;
-            let x = item_context(attached, sheet, slot.limit, w, index, end, reqs.len);
-            compile_slot_filled(ws, val, cw, bw, k, x, &codes)
+            let mut set = [0; 32];
+            let len = sort_row(codes, lens, i, &mut set);
+            let x = item_context(attached, sheet, limits[i], w, index, end, len);
+            compile_slot_filled(ws, val, cw, bw, k, x, &set)
         }
     }
 }
@@ -362,23 +367,38 @@ fn compile_slots(
     cw: &mut [u16; 65536],
     bw: &mut [u16; 20480],
     k: Counts,
-    shop: Shop,
+    items: &[i32; 20],
+    limits: &[i16; 20],
+    codes: &[u64; 640],
+    lens: &[u8; 20],
 ) -> Counts
-    requires { ⌜ Room (memoryOf (now ws) (now val) (now cw) (now bw) k) (slotsBlocks (sheetOf (now attached) sheet) (k .blocks - 1) 0 (slotsOf shop)) ⌝ }
-    requires { ⌜ AllExact shop × (0 < k .blocks) ⌝ }
-    ensures { λ m. ⌜ PutBlocks (memoryOf (now (ws .entry)) (now (val .entry)) (now (cw .entry)) (now (bw .entry)) k) (slotsBlocks (sheetOf (now (attached .entry)) sheet) (k .blocks - 1) 0 (slotsOf shop)) (memoryOf (now (ws .exit)) (now (val .exit)) (now (cw .exit)) (now (bw .exit)) m) ⌝ }
+    requires { ⌜ Room (memoryOf (now ws) (now val) (now cw) (now bw) k) (slotsBlocks (sheetOf (now attached) sheet) (k .blocks - 1) 0 (slotsOf (shopFrom (arraysIn (now items) (now limits) (now codes) (now lens))))) ⌝ }
+    requires { ⌜ AllExact (shopFrom (arraysIn (now items) (now limits) (now codes) (now lens))) × (0 < k .blocks) ⌝ }
+    ensures { λ m. ⌜ PutBlocks (memoryOf (now (ws .entry)) (now (val .entry)) (now (cw .entry)) (now (bw .entry)) k) (slotsBlocks (sheetOf (now (attached .entry)) sheet) (k .blocks - 1) 0 (slotsOf (shopFrom (arraysIn (now (items .entry)) (now (limits .entry)) (now (codes .entry)) (now (lens .entry)))))) (memoryOf (now (ws .exit)) (now (val .exit)) (now (cw .exit)) (now (bw .exit)) m) ⌝ }
 {
     let mut at = k;
     let mut i = 20;
     while 0 < i {
         i -= 1;
-        let slot = shop.slots[i];
-        at = compile_slot(attached, sheet, ws, val, cw, bw, at, slot, i as u16);
+        at = compile_slot(
+            attached,
+            sheet,
+            ws,
+            val,
+            cw,
+            bw,
+            at,
+            items,
+            limits,
+            codes,
+            lens,
+            i,
+        );
     }
     at
 }
 
-// ShopCompiler::compile: the Return block, then the slots; the root is the block last pushed.
+// ShopCompiler::compile of the shop that the arrays stand for: the Return block, then the slots; the root is the block last pushed.
 pub fn compile_shop(
     attached: &[u8],
     sheet: Sheet,
@@ -387,12 +407,27 @@ pub fn compile_shop(
     cw: &mut [u16; 65536],
     bw: &mut [u16; 20480],
     k: Counts,
-    shop: Shop,
+    items: &[i32; 20],
+    limits: &[i16; 20],
+    codes: &[u64; 640],
+    lens: &[u8; 20],
 ) -> Counts
-    requires { ⌜ Room (memoryOf (now ws) (now val) (now cw) (now bw) k) (shopBlocks (sheetOf (now attached) sheet) (k .blocks) (slotsOf shop)) ⌝ }
-    requires { ⌜ AllExact shop ⌝ }
-    ensures { λ m. ⌜ PutBlocks (memoryOf (now (ws .entry)) (now (val .entry)) (now (cw .entry)) (now (bw .entry)) k) (shopBlocks (sheetOf (now (attached .entry)) sheet) (k .blocks) (slotsOf shop)) (memoryOf (now (ws .exit)) (now (val .exit)) (now (cw .exit)) (now (bw .exit)) m) ⌝ }
+    requires { ⌜ Room (memoryOf (now ws) (now val) (now cw) (now bw) k) (shopBlocks (sheetOf (now attached) sheet) (k .blocks) (slotsOf (shopFrom (arraysIn (now items) (now limits) (now codes) (now lens))))) ⌝ }
+    requires { ⌜ AllExact (shopFrom (arraysIn (now items) (now limits) (now codes) (now lens))) ⌝ }
+    ensures { λ m. ⌜ PutBlocks (memoryOf (now (ws .entry)) (now (val .entry)) (now (cw .entry)) (now (bw .entry)) k) (shopBlocks (sheetOf (now (attached .entry)) sheet) (k .blocks) (slotsOf (shopFrom (arraysIn (now (items .entry)) (now (limits .entry)) (now (codes .entry)) (now (lens .entry)))))) (memoryOf (now (ws .exit)) (now (val .exit)) (now (cw .exit)) (now (bw .exit)) m) ⌝ }
 {
     let k1 = push_return(ws, val, cw, bw, k);
-    compile_slots(attached, sheet, ws, val, cw, bw, k1, shop)
+    compile_slots(
+        attached,
+        sheet,
+        ws,
+        val,
+        cw,
+        bw,
+        k1,
+        items,
+        limits,
+        codes,
+        lens,
+    )
 }

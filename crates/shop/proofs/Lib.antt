@@ -3,4 +3,3 @@ pub mod Limits
 pub mod Sheets
 pub mod Known
 pub mod Places
-pub mod Sorts

@@ -9,7 +9,7 @@ use lib.IntN.{ℤ, pos, negsuc}
 use Rattle.model.specs.Limits.{mostItems, wide, entryLimit, slotCount}
 use Rattle.model.specs.Requirement.{Requirement, haveItem, missingItem, haveAtc, missingAtc, haveFlag, missingFlag, kind, number}
 use Rattle.model.specs.Shop
-use Rattle.model.specs.Shop.{reqKnown}
+use Rattle.model.specs.Shop.{itemKnown, reqKnown}
 use Rattle.model.specs.Sheet
 use Rattle.model.specs.Sheet.{all}
 use Rattle.model.specs.Printer.{atcEntry}
@@ -64,9 +64,13 @@ itemOf (Of w) = some (w .0)
 unfoldable pub slotOf : Slot → Shop.Slot
 slotOf x = record { item = itemOf (x .item); limit = x .limit; requirements = map requirementOf (entries (x .len) (x .requirements)) }
 
--- what check 8 asks of the entries
-abbrev pub entriesOk : Sheet.Sheet → Shop.Slot → Bool
-entriesOk h x = leb (length (x .requirements)) entryLimit && all (reqKnown h) (x .requirements)
+-- what check 8 asks of the entries, by their codes
+abbrev pub entriesOk : Sheet.Sheet → List ℕ → Bool
+entriesOk h cs = leb (length (map requirementOf cs)) entryLimit && all (reqKnown h) (map requirementOf cs)
+
+-- .. and of a slot, by its item and the codes
+abbrev pub partsOk : Sheet.Sheet → SlotItem → List ℕ → Bool
+partsOk h o cs = itemKnown h (itemOf o) && entriesOk h cs
 
 unfoldable pub slotsOf : Shop → List Shop.Slot
 slotsOf s = map slotOf (s .slots)

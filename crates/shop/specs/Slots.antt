@@ -16,7 +16,7 @@ use Rattle.model.specs.Shop as Shops
 use Rattle.model.specs.Shop.{slotOk, itemKnown, reqKnown, emptySlot, padded, withSlots}
 use Rattle.model.specs.Printer.{atcEntry}
 use Rattle.model.specs.Laws.Checks.{and-left, and-right}
-use Rattle.shop.specs.Shapes.{sheetOf, atcAt, codeOf, idOf, ofKind, unshift, requirementOf, entries, itemOf, slotOf, slotsOf, noSlot, noShop, placed}
+use Rattle.shop.specs.Shapes.{sheetOf, atcAt, codeOf, idOf, ofKind, unshift, requirementOf, entries, itemOf, partsOk, slotOf, slotsOf, noSlot, noShop, placed}
 use Rattle.shop.specs.Sets.{Exact, AllExact}
 use Rattle.shop.specs.Codes.{AllNarrow, shift-unshift, codes-narrow}
 use Rattle.shop.specs.declared.Sheet.{Sheet}
@@ -77,6 +77,11 @@ module _ (h : Model.Sheet) (p : itemCount h ≤ mostItems) (q : h .atcCount ≤ 
       let a = code-exact c (and-left _ _ e) in
       let b = codes-exact cs (and-right (reqKnown h (requirementOf c)) _ e) in
       rw (a, b)
+
+-- check 8 of a slot by its parts
+pub parts-slot : (h : Model.Sheet) (x : Slot) → partsOk h (x .item) (entries (x .len) (x .requirements)) ≡ slotOk h (slotOf x)
+unfolding slotOf
+parts-slot h x = refl
 
 -- each slot of a shop that passed check 8
 slots-pass : (h : Model.Sheet) (xs : List Slot) (i : ℕ) (d : Slot) → all (slotOk h) (map slotOf xs) ≡ true → i < length xs → slotOk h (slotOf (getD xs i d)) ≡ true

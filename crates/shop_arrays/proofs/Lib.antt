@@ -3,3 +3,4 @@ mod Fill
 mod Items
 mod Placed
 mod Puts
+mod Sorts

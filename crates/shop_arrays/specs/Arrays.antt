@@ -33,9 +33,13 @@ arraysIn items limits codes lens = record { items = items; limits = limits; code
 
 -- ---- from arrays
 
+-- the 32 codes of slot i
+abbrev pub rowAt : List ℕ → ℕ → List ℕ
+rowAt codes i = take entryLimit (drop (entryLimit * i) codes)
+
 unfoldable pub slotAt : Arrays → ℕ → Slot
 slotAt a i =
-    record { item = itemFrom (getD (a .items) i (pos 0)); limit = getD (a .limits) i (pos 0); requirements = take entryLimit (drop (entryLimit * i) (a .codes)); len = getD (a .lens) i 0 }
+    record { item = itemFrom (getD (a .items) i (pos 0)); limit = getD (a .limits) i (pos 0); requirements = rowAt (a .codes) i; len = getD (a .lens) i 0 }
 
 -- n of the slots from slot i on
 unfoldable pub slotsFrom : Arrays → ℕ → ℕ → List Slot

@@ -1,16 +1,18 @@
 -- The slots of the shop that arrays stand for, one by one. Assumes nothing.
 use mathlib.Core.Path.{_≡_, refl, sym, ap, _∙_}
+use mathlib.Core.List.{List}
 use Prim.Native.Nat.{ℕ, zero, suc, _+_, _*_, _<_}
 use native.Mathlib.Nat.{zero-add, add-zero}
 use native.Mathlib.Decide.{ℕ-discrete}
 use native.Mathlib.Omega.{arith}
 use lib.IntN.{pos, negsuc}
-use lib.ListN.{length, getD, set, replicate, length-set}
-use lib.Seq.{getD-set-same, getD-set-other, ext-getD}
+use lib.ListN.{length, drop, getD, set, replicate, length-drop, length-set}
+use lib.Seq.{length-take-le, getD-take, getD-drop, getD-set-same, getD-set-other, ext-getD}
 use Rattle.model.specs.Limits.{slotCount, entryLimit}
 use Rattle.shop.specs.Shapes.{noSlot, noShop, placed}
+use Rattle.shop.specs.Sets.{Exact, AllExact}
 use Rattle.shop.specs.declared.Slot.{Slot}
-use Rattle.shop_arrays.specs.Arrays.{Arrays, arraysIn, itemFrom, slotAt, slotsFrom, shopFrom}
+use Rattle.shop_arrays.specs.Arrays.{Arrays, arraysIn, itemFrom, rowAt, slotAt, slotsFrom, shopFrom}
 
 from-long : (a : Arrays) (i n : ℕ) → length (slotsFrom a i n) ≡ n
 unfolding slotsFrom
@@ -31,7 +33,19 @@ pub slot-in : (a : Arrays) (j : ℕ) (d : Slot) → j < slotCount → getD (shop
 unfolding shopFrom
 slot-in a j d h = from-at a 0 slotCount j d h ∙ ap (slotAt a) (zero-add j)
 
--- arrays that differ in slot i only
+pub exact-at : (a : Arrays) (i : ℕ) → AllExact (shopFrom a) → i < slotCount → Exact (slotAt a i)
+exact-at a i e h = rw (slot-in a i noSlot h) at (e .slot i noSlot (omega (arith, slots-long a)))
+
+-- ---- the codes of a slot
+
+pub row-long : (codes : List ℕ) (i : ℕ) → length codes ≡ entryLimit * slotCount → i < slotCount → length (rowAt codes i) ≡ entryLimit
+row-long codes i e h = length-take-le entryLimit (drop (entryLimit * i) codes) (omega (arith, length-drop (entryLimit * i) codes))
+
+pub row-at : (codes : List ℕ) (i j : ℕ) → j < entryLimit → getD (rowAt codes i) j 0 ≡ getD codes (entryLimit * i + j) 0
+row-at codes i j h = getD-take entryLimit (drop (entryLimit * i) codes) j 0 h ∙ getD-drop (entryLimit * i) codes j 0
+
+-- ---- arrays that differ in slot i only
+
 pub slot-put : (a b : Arrays) (i : ℕ) (x : Slot) → i < slotCount → slotAt b i ≡ x → ((j : ℕ) → j < slotCount → (j ≡ i → ⊥) → slotAt b j ≡ slotAt a j) → shopFrom b ≡ placed (shopFrom a) i x
 slot-put a b i x low same others =
     ap (λ xs. record { slots = xs })

@@ -2,3 +2,4 @@ pub mod Sizes
 pub mod Tests
 pub mod Blocks
 pub mod Slots
+pub mod Most

@@ -1,29 +1,37 @@
 // What the blocks of a shop take of a script, counted before anything is written, and check 9.
 ghost use mathlib.Core.Path.{_≡_};
-ghost use Prim.Native.Nat.{_≤_};
+ghost use Prim.Native.Nat.{_≤_, _<_};
 ghost use mathlib.Core.List.{map};
 ghost use lib.ListN.{length, take};
-ghost use Rattle.model.specs.Limits.{entryLimit};
+ghost use Rattle.model.specs.Limits.{entryLimit, slotCount};
 ghost use Rattle.model.specs.Script.{Script};
 ghost use Rattle.model.specs.Compile.{shopBlocks, hasRoom};
 ghost use Rattle.shop.specs.Shapes.{requirementOf, timerIs, sheetOf, slotOf, slotsOf};
 ghost use Rattle.shop.specs.Sets.{AllExact, Exact};
+ghost use Rattle.shop_arrays.specs.Arrays.{arraysIn, slotAt, shopFrom};
+ghost use Rattle.sizes.specs.Blocks.{within};
 ghost use Rattle.sizes.specs.Sizes.{AtMost, testNodes, testsNodes, acquiredNodes, sized, plus, soldSize, enableSize, uniqueSize, limitSize, slotSize, shopSize};
 use memory::Counts;
 use shop::Sheet;
-use shop::Shop;
-use shop::Slot;
 use shop::SlotItem;
 use shop::Timer;
 use shop::limit_of;
-use shop::sorted;
 use shop::timer_of;
+use shop_arrays::item_at;
+use shop_arrays::sort_row;
 
 const BLOCK_LIMIT: u32 = 4096;
 
 const COMMAND_LIMIT: u32 = 16384;
 
 const NODE_LIMIT: u32 = 32768;
+
+// What any shop takes at most: the Return block, and for each slot 7 blocks, 14 commands and 203 nodes (specs/Most).
+const MOST_BLOCKS: u32 = 141;
+
+const MOST_COMMANDS: u32 = 281;
+
+const MOST_NODES: u32 = 4060;
 
 // The codes of one kind of requirement, and the kinds whose tests compare nothing.
 const CODES: u64 = 4294967296;
@@ -153,20 +161,27 @@ fn limit_size(len: u8, tests: u32) -> Size
     sized(5, 9, 20 + tests - 1)
 }
 
-// A slot's blocks, whatever its number and the block that it ends at; without an item H alone.
-fn slot_size(attached: &[u8], sheet: Sheet, slot: Slot) -> Size
-    requires { ⌜ Exact slot ⌝ }
-    ensures { λ r. ⌜ (r ≡ slotSize (sheetOf (now (attached .entry)) sheet) (slotOf slot)) × AtMost r 256 ⌝ }
+// The blocks of slot i, whatever the block that it ends at; without an item H alone.
+fn slot_size(
+    attached: &[u8],
+    sheet: Sheet,
+    items: &[i32; 20],
+    limits: &[i16; 20],
+    codes: &[u64; 640],
+    lens: &[u8; 20],
+    i: usize,
+) -> Size
+    requires { ⌜ (i < slotCount) × Exact (slotAt (arraysIn (now items) (now limits) (now codes) (now lens)) i) ⌝ }
+    ensures { λ r. ⌜ (r ≡ slotSize (sheetOf (now (attached .entry)) sheet) (slotOf (slotAt (arraysIn (now (items .entry)) (now (limits .entry)) (now (codes .entry)) (now (lens .entry))) i))) × AtMost r 256 ⌝ }
 {
-    let item = slot.item;
+    let item = item_at(items, i);
     match item {
         SlotItem::Nothing => sized(1, 2, 4),
         SlotItem::Of(w) => {
-            let reqs = sorted(slot);
-            let codes = reqs.codes;
-            let len = reqs.len;
-            let tests = tests_nodes(codes, len);
-            if limit_of(attached, sheet, w, slot.limit) <= 1 {
+            let mut set = [0; 32];
+            let len = sort_row(codes, lens, i, &mut set);
+            let tests = tests_nodes(set, len);
+            if limit_of(attached, sheet, w, limits[i]) <= 1 {
                 return unique_size(timer_of(sheet, w), len, tests);
             }
             limit_size(len, tests)
@@ -177,27 +192,32 @@ fn slot_size(attached: &[u8], sheet: Sheet, slot: Slot) -> Size
 // ---- the shop
 
 // The Return block and all slots.
-fn shop_size(attached: &[u8], sheet: Sheet, shop: Shop) -> Size
-    requires { ⌜ AllExact shop ⌝ }
-    ensures { λ r. ⌜ (r ≡ shopSize (sheetOf (now (attached .entry)) sheet) (slotsOf shop)) × AtMost r 65536 ⌝ }
+fn shop_size(
+    attached: &[u8],
+    sheet: Sheet,
+    items: &[i32; 20],
+    limits: &[i16; 20],
+    codes: &[u64; 640],
+    lens: &[u8; 20],
+) -> Size
+    requires { ⌜ AllExact (shopFrom (arraysIn (now items) (now limits) (now codes) (now lens))) ⌝ }
+    ensures { λ r. ⌜ (r ≡ shopSize (sheetOf (now (attached .entry)) sheet) (slotsOf (shopFrom (arraysIn (now (items .entry)) (now (limits .entry)) (now (codes .entry)) (now (lens .entry)))))) × AtMost r 65536 ⌝ }
 {
     let mut total = sized(1, 1, 0);
     let mut i = 20;
     while 0 < i {
         i -= 1;
-        let slot = shop.slots[i];
-        let next = slot_size(attached, sheet, slot);
+        let next = slot_size(attached, sheet, items, limits, codes, lens, i);
         total = plus(next, total);
     }
     total
 }
 
-// Check 9: the shop's blocks pass no limit of a script with the counts k.
-pub fn fits(attached: &[u8], sheet: Sheet, k: Counts, shop: Shop) -> bool
-    requires { ⌜ AllExact shop ⌝ }
-    ensures { λ r. ⌜ ((sc : Script) → length (sc .blocks) ≡ k .blocks → sc .commands ≡ k .commands → sc .nodes ≡ k .nodes → r ≡ hasRoom sc (shopBlocks (sheetOf (now (attached .entry)) sheet) (k .blocks) (slotsOf shop))) ⌝ }
+// A script with the counts k has room for what takes s.
+fn room(k: Counts, s: Size) -> bool
+    requires { ⌜ AtMost s 65536 ⌝ }
+    ensures { λ r. ⌜ r ≡ within k s ⌝ }
 {
-    let s = shop_size(attached, sheet, shop);
     if BLOCK_LIMIT < k.blocks as u32 + s.blocks {
         return false;
     }
@@ -205,4 +225,24 @@ pub fn fits(attached: &[u8], sheet: Sheet, k: Counts, shop: Shop) -> bool
         return false;
     }
     k.nodes as u32 + s.nodes <= NODE_LIMIT
+}
+
+// Check 9: the shop's blocks pass no limit of a script with the counts k. A shop is counted only where not every shop has room.
+pub fn fits(
+    attached: &[u8],
+    sheet: Sheet,
+    k: Counts,
+    items: &[i32; 20],
+    limits: &[i16; 20],
+    codes: &[u64; 640],
+    lens: &[u8; 20],
+) -> bool
+    requires { ⌜ AllExact (shopFrom (arraysIn (now items) (now limits) (now codes) (now lens))) ⌝ }
+    ensures { λ r. ⌜ ((sc : Script) → length (sc .blocks) ≡ k .blocks → sc .commands ≡ k .commands → sc .nodes ≡ k .nodes → r ≡ hasRoom sc (shopBlocks (sheetOf (now (attached .entry)) sheet) (k .blocks) (slotsOf (shopFrom (arraysIn (now (items .entry)) (now (limits .entry)) (now (codes .entry)) (now (lens .entry))))))) ⌝ }
+{
+    if room(k, sized(MOST_BLOCKS, MOST_COMMANDS, MOST_NODES)) {
+        return true;
+    }
+    let s = shop_size(attached, sheet, items, limits, codes, lens);
+    room(k, s)
 }

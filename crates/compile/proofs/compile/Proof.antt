@@ -1,50 +1,16 @@
--- `compile` meets its contract: refused, nothing is written; accepted, the blocks are appended and the setup block is linked to the last. Assumes nothing.
-use mathlib.Core.Path.{_≡_, sym, _∙_}
-use lib.ListN.{length}
-use native.Mathlib.Omega.{arith}
+-- `compile` meets its contract: the arrays stand for the shop. Assumes nothing.
 use borrow.Author.Needs.{needs}
-use Rattle.shop.proofs.All.{length-mapped}
-use Rattle.shop.specs.Shapes.{sheetOf}
-use Rattle.emit.specs.Put.{memoryOf}
-use Rattle.compile.specs.Checked.{Granted, granted, compiled-refused, compiled-accepted}
 use Rattle.compile.proofs.compile.Statement.{statement}
 use Rattle.compile.proofs.compile.Tie as tie
 
-size : (c : tie.Start) → length (c .args .shop .slots) ≡ 20
-size c = search (length-mapped, needs)
+arrays-of-requires : tie.Need-arrays-of-requires
+arrays-of-requires c κs = search needs
 
--- what is known where nothing is refused
-allowed : (c : tie.Else1) → let s = c .before .before .before .before .before .before .before in
-    Granted (sheetOf (s .args .attached .now) (s .args .sheet)) (memoryOf (s .args .ws .now) (s .args .val .now) (s .args .cw .now) (s .args .bw .now) (s .args .counts)) (s .args .setup .0) (s .args .shop) (size s)
-allowed c = granted _ _ _ _ _ (sym (c .before .check-compile .ensures) ∙ c .if1 .left)
-
-check-compile-requires : tie.Need-check-compile-requires
-check-compile-requires c κs = search needs
+compile-arrays-requires : tie.Need-compile-arrays-requires
+compile-arrays-requires c κs = search needs
 
 returns : tie.Need-returns
-returns c = compiled-refused _ _ _ _ (size (c .before .before .before .before .before .before .before)) _ (c .before .check-compile .ensures) (c .if1 .taken)
-
-compile-shop-requires : tie.Need-compile-shop-requires
-compile-shop-requires c κs = let g = allowed (c .before .before .before .before) in (g .room, g .exact)
-
-cast-set-block : tie.Need-cast-set-block
-cast-set-block c = let g = allowed (c .before .before .before .before .before .before .before) in omega (arith, g .inside, g .room .blocks)
-
-set-block-requires : tie.Need-set-block-requires
-set-block-requires c κs = let g = allowed (c .before .before .before .before .before .before .before) in omega (arith, g .inside, g .room .blocks)
-
-returns-2 : tie.Need-returns-2
-returns-2 c =
-    let a = c .before .before .before .before .before .before .before .before in
-    rw (c .set-block .ensures) (compiled-accepted _ _ _ _ (size (a .before .before .before .before .before .before .before)) _ (a .before .check-compile .ensures) (a .if1 .left) _ (c .before .before .before .compile-shop .ensures))
+returns c = rw (c .before .before .before .before .before .before .before .before .before .arrays-of .ensures) at (c .compile-arrays .ensures)
 
 pub compile-spec : {M : Type 1} → statement M
-compile-spec =
-    tie.close
-    (tie.spec
-    check-compile-requires
-    returns
-    compile-shop-requires
-    cast-set-block
-    set-block-requires
-    returns-2)
+compile-spec = tie.close (tie.spec arrays-of-requires compile-arrays-requires returns)
