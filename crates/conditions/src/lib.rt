@@ -303,12 +303,12 @@ fn mark_root(ws: &[u16; 98304], lf: &[u16], seen: &mut [bool], n: usize, i: usiz
 fn mark_chain(
     ws: &[u16; 98304],
     lf: &[u16],
-    cells: &[u16; 8192],
+    cells: &[u16],
     seen: &mut [bool],
     n: usize,
     first: usize,
 )
-    requires { ⌜ ((n ≤ 32768) × (n ≤ length (now lf))) × (first ≤ 8192) ⌝ }
+    requires { ⌜ ((n ≤ 32768) × (n ≤ length (now lf))) × (first < length (now cells)) ⌝ }
     ensures { λ _. ⌜ ((top : ℕ) → Lists (now (ws .entry)) (now (lf .entry)) n top → Gathers (now (ws .entry)) (now (lf .entry)) n (now (seen .entry)) (now (seen .exit)) (ofChain n (now (cells .entry)) first)) ⌝ }
 {
     let mut c = first;
@@ -400,14 +400,14 @@ fn clear(seen: &mut [bool], m: u16)
 pub fn parse_requirements(
     ws: &[u16; 98304],
     lf: &[u16],
-    cells: &[u16; 8192],
+    cells: &[u16],
     keys: &[u64],
     seen: &mut [bool],
     m: u16,
     n: usize,
     first: usize,
 ) -> Added
-    requires { ⌜ (((n ≤ 32768) × (n ≤ length (now lf))) × (first ≤ 8192)) × (((m < 32768) × (2 * m + 2 ≤ length (now seen))) × Keys (now keys) m) ⌝ }
+    requires { ⌜ (((n ≤ 32768) × (n ≤ length (now lf))) × (first < length (now cells))) × (((m < 32768) × (2 * m + 2 ≤ length (now seen))) × Keys (now keys) m) ⌝ }
     ensures { λ r. ⌜ ((h : Sheet) (vs : List ℤ) (c : ℕ) → Listed h (nodesIn (now (ws .entry)) vs c) n (now (keys .entry)) (now (lf .entry)) m → Negated (parseRequirements h (conditionOf (nodesIn (now (ws .entry)) vs c) n (now (cells .entry)) first)) r) × (r .reqs .len ≤ entryLimit) ⌝ }
 {
     clear(seen, m);

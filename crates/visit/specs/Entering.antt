@@ -56,6 +56,9 @@ module _ {m : Memory} {marks : List Bool} {x : Shop} {w : Walk} {b c : ℕ} (o :
   pub open-block : b < blockLimit
   open-block = let a = o .accepted in let k = judged-kept m (a .blocks) (a .rest) (a .is) .0 in omega (arith, o .block)
 
+  pub open-cells : w .cells < blockLimit
+  open-cells = let a = o .accepted in let k = judged-kept m (a .blocks) (a .rest) (a .is) .0 in omega (arith, o .free)
+
   pub open-nodes : m .coded .nodes .count ≤ nodeLimit
   open-nodes = let a = o .accepted in judged-kept m (a .blocks) (a .rest) (a .is) .2
 

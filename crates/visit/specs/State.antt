@@ -5,7 +5,6 @@ use mathlib.Core.Option.{Option}
 use mathlib.Core.List.{List}
 use Prim.Native.Nat.{ℕ, _+_, _*_, _≤_, _<_}
 use lib.ListN.{set, take}
-use Rattle.model.specs.Limits.{blockLimit}
 use Rattle.model.specs.Expr.{Expr}
 use Rattle.model.specs.Sheet.{Sheet}
 use Rattle.model.specs.Script.{Block, Command}
@@ -52,7 +51,7 @@ pub record Open (m : Memory) (marks : List Bool) (s : Shop) (w : Walk) (b c : �
   pub block : b < m .count
   pub code : blockWord m b 0 ≡ 1
   pub fine : w .answer ≡ 0
-  pub free : w .cells < blockLimit
+  pub free : w .cells < m .count
   pub low : c ≤ 2 * w .cells
   pub good : GoodShop s
 

@@ -59,8 +59,8 @@ struct Ways {
 // ---- the conditions after a block
 
 // Cell n holds the condition c and the root i of the If that it is joined with.
-fn add_cell(cells: &mut [u16; 8192], n: u16, c: u16, i: u16)
-    requires { ⌜ n < blockLimit ⌝ }
+fn add_cell(cells: &mut [u16], n: u16, c: u16, i: u16)
+    requires { ⌜ 2 * n + 2 ≤ length (now cells) ⌝ }
     ensures { λ _. ⌜ now (cells .exit) ≡ withCell (now (cells .entry)) n c i ⌝ }
 {
     let at = index_of(n);
@@ -68,16 +68,9 @@ fn add_cell(cells: &mut [u16; 8192], n: u16, c: u16, i: u16)
     cells[2 * at + 1] = i;
 }
 
-fn known_cells(a: &[u16; 8192]) -> usize
-    ensures { λ _. ⌜ length (now (a .entry)) ≡ 8192 ⌝ }
-{
-    let s: &[u16] = a;
-    s.len()
-}
-
 // The condition c joined with the last If of the block, negated for the else; without an If there is none.
-fn join(cells: &mut [u16; 8192], n: u16, c: u16, last: u16) -> Ways
-    requires { ⌜ (n < blockLimit) × (c ≤ 2 * n) ⌝ }
+fn join(cells: &mut [u16], n: u16, c: u16, last: u16) -> Ways
+    requires { ⌜ ((n < blockLimit) × (2 * n + 2 ≤ length (now cells))) × (c ≤ 2 * n) ⌝ }
     ensures { λ r. ⌜ Joined (now (cells .entry)) n c last (now (cells .exit)) r ⌝ }
 {
     if last == 0 {
@@ -87,7 +80,6 @@ fn join(cells: &mut [u16; 8192], n: u16, c: u16, last: u16) -> Ways
             otherwise: 0,
         };
     }
-    known_cells(cells);
     add_cell(cells, n, c, last - 1);
     Ways {
         cells: n + 1,
@@ -133,7 +125,7 @@ fn hides(t: VarTable) -> bool
 fn slots_after(
     ws: &[u16; 98304],
     lf: &[u16],
-    cells: &[u16; 8192],
+    cells: &[u16],
     keys: &[u64],
     seen: &mut [bool],
     items: &mut [i32; 20],
@@ -146,7 +138,7 @@ fn slots_after(
     known: u16,
     t: VarTable,
 ) -> u8
-    requires { ⌜ (((n ≤ 32768) × (n ≤ length (now lf))) × (c ≤ 8192)) × (((keyed < 32768) × (2 * keyed + 2 ≤ length (now seen))) × Keys (now keys) keyed) ⌝ }
+    requires { ⌜ (((n ≤ 32768) × (n ≤ length (now lf))) × (c < length (now cells))) × (((keyed < 32768) × (2 * keyed + 2 ≤ length (now seen))) × Keys (now keys) keyed) ⌝ }
     requires { ⌜ GoodShop (shopFrom (arraysIn (now items) (now limits) (now codes) (now lens))) ⌝ }
     ensures { λ r. ⌜ ((h : Sheet) (vs : List ℤ) (k : ℕ) → itemCount h ≡ known → Listed h (nodesIn (now (ws .entry)) vs k) n (now (keys .entry)) (now (lf .entry)) keyed → Moved (slotsThen h (parseRequirements h (conditionOf (nodesIn (now (ws .entry)) vs k) n (now (cells .entry)) c)) t (shopFrom (arraysIn (now (items .entry)) (now (limits .entry)) (now (codes .entry)) (now (lens .entry))))) (shopFrom (arraysIn (now (items .exit)) (now (limits .exit)) (now (codes .exit)) (now (lens .exit)))) r) ⌝ }
 {
@@ -184,7 +176,7 @@ pub fn visit(
     keys: &[u64],
     seen: &mut [bool],
     marks: &mut [bool; 4096],
-    cells: &mut [u16; 8192],
+    cells: &mut [u16],
     items: &mut [i32; 20],
     limits: &mut [i16; 20],
     codes: &mut [u64; 640],
@@ -196,7 +188,7 @@ pub fn visit(
     b: u16,
     c: u16,
 ) -> Visited
-    requires { ⌜ (k .nodes ≤ length (now lf)) × (((keyed < 32768) × (2 * keyed + 2 ≤ length (now seen))) × Keys (now keys) keyed) ⌝ }
+    requires { ⌜ ((k .nodes ≤ length (now lf)) × (2 * k .blocks ≤ length (now cells))) × (((keyed < 32768) × (2 * keyed + 2 ≤ length (now seen))) × Keys (now keys) keyed) ⌝ }
     requires { ⌜ Open (memoryIn (now ws) (now val) (now cw) (now bw) (k .nodes) (k .commands) (k .blocks)) (now marks) (shopFrom (arraysIn (now items) (now limits) (now codes) (now lens))) w b c ⌝ }
     ensures { λ r. ⌜ ((h : Sheet) → itemCount h ≡ known → KeyedIn h (memoryIn (now (ws .entry)) (now (val .entry)) (now (cw .entry)) (now (bw .entry)) (k .nodes) (k .commands) (k .blocks)) (now (keys .entry)) (now (lf .entry)) keyed → Entered h (memoryIn (now (ws .entry)) (now (val .entry)) (now (cw .entry)) (now (bw .entry)) (k .nodes) (k .commands) (k .blocks)) (now (marks .entry)) (now (cells .entry)) (shopFrom (arraysIn (now (items .entry)) (now (limits .entry)) (now (codes .entry)) (now (lens .entry)))) w b c (now (marks .exit)) (now (cells .exit)) (shopFrom (arraysIn (now (items .exit)) (now (limits .exit)) (now (codes .exit)) (now (lens .exit)))) r) ⌝ }
 {

@@ -35,20 +35,16 @@ stack-push w d b c h =
       stack-same w (set (set w (2 * d) b) (2 * d + 1) c) d (λ i p. getD-set-other (set w (2 * d) b) (2 * d + 1) i c 0 (omega arith) ∙ getD-set-other w (2 * d) i b 0 (omega arith)),
     ))
 
-pub push-entry : (w : List ℕ) (d b c : ℕ) → d < 4097 → length w ≡ 8194 → Pushed w d (to (entry b c)) (set (set w (2 * d) b) (2 * d + 1) c) (d + 1)
-push-entry w d b c h l = record {
-  is = stack-push w d b c (omega arith);
-  most = omega arith;
-  long = length-set (set w (2 * d) b) (2 * d + 1) c ∙ length-set w (2 * d) b ∙ l;
-}
+pub push-entry : (w : List ℕ) (d b c : ℕ) → 2 * d + 2 ≤ length w → Pushed w d (to (entry b c)) (set (set w (2 * d) b) (2 * d + 1) c) (d + 1)
+push-entry w d b c h = record { is = stack-push w d b c (omega arith); most = omega arith }
 
 link-some : (n : ℕ) → (n ≡ 0 → ⊥) → linkIn n ≡ some (n - 1)
 link-some zero h = absurd (h refl)
 link-some (suc k) h = let e : suc k - 1 ≡ k = omega arith in rw e
 
 module _ (w : List ℕ) (d nx c el e : ℕ) where
-  pub push-none : length w ≡ 8194 → nx ≡ 0 → Pushed w d (ways nx c el e) w d
-  push-none l h = rw h (record { is = refl; most = omega arith; long = l })
+  pub push-none : nx ≡ 0 → Pushed w d (ways nx c el e) w d
+  push-none h = rw h (record { is = refl; most = omega arith })
 
   pub push-next : (v : List ℕ) (r : ℕ) → (nx ≡ 0 → ⊥) → el ≡ 0 → Pushed w d (to (entry (nx - 1) c)) v r → Pushed w d (ways nx c el e) v r
   push-next v r h k p = rw (link-some nx h, k) p
@@ -58,7 +54,6 @@ module _ (w : List ℕ) (d nx c el e : ℕ) where
   push-both u v m r h k p q = rw (link-some nx h, link-some el k) (record {
     is = q .is ∙ ap (λ l. entry (nx - 1) c ∷ l) (p .is);
     most = omega (arith, p .most, q .most);
-    long = q .long;
   })
 
 -- ---- a block past the last is neither marked nor code

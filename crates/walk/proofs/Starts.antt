@@ -3,10 +3,11 @@ use mathlib.Core.Path.{_≡_, refl, ap, ap₂, subst, _∙_}
 use mathlib.Core.Bool.{Bool, false}
 use mathlib.Core.Option.{none}
 use mathlib.Core.List.{List, [], _∷_, map}
-use Prim.Native.Nat.{ℕ, zero, suc, _≤_}
+use Prim.Native.Nat.{ℕ, zero, suc, _+_, _*_, _≤_}
 use native.Mathlib.Omega.{arith}
 use lib.IntN.{ℤ, pos}
-use lib.ListN.{length, getD, take, replicate, length-replicate}
+use lib.ListN.{length, getD, set, take, replicate, length-set, length-replicate}
+use lib.Seq.{getD-set-same, getD-set-other}
 use Rattle.model.specs.Limits.{slotCount}
 use Rattle.model.specs.Sheet.{Sheet, itemCount}
 use Rattle.model.specs.Shop
@@ -28,7 +29,6 @@ use Rattle.walk.specs.Dfs.{entry}
 use Rattle.walk.specs.Marks.{unmarked, unmarked-replicate}
 use Rattle.walk.specs.Steps.{walks, stack-one}
 use Rattle.walk.specs.Walks.{stackOf, under, walksIn, AllLow, Keying, Ready, startWalk}
-use Rattle.walk.proofs.Turns.{few-blocks}
 
 -- ---- nothing is marked
 
@@ -54,8 +54,16 @@ no-condition : (m : Memory) (cells : List ℕ) → conditionIn m cells 0 ≡ non
 unfolding conditionOf conditionTo
 no-condition m cells = refl
 
+-- the two words of the setup block's entry
+module _ (w : List ℕ) (b : ℕ) (l : 2 ≤ length w) where
+  pub first-block : getD (set (set w 0 b) 1 0) 0 0 ≡ b
+  first-block = getD-set-other (set w 0 b) 1 0 0 0 (omega arith) ∙ getD-set-same w 0 b 0 (omega arith)
+
+  pub first-under : getD (set (set w 0 b) 1 0) 1 0 ≡ 0
+  first-under = getD-set-same (set w 0 b) 1 0 0 (simp length-set (omega arith))
+
 module _ (m : Memory) (k : ℕ) (few : m .count ≤ k) (stack : List ℕ) (none-joined : getD stack 1 0 ≡ 0) (s : Code.Shop) (none-put : s ≡ noShop) (w : Walk) (new : w ≡ startWalk) where
-  pub ready-start : Accepted m → length stack ≡ 8194 → Ready m (replicate k false) stack s w 1
+  pub ready-start : Accepted m → 2 * m .count + 2 ≤ length stack → Ready m (replicate k false) stack s w 1
   unfolding stackOf
   ready-start a l = rw (none-put, new) ready
     where
@@ -70,8 +78,8 @@ module _ (m : Memory) (k : ℕ) (few : m .count ≤ k) (stack : List ℕ) (none-
         accepted = a;
         long = ap length (take-replicate (m .count) k few) ∙ length-replicate (m .count) false;
         tall = l;
-        room = omega (arith, left, few-blocks m a);
-        free = omega (arith, left, few-blocks m a);
+        room = omega (arith, left);
+        free = omega (arith, left);
         fine = refl;
         good = good-start;
         low = low;

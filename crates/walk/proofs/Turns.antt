@@ -111,8 +111,11 @@ module _ {m : Memory} {marks : List Bool} {stack : List ℕ} {s : Shop} {w : Wal
   pub came-end : (h : Sheet) (cells : List ℕ) (st : State) → walksIn h m marks cells stack depth s w ≡ st → topOf (take (m .count) marks) stack depth ≡ 0 → Came st s w
   came-end h cells st i e = came-as (sym (turn-none h cells e) ∙ i) (record { answer = refl; slots = λ z. refl; good = λ z. r .good })
 
-  pub top-fits : {top : ℕ} → top ≡ topOf (take (m .count) marks) stack depth → top ≤ 4097
-  top-fits e = omega (arith, top-most (take (m .count) marks) stack depth, r .room)
+  pub top-fits : {top : ℕ} → top ≡ topOf (take (m .count) marks) stack depth → 2 * top ≤ length stack
+  top-fits e = omega (arith, top-most (take (m .count) marks) stack depth, r .room, r .tall)
+
+  pub top-few : {top : ℕ} → top ≡ topOf (take (m .count) marks) stack depth → top ≤ blockLimit + 1
+  top-few e = omega (arith, top-most (take (m .count) marks) stack depth, r .room, few-blocks m (r .accepted))
 
   -- the first unmarked entry, block b under condition c
   module _ {top b c : ℕ} (at : top ≡ topOf (take (m .count) marks) stack depth) (some-left : top ≡ 0 → ⊥)
@@ -195,8 +198,8 @@ module _ {m : Memory} {marks : List Bool} {stack : List ℕ} {s : Shop} {w : Wal
           pub less : suc (unmarked (take (m .count) marks′)) ≡ unmarked (take (m .count) marks)
           less = ap (λ l. suc (unmarked l)) new-marks ∙ one-less
 
-          pub push-room : top - 1 < 4096
-          push-room = omega (arith, r .room, top-low, less)
+          pub push-room : 2 * (top - 1) + 4 ≤ length stack
+          push-room = omega (arith, r .room, r .tall, top-low, less)
 
           module _ {stack′ : List ℕ} {depth′ : ℕ} (p : Pushed stack (top - 1) (ways (v .next) (v .then) (v .other) (v .otherwise)) stack′ depth′) where
             grows-two : (x : Ways ℕ) → grows x ≤ 2
@@ -204,11 +207,11 @@ module _ {m : Memory} {marks : List Bool} {stack : List ℕ} {s : Shop} {w : Wal
             grows-two (to x) = omega arith
             grows-two (to-both x y) = omega arith
 
-            pub again : Ready m marks′ stack′ s′ (v .walk) depth′
-            again = record {
+            pub again : length stack′ ≡ length stack → Ready m marks′ stack′ s′ (v .walk) depth′
+            again l = record {
               accepted = r .accepted;
               long = ap length new-marks ∙ length-set (take (m .count) marks) b true ∙ r .long;
-              tall = p .long;
+              tall = omega (arith, l, r .tall);
               room = omega (arith, p .most, r .room, less, top-low, grows-two (ways (v .next) (v .then) (v .other) (v .otherwise)));
               free = omega (arith, g .most, r .free, less);
               fine = z;

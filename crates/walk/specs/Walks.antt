@@ -7,7 +7,6 @@ use Prim.Native.Nat.{ℕ, zero, suc, _+_, _*_, _≤_}
 use lib.Dec.{ltb, eqb}
 use lib.IntN.{pos}
 use lib.ListN.{length, getD, take}
-use Rattle.model.specs.Limits.{blockLimit}
 use Rattle.model.specs.Expr.{Expr}
 use Rattle.model.specs.Sheet.{Sheet, itemCount}
 use Rattle.model.specs.Memory.{Memory, linkIn, scriptOf}
@@ -46,7 +45,6 @@ grows (to-both k j) = 2
 pub record Pushed (w : List ℕ) (d : ℕ) (x : Ways ℕ) (w′ : List ℕ) (r : ℕ) : Type 0 where
   pub is : stackOf w′ r ≡ pushed x (stackOf w d)
   pub most : r ≤ d + grows x
-  pub long : length w′ ≡ 8194
 
 abbrev pub isCodeAt : List ℕ → ℕ → ℕ → Bool
 isCodeAt bw nb b = cond (ltb b nb) (eqb (getD bw (5 * b) 0) 1) false
@@ -73,13 +71,17 @@ pub record Keying (items : ℕ) (m : Memory) (keys leaves : List ℕ) (n : ℕ) 
   pub keyed : KeyedIn sheet m keys leaves n
   pub long : m .coded .nodes .count ≤ length leaves
 
+-- room for a cell a block; the stack takes one entry more, as a visit takes one off it and puts two on
+abbrev pub Rooms : ℕ → List ℕ → List ℕ → Type 0
+Rooms blocks cells stack = (2 * blocks ≤ length cells) × (2 * blocks + 2 ≤ length stack)
+
 -- nothing is refused, and there is room on the stack and among the cells for each block that is not marked
 pub record Ready (m : Memory) (marks : List Bool) (stack : List ℕ) (s : Shop) (w : Walk) (depth : ℕ) : Type 0 where
   pub accepted : Accepted m
   pub long : length (take (m .count) marks) ≡ m .count
-  pub tall : length stack ≡ 8194
-  pub room : depth + unmarked (take (m .count) marks) ≤ 4097
-  pub free : w .cells + unmarked (take (m .count) marks) ≤ blockLimit
+  pub tall : 2 * m .count + 2 ≤ length stack
+  pub room : depth + unmarked (take (m .count) marks) ≤ m .count + 1
+  pub free : w .cells + unmarked (take (m .count) marks) ≤ m .count
   pub fine : w .answer ≡ 0
   pub good : GoodShop s
   pub low : AllLow (w .cells) (stackOf stack depth)

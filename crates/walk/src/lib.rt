@@ -10,7 +10,7 @@ ghost use Rattle.shop.specs.Shapes.{noShop};
 ghost use Rattle.shop_arrays.specs.Arrays.{arraysIn, shopFrom};
 ghost use Rattle.visit.specs.State.{Accepted, KeyedIn};
 ghost use Rattle.walk.specs.Dfs.{entry, to};
-ghost use Rattle.walk.specs.Walks.{Walked, Keying, Ready, Came, startWalk, isCodeAt, topOf, ways, Pushed, walksIn};
+ghost use Rattle.walk.specs.Walks.{Walked, Keying, Rooms, Ready, Came, startWalk, isCodeAt, topOf, ways, Pushed, walksIn};
 use conditions::flatten_roots;
 use keys::key_nodes;
 use memory::Counts;
@@ -31,8 +31,8 @@ fn is_marked(marks: &[bool; 4096], nb: u16, b: u16) -> bool
 }
 
 // The depth of the stack without the marked entries at its top.
-fn top_unmarked(marks: &[bool; 4096], stack: &[u16; 8194], nb: u16, depth: usize) -> usize
-    requires { ⌜ (nb ≤ 4096) × (depth ≤ 4097) ⌝ }
+fn top_unmarked(marks: &[bool; 4096], stack: &[u16], nb: u16, depth: usize) -> usize
+    requires { ⌜ (nb ≤ 4096) × (2 * depth ≤ length (now stack)) ⌝ }
     ensures { λ r. ⌜ r ≡ topOf (take nb (now (marks .entry))) (now (stack .entry)) depth ⌝ }
 {
     let mut d = depth;
@@ -45,8 +45,8 @@ fn top_unmarked(marks: &[bool; 4096], stack: &[u16; 8194], nb: u16, depth: usize
     0
 }
 
-fn push_one(stack: &mut [u16; 8194], depth: usize, b: u16, c: u16) -> usize
-    requires { ⌜ (depth < 4097) × (length (now stack) ≡ 8194) ⌝ }
+fn push_one(stack: &mut [u16], depth: usize, b: u16, c: u16) -> usize
+    requires { ⌜ 2 * depth + 2 ≤ length (now stack) ⌝ }
     ensures { λ r. ⌜ Pushed (now (stack .entry)) depth (to (entry b c)) (now (stack .exit)) r ⌝ }
 {
     stack[2 * depth] = b;
@@ -55,8 +55,8 @@ fn push_one(stack: &mut [u16; 8194], depth: usize, b: u16, c: u16) -> usize
 }
 
 // Next before else, else only where there is a next: next goes above else.
-fn push(stack: &mut [u16; 8194], depth: usize, v: Visited) -> usize
-    requires { ⌜ (depth < 4096) × (length (now stack) ≡ 8194) ⌝ }
+fn push(stack: &mut [u16], depth: usize, v: Visited) -> usize
+    requires { ⌜ 2 * depth + 4 ≤ length (now stack) ⌝ }
     ensures { λ r. ⌜ Pushed (now (stack .entry)) depth (ways (v .next) (v .then) (v .other) (v .otherwise)) (now (stack .exit)) r ⌝ }
 {
     let nx = v.next;
@@ -113,8 +113,8 @@ fn walk_all(
     keys: &[u64],
     seen: &mut [bool],
     marks: &mut [bool; 4096],
-    cells: &mut [u16; 8192],
-    stack: &mut [u16; 8194],
+    cells: &mut [u16],
+    stack: &mut [u16],
     items: &mut [i32; 20],
     limits: &mut [i16; 20],
     codes: &mut [u64; 640],
@@ -124,7 +124,7 @@ fn walk_all(
     known: u16,
     first: Walk,
 ) -> Walk
-    requires { ⌜ (2 * keyed + 2 ≤ length (now seen)) × Keying known (memoryIn (now ws) (now val) (now cw) (now bw) (k .nodes) (k .commands) (k .blocks)) (now keys) (now lf) keyed ⌝ }
+    requires { ⌜ ((2 * k .blocks ≤ length (now cells)) × (2 * keyed + 2 ≤ length (now seen))) × Keying known (memoryIn (now ws) (now val) (now cw) (now bw) (k .nodes) (k .commands) (k .blocks)) (now keys) (now lf) keyed ⌝ }
     requires { ⌜ Ready (memoryIn (now ws) (now val) (now cw) (now bw) (k .nodes) (k .commands) (k .blocks)) (now marks) (now stack) (shopFrom (arraysIn (now items) (now limits) (now codes) (now lens))) first 1 ⌝ }
     ensures { λ r. ⌜ ((h : Sheet) → itemCount h ≡ known → KeyedIn h (memoryIn (now (ws .entry)) (now (val .entry)) (now (cw .entry)) (now (bw .entry)) (k .nodes) (k .commands) (k .blocks)) (now (keys .entry)) (now (lf .entry)) keyed → Came (walksIn h (memoryIn (now (ws .entry)) (now (val .entry)) (now (cw .entry)) (now (bw .entry)) (k .nodes) (k .commands) (k .blocks)) (now (marks .entry)) (now (cells .entry)) (now (stack .entry)) 1 (shopFrom (arraysIn (now (items .entry)) (now (limits .entry)) (now (codes .entry)) (now (lens .entry)))) first) (shopFrom (arraysIn (now (items .exit)) (now (limits .exit)) (now (codes .exit)) (now (lens .exit)))) r) ⌝ }
 {
@@ -170,7 +170,7 @@ fn walk_all(
     w
 }
 
-// The walk from block setup, over keys that are there and slots that are empty; the arrays of the loop are made here and lent to it.
+// The walk from block setup, over keys that are there and slots that are empty. The marks are made here; the cells and the stack may hold anything.
 fn walk_from(
     ws: &[u16; 98304],
     val: &[i32; 32768],
@@ -179,6 +179,8 @@ fn walk_from(
     lf: &[u16],
     keys: &[u64],
     seen: &mut [bool],
+    cells: &mut [u16],
+    stack: &mut [u16],
     items: &mut [i32; 20],
     limits: &mut [i16; 20],
     codes: &mut [u64; 640],
@@ -188,14 +190,13 @@ fn walk_from(
     known: u16,
     setup: u16,
 ) -> Walk
-    requires { ⌜ (2 * keyed + 2 ≤ length (now seen)) × Keying known (memoryIn (now ws) (now val) (now cw) (now bw) (k .nodes) (k .commands) (k .blocks)) (now keys) (now lf) keyed ⌝ }
+    requires { ⌜ (Rooms (k .blocks) (now cells) (now stack) × (2 * keyed + 2 ≤ length (now seen))) × Keying known (memoryIn (now ws) (now val) (now cw) (now bw) (k .nodes) (k .commands) (k .blocks)) (now keys) (now lf) keyed ⌝ }
     requires { ⌜ Accepted (memoryIn (now ws) (now val) (now cw) (now bw) (k .nodes) (k .commands) (k .blocks)) × (shopFrom (arraysIn (now items) (now limits) (now codes) (now lens)) ≡ noShop) ⌝ }
     ensures { λ r. ⌜ ((h : Sheet) → itemCount h ≡ known → KeyedIn h (memoryIn (now (ws .entry)) (now (val .entry)) (now (cw .entry)) (now (bw .entry)) (k .nodes) (k .commands) (k .blocks)) (now (keys .entry)) (now (lf .entry)) keyed → Walked h (memoryIn (now (ws .entry)) (now (val .entry)) (now (cw .entry)) (now (bw .entry)) (k .nodes) (k .commands) (k .blocks)) setup (shopFrom (arraysIn (now (items .exit)) (now (limits .exit)) (now (codes .exit)) (now (lens .exit)))) r) ⌝ }
 {
     let mut marks = [false; 4096];
-    let mut cells = [0u16; 8192];
-    let mut stack = [0u16; 8194];
     stack[0] = setup;
+    stack[1] = 0;
     walk_all(
         ws,
         val,
@@ -205,8 +206,8 @@ fn walk_from(
         keys,
         seen,
         &mut marks,
-        &mut cells,
-        &mut stack,
+        cells,
+        stack,
         items,
         limits,
         codes,
@@ -218,7 +219,7 @@ fn walk_from(
     )
 }
 
-// The walk in tables that are long enough for the words of the script's nodes, for their keys and for their entries.
+// The walk in tables that are long enough for the words of the script's nodes, for their keys and entries, and for its blocks.
 fn walk_over(
     ws: &[u16; 98304],
     val: &[i32; 32768],
@@ -227,6 +228,8 @@ fn walk_over(
     lf: &mut [u16],
     keys: &mut [u64],
     seen: &mut [bool],
+    cells: &mut [u16],
+    stack: &mut [u16],
     items: &mut [i32; 20],
     limits: &mut [i16; 20],
     codes: &mut [u64; 640],
@@ -236,7 +239,7 @@ fn walk_over(
     atcs: u16,
     setup: u16,
 ) -> Walk
-    requires { ⌜ ((k .nodes ≤ length (now lf)) × ((k .nodes ≤ length (now keys)) × ((0 < length (now keys)) × (2 * length (now keys) ≤ length (now seen))))) × (Accepted (memoryIn (now ws) (now val) (now cw) (now bw) (k .nodes) (k .commands) (k .blocks)) × (shopFrom (arraysIn (now items) (now limits) (now codes) (now lens)) ≡ noShop)) ⌝ }
+    requires { ⌜ ((k .nodes ≤ length (now lf)) × ((k .nodes ≤ length (now keys)) × ((0 < length (now keys)) × ((2 * length (now keys) ≤ length (now seen)) × Rooms (k .blocks) (now cells) (now stack))))) × (Accepted (memoryIn (now ws) (now val) (now cw) (now bw) (k .nodes) (k .commands) (k .blocks)) × (shopFrom (arraysIn (now items) (now limits) (now codes) (now lens)) ≡ noShop)) ⌝ }
     ensures { λ r. ⌜ ((h : Sheet) → itemCount h ≡ known → h .atcCount ≡ atcs → Walked h (memoryIn (now (ws .entry)) (now (val .entry)) (now (cw .entry)) (now (bw .entry)) (k .nodes) (k .commands) (k .blocks)) setup (shopFrom (arraysIn (now (items .exit)) (now (limits .exit)) (now (codes .exit)) (now (lens .exit)))) r) ⌝ }
 {
     let n = index_of(k.nodes);
@@ -250,6 +253,8 @@ fn walk_over(
         lf,
         keys,
         seen,
+        cells,
+        stack,
         items,
         limits,
         codes,
@@ -261,7 +266,7 @@ fn walk_over(
     )
 }
 
-// With tables for few nodes, and no lists: zeroing large ones takes longer than parsing a small script.
+// With tables for few nodes and few blocks, and no lists: zeroing large ones takes longer than parsing a small script.
 fn walk_few(
     ws: &[u16; 98304],
     val: &[i32; 32768],
@@ -276,12 +281,14 @@ fn walk_few(
     atcs: u16,
     setup: u16,
 ) -> Walk
-    requires { ⌜ (k .nodes ≤ 1024) × (Accepted (memoryIn (now ws) (now val) (now cw) (now bw) (k .nodes) (k .commands) (k .blocks)) × (shopFrom (arraysIn (now items) (now limits) (now codes) (now lens)) ≡ noShop)) ⌝ }
+    requires { ⌜ ((k .nodes ≤ 1024) × (k .blocks ≤ 256)) × (Accepted (memoryIn (now ws) (now val) (now cw) (now bw) (k .nodes) (k .commands) (k .blocks)) × (shopFrom (arraysIn (now items) (now limits) (now codes) (now lens)) ≡ noShop)) ⌝ }
     ensures { λ r. ⌜ ((h : Sheet) → itemCount h ≡ known → h .atcCount ≡ atcs → Walked h (memoryIn (now (ws .entry)) (now (val .entry)) (now (cw .entry)) (now (bw .entry)) (k .nodes) (k .commands) (k .blocks)) setup (shopFrom (arraysIn (now (items .exit)) (now (limits .exit)) (now (codes .exit)) (now (lens .exit)))) r) ⌝ }
 {
     let mut lf = [0u16; 1024];
     let mut keys = [0u64; 1024];
     let mut seen = [false; 2048];
+    let mut cells = [0u16; 512];
+    let mut stack = [0u16; 514];
     walk_over(
         ws,
         val,
@@ -290,6 +297,8 @@ fn walk_few(
         &mut lf,
         &mut keys,
         &mut seen,
+        &mut cells,
+        &mut stack,
         items,
         limits,
         codes,
@@ -322,6 +331,8 @@ fn walk_many(
     let mut lf = [0u16; 98304];
     let mut keys = [0u64; 32768];
     let mut seen = [false; 65536];
+    let mut cells = [0u16; 8192];
+    let mut stack = [0u16; 8194];
     walk_over(
         ws,
         val,
@@ -330,6 +341,8 @@ fn walk_many(
         &mut lf,
         &mut keys,
         &mut seen,
+        &mut cells,
+        &mut stack,
         items,
         limits,
         codes,
@@ -359,7 +372,7 @@ pub fn walk(
     requires { ⌜ Accepted (memoryIn (now ws) (now val) (now cw) (now bw) (k .nodes) (k .commands) (k .blocks)) × (shopFrom (arraysIn (now items) (now limits) (now codes) (now lens)) ≡ noShop) ⌝ }
     ensures { λ r. ⌜ ((h : Sheet) → itemCount h ≡ known → h .atcCount ≡ atcs → Walked h (memoryIn (now (ws .entry)) (now (val .entry)) (now (cw .entry)) (now (bw .entry)) (k .nodes) (k .commands) (k .blocks)) setup (shopFrom (arraysIn (now (items .exit)) (now (limits .exit)) (now (codes .exit)) (now (lens .exit)))) r) ⌝ }
 {
-    if k.nodes <= 1024 {
+    if k.nodes <= 1024 && k.blocks <= 256 {
         return walk_few(
             ws,
             val,

@@ -3,7 +3,7 @@ use mathlib.Core.Path.{_≡_, refl, _∙_}
 use lib.ListN.{length}
 use mathlib.Core.Bool.{Bool}
 use mathlib.Core.List.{List}
-use Prim.Native.Nat.{ℕ, _≤_}
+use Prim.Native.Nat.{ℕ, _≤_, _<_}
 use denote.Ref.{now}
 use native.Mathlib.Omega.{arith}
 use Rattle.conditions.specs.Marks.{Gathers, ofChain}
@@ -14,13 +14,13 @@ use Rattle.conditions.proofs.mark_chain.Statement.{statement}
 use Rattle.conditions.proofs.mark_chain.Tie as tie
 
 abbrev Inv-loop : tie.InvT-loop
-Inv-loop ws lf cells seen₀ n first c₀ seen c = ((((n ≤ 32768) × (n ≤ length lf)) × (c ≤ 8192)) × (length seen ≡ length seen₀)) × ((top : ℕ) → Lists ws lf n top → (t : List Bool) → Gathers ws lf n seen t (ofChain n cells c) → Gathers ws lf n seen₀ t (ofChain n cells c₀))
+Inv-loop ws lf cells seen₀ n first c₀ seen c = ((((n ≤ 32768) × (n ≤ length lf)) × (c < length cells)) × (length seen ≡ length seen₀)) × ((top : ℕ) → Lists ws lf n top → (t : List Bool) → Gathers ws lf n seen t (ofChain n cells c) → Gathers ws lf n seen₀ t (ofChain n cells c₀))
 
 abbrev μ-loop : tie.MeasureT-loop
 μ-loop ws lf cells seen₀ n first c₀ seen c = c
 
 loop-holds : tie.Need-loop-holds Inv-loop μ-loop
-loop-holds c = ((c .before .before .pre, refl), λ top f t x. x)
+loop-holds c = ((c .before .before .before .pre, refl), λ top f t x. x)
 
 sub-j : tie.Need-sub-j Inv-loop μ-loop
 sub-j c = search needs
@@ -37,8 +37,8 @@ add-index-of c = search needs
 mul-index-of-2 : tie.Need-mul-index-of-2 Inv-loop μ-loop
 mul-index-of-2 c = search needs
 
-element-copy-out-index-of : tie.Need-element-copy-out-index-of Inv-loop μ-loop
-element-copy-out-index-of c = search needs
+shared-slice-read-index-of : tie.Need-shared-slice-read-index-of Inv-loop μ-loop
+shared-slice-read-index-of c = search needs
 
 index-of-requires : tie.Need-index-of-requires Inv-loop μ-loop
 index-of-requires c κs = search needs
@@ -52,8 +52,8 @@ mul-index-of-3 c = search needs
 mul-index-of-4 : tie.Need-mul-index-of-4 Inv-loop μ-loop
 mul-index-of-4 c = search needs
 
-element-copy-out-index-of-2 : tie.Need-element-copy-out-index-of-2 Inv-loop μ-loop
-element-copy-out-index-of-2 c = search needs
+shared-slice-read-index-of-2 : tie.Need-shared-slice-read-index-of-2 Inv-loop μ-loop
+shared-slice-read-index-of-2 c = search needs
 
 index-of-requires-2 : tie.Need-index-of-requires-2 Inv-loop μ-loop
 index-of-requires-2 c κs = search needs
@@ -62,19 +62,19 @@ same-length : tie.Need-same-length Inv-loop μ-loop
 same-length c = c .before .before .before .before .seen .given ∙ c .before .before .before .before .before .before .before .before .before .before .loop .inv .0 .1
 
 returns : tie.Need-returns Inv-loop μ-loop
-returns c = λ top f. c .before .before .before .before .before .before .before .before .before .before .loop .inv .1 top f _ (chain-stop (now (c .before .before .before .before .before .before .before .before .before .before .before .before .before .args .ws)) (now (c .before .before .before .before .before .before .before .before .before .before .before .before .before .args .lf)) (now (c .before .before .before .before .before .before .before .before .before .before .before .before .before .args .cells)) (c .before .before .before .before .before .before .before .before .before .before .before .before .before .args .n) (c .before .before .before .before .before .before .before .before .before .before .loop .c) _ _ (c .before .before .before .before .before .before .before .before .before .before .loop .seen) _ (c .before .before .before .before .before .before .before .before .before .loop-test .taken) (c .before .index-of2 .ensures) (c .before .before .before .before .before .before .index-of .ensures) (c .before .before .before .before .before .mark-root .ensures top f) (c .if1 .taken))
+returns c = λ top f. c .before .before .before .before .before .before .before .before .before .before .loop .inv .1 top f _ (chain-stop (now (c .before .before .before .before .before .before .before .before .before .before .before .before .before .before .args .ws)) (now (c .before .before .before .before .before .before .before .before .before .before .before .before .before .before .args .lf)) (now (c .before .before .before .before .before .before .before .before .before .before .before .before .before .before .args .cells)) (c .before .before .before .before .before .before .before .before .before .before .before .before .before .before .args .n) (c .before .before .before .before .before .before .before .before .before .before .loop .c) _ _ (c .before .before .before .before .before .before .before .before .before .before .loop .seen) _ (c .before .before .before .before .before .before .before .before .before .loop-test .taken) (c .before .index-of2 .ensures) (c .before .before .before .before .before .before .index-of .ensures) (c .before .before .before .before .before .mark-root .ensures top f) (c .if1 .taken))
 
 loop-less : tie.Need-loop-less Inv-loop μ-loop
 loop-less c = search needs
 
 loop-again : tie.Need-loop-again Inv-loop μ-loop
-loop-again c = (((c .before .before .before .before .before .before .before .before .before .before .loop .inv .0 .0 .0, omega (arith, c .before .before .before .before .before .before .before .before .before .before .loop .inv .0 .0 .1)), c .before .before .before .before .seen .given ∙ c .before .before .before .before .before .before .before .before .before .before .loop .inv .0 .1), λ top f t x. c .before .before .before .before .before .before .before .before .before .before .loop .inv .1 top f t (chain-step (now (c .before .before .before .before .before .before .before .before .before .before .before .before .before .args .ws)) (now (c .before .before .before .before .before .before .before .before .before .before .before .before .before .args .lf)) (now (c .before .before .before .before .before .before .before .before .before .before .before .before .before .args .cells)) (c .before .before .before .before .before .before .before .before .before .before .before .before .before .args .n) (c .before .before .before .before .before .before .before .before .before .before .loop .c) _ _ (c .before .before .before .before .before .before .before .before .before .before .loop .seen) _ (c .before .before .before .before .before .before .before .before .before .loop-test .taken) (c .before .index-of2 .ensures) (c .before .before .before .before .before .before .index-of .ensures) (c .before .before .before .before .before .mark-root .ensures top f) t (c .if1 .left) x))
+loop-again c = (((c .before .before .before .before .before .before .before .before .before .before .loop .inv .0 .0 .0, omega (arith, c .before .before .before .before .before .before .before .before .before .before .loop .inv .0 .0 .1)), c .before .before .before .before .seen .given ∙ c .before .before .before .before .before .before .before .before .before .before .loop .inv .0 .1), λ top f t x. c .before .before .before .before .before .before .before .before .before .before .loop .inv .1 top f t (chain-step (now (c .before .before .before .before .before .before .before .before .before .before .before .before .before .before .args .ws)) (now (c .before .before .before .before .before .before .before .before .before .before .before .before .before .before .args .lf)) (now (c .before .before .before .before .before .before .before .before .before .before .before .before .before .before .args .cells)) (c .before .before .before .before .before .before .before .before .before .before .before .before .before .before .args .n) (c .before .before .before .before .before .before .before .before .before .before .loop .c) _ _ (c .before .before .before .before .before .before .before .before .before .before .loop .seen) _ (c .before .before .before .before .before .before .before .before .before .loop-test .taken) (c .before .index-of2 .ensures) (c .before .before .before .before .before .before .index-of .ensures) (c .before .before .before .before .before .mark-root .ensures top f) t (c .if1 .left) x))
 
 same-length-2 : tie.Need-same-length-2 Inv-loop μ-loop
 same-length-2 c = c .before .loop .inv .0 .1
 
 returns-2 : tie.Need-returns-2 Inv-loop μ-loop
-returns-2 c = λ top f. c .before .loop .inv .1 top f _ (chain-end (now (c .before .before .before .before .args .ws)) (now (c .before .before .before .before .args .lf)) (now (c .before .before .before .before .args .cells)) (c .before .before .before .before .args .n) (c .before .loop .c) (c .before .loop .seen) (c .loop-test .left))
+returns-2 c = λ top f. c .before .loop .inv .1 top f _ (chain-end (now (c .before .before .before .before .before .args .ws)) (now (c .before .before .before .before .before .args .lf)) (now (c .before .before .before .before .before .args .cells)) (c .before .before .before .before .before .args .n) (c .before .loop .c) (c .before .loop .seen) (c .loop-test .left))
 
 pub mark-chain-spec : {M : Type 1} → statement M
 mark-chain-spec =
@@ -88,12 +88,12 @@ mark-chain-spec =
     mul-index-of
     add-index-of
     mul-index-of-2
-    element-copy-out-index-of
+    shared-slice-read-index-of
     index-of-requires
     mark-root-requires
     mul-index-of-3
     mul-index-of-4
-    element-copy-out-index-of-2
+    shared-slice-read-index-of-2
     index-of-requires-2
     same-length
     returns

@@ -1,4 +1,6 @@
 -- `add_cell` meets its contract: the two words of the cell are written. Assumes nothing.
+use lib.ListN.{length-set}
+use native.Mathlib.Omega.{arith}
 use borrow.Author.Needs.{needs}
 use Rattle.visit.proofs.add_cell.Statement.{statement}
 use Rattle.visit.proofs.add_cell.Tie as tie
@@ -12,8 +14,8 @@ mul-cells c = search needs
 mul-cells-2 : tie.Need-mul-cells-2
 mul-cells-2 c = search needs
 
-element-write-cells : tie.Need-element-write-cells
-element-write-cells c = search needs
+slice-write-cells : tie.Need-slice-write-cells
+slice-write-cells c = search needs
 
 mul-cells-3 : tie.Need-mul-cells-3
 mul-cells-3 c = search needs
@@ -24,8 +26,11 @@ add-cells c = search needs
 mul-cells-4 : tie.Need-mul-cells-4
 mul-cells-4 c = search needs
 
-element-write-cells-2 : tie.Need-element-write-cells-2
-element-write-cells-2 c = search needs
+slice-write-cells-2 : tie.Need-slice-write-cells-2
+slice-write-cells-2 c = simp length-set (omega (arith, c .index-of .ensures, c .before .before .pre))
+
+same-length : tie.Need-same-length
+same-length c = search needs
 
 returns : tie.Need-returns
 returns c = rw (c .index-of .ensures)
@@ -37,9 +42,10 @@ add-cell-spec =
     index-of-requires
     mul-cells
     mul-cells-2
-    element-write-cells
+    slice-write-cells
     mul-cells-3
     add-cells
     mul-cells-4
-    element-write-cells-2
+    slice-write-cells-2
+    same-length
     returns)

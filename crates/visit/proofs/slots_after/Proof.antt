@@ -19,7 +19,7 @@ counts-size : (c : tie.Start) → length (c .args .t .counts) ≡ slotCount
 counts-size c = search needs
 
 returns : tie.Need-returns
-returns c = λ h vs k of kd. let s = c .before .before .before .before .before in moved-on (none-counted _ (s .args .t) (s .pre .1) (slots-long _) (items-size s) (counts-size s) (c .if1 .taken) h _) refl
+returns c = λ h vs k of kd. let s = c .before .before .before .before .before .before in moved-on (none-counted _ (s .args .t) (s .pre .1) (slots-long _) (items-size s) (counts-size s) (c .if1 .taken) h _) refl
 
 hides-requires : tie.Need-hides-requires
 hides-requires c κs = search needs
@@ -28,7 +28,7 @@ fill-slots-requires : tie.Need-fill-slots-requires
 fill-slots-requires c κs = c .before .before .before .hides .ensures (not-true _ (c .before .before .if2 .taken))
 
 returns-2 : tie.Need-returns-2
-returns-2 c = λ h vs k of kd. moved-on (c .fill-slots .ensures .by _ _ (c .before .before .before .before .before .before .before .before .before .before .pre .1) h _ of) refl
+returns-2 c = λ h vs k of kd. moved-on (c .fill-slots .ensures .by _ _ (c .before .before .before .before .before .before .before .before .before .before .before .pre .1) h _ of) refl
 
 parse-requirements-requires : tie.Need-parse-requirements-requires
 parse-requirements-requires c κs = search needs

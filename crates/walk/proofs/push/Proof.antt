@@ -5,7 +5,7 @@ use Rattle.walk.proofs.push.Statement.{statement}
 use Rattle.walk.proofs.push.Tie as tie
 
 returns : tie.Need-returns
-returns c = push-none _ _ _ (c .before .args .v .then) (c .before .args .v .other) (c .before .args .v .otherwise) (c .before .pre .1) (c .if1 .taken)
+returns c = push-none _ _ _ (c .before .before .args .v .then) (c .before .before .args .v .other) (c .before .before .args .v .otherwise) (c .if1 .taken)
 
 sub-push-one : tie.Need-sub-push-one
 sub-push-one c = search needs
@@ -13,8 +13,11 @@ sub-push-one c = search needs
 push-one-requires : tie.Need-push-one-requires
 push-one-requires c κs = search needs
 
+same-length : tie.Need-same-length
+same-length c = search needs
+
 returns-2 : tie.Need-returns-2
-returns-2 c = push-next _ _ _ _ _ (c .before .before .before .before .args .v .otherwise) _ _ (c .before .before .before .if1 .left) (c .before .before .if2 .taken) (c .push-one .ensures)
+returns-2 c = push-next _ _ _ _ _ (c .before .before .before .before .before .before .before .args .v .otherwise) _ _ (c .before .before .before .before .before .if1 .left) (c .before .before .before .before .if2 .taken) (c .before .before .push-one .ensures)
 
 sub-push-one-2 : tie.Need-sub-push-one-2
 sub-push-one-2 c = search needs
@@ -28,8 +31,11 @@ sub-push-one-3 c = search needs
 push-one-requires-3 : tie.Need-push-one-requires-3
 push-one-requires-3 c κs = search needs
 
+same-length-2 : tie.Need-same-length-2
+same-length-2 c = search needs
+
 returns-3 : tie.Need-returns-3
-returns-3 c = push-both _ _ _ _ _ _ _ _ _ _ (c .before .before .before .before .before .if1 .left) (c .before .before .before .before .if2 .left) (c .before .before .push-one2 .ensures) (c .push-one3 .ensures)
+returns-3 c = push-both _ _ _ _ _ _ _ _ _ _ (c .before .before .before .before .before .before .before .before .before .if1 .left) (c .before .before .before .before .before .before .before .before .if2 .left) (c .before .before .before .before .before .before .push-one2 .ensures) (c .before .before .push-one3 .ensures)
 
 pub push-spec : {M : Type 1} → statement M
 push-spec =
@@ -38,9 +44,11 @@ push-spec =
     returns
     sub-push-one
     push-one-requires
+    same-length
     returns-2
     sub-push-one-2
     push-one-requires-2
     sub-push-one-3
     push-one-requires-3
+    same-length-2
     returns-3)

@@ -1,4 +1,6 @@
 -- Two words for an entry. Assumes nothing.
+use lib.ListN.{length-set}
+use native.Mathlib.Omega.{arith}
 use Rattle.walk.proofs.Stacks.{push-entry}
 use borrow.Author.Needs.{needs}
 use Rattle.walk.proofs.push_one.Statement.{statement}
@@ -10,8 +12,8 @@ mul-stack c = search needs
 mul-stack-2 : tie.Need-mul-stack-2
 mul-stack-2 c = search needs
 
-element-write-stack : tie.Need-element-write-stack
-element-write-stack c = search needs
+slice-write-stack : tie.Need-slice-write-stack
+slice-write-stack c = search needs
 
 mul-stack-3 : tie.Need-mul-stack-3
 mul-stack-3 c = search needs
@@ -22,14 +24,17 @@ add-stack c = search needs
 mul-stack-4 : tie.Need-mul-stack-4
 mul-stack-4 c = search needs
 
-element-write-stack-2 : tie.Need-element-write-stack-2
-element-write-stack-2 c = search needs
+slice-write-stack-2 : tie.Need-slice-write-stack-2
+slice-write-stack-2 c = simp length-set (omega (arith, c .pre))
 
 add-result : tie.Need-add-result
 add-result c = search needs
 
+same-length : tie.Need-same-length
+same-length c = search needs
+
 returns : tie.Need-returns
-returns c = push-entry _ _ _ _ (c .pre .0) (c .pre .1)
+returns c = push-entry _ _ _ _ (c .pre)
 
 pub push-one-spec : {M : Type 1} → statement M
 push-one-spec =
@@ -37,10 +42,11 @@ push-one-spec =
     (tie.spec
     mul-stack
     mul-stack-2
-    element-write-stack
+    slice-write-stack
     mul-stack-3
     add-stack
     mul-stack-4
-    element-write-stack-2
+    slice-write-stack-2
     add-result
+    same-length
     returns)

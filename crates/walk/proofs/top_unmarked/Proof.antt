@@ -1,8 +1,8 @@
 -- The loop's invariant: the top is the same without the marked entries passed; the measure is the depth. Assumes nothing.
 use mathlib.Core.Path.{_≡_, refl, sym, _∙_}
-use Prim.Native.Nat.{_≤_}
+use Prim.Native.Nat.{_*_, _≤_}
 use native.Mathlib.Omega.{arith}
-use lib.ListN.{take}
+use lib.ListN.{length, take}
 use borrow.Author.Tests.{not-true, not-false}
 use Rattle.walk.specs.Walks.{topOf}
 use Rattle.walk.proofs.Stacks.{top-here, top-skip}
@@ -11,13 +11,13 @@ use Rattle.walk.proofs.top_unmarked.Statement.{statement}
 use Rattle.walk.proofs.top_unmarked.Tie as tie
 
 abbrev Inv-loop : tie.InvT-loop
-Inv-loop marks stack nb depth d₀ d = (d ≤ 4097) × (topOf (take nb marks) stack depth ≡ topOf (take nb marks) stack d)
+Inv-loop marks stack nb depth d₀ d = (2 * d ≤ length stack) × (topOf (take nb marks) stack depth ≡ topOf (take nb marks) stack d)
 
 abbrev μ-loop : tie.MeasureT-loop
 μ-loop marks stack nb depth d₀ d = d
 
 loop-holds : tie.Need-loop-holds Inv-loop μ-loop
-loop-holds c = (c .pre .1, refl)
+loop-holds c = (c .before .pre .1, refl)
 
 sub-is-marked : tie.Need-sub-is-marked Inv-loop μ-loop
 sub-is-marked c = search needs
@@ -28,8 +28,8 @@ mul-is-marked c = omega arith
 mul-is-marked-2 : tie.Need-mul-is-marked-2 Inv-loop μ-loop
 mul-is-marked-2 c = omega arith
 
-element-copy-out-is-marked : tie.Need-element-copy-out-is-marked Inv-loop μ-loop
-element-copy-out-is-marked c = omega arith
+shared-slice-read-is-marked : tie.Need-shared-slice-read-is-marked Inv-loop μ-loop
+shared-slice-read-is-marked c = omega arith
 
 is-marked-requires : tie.Need-is-marked-requires Inv-loop μ-loop
 is-marked-requires c κs = search needs
@@ -60,7 +60,7 @@ top-unmarked-spec =
     sub-is-marked
     mul-is-marked
     mul-is-marked-2
-    element-copy-out-is-marked
+    shared-slice-read-is-marked
     is-marked-requires
     returns
     sub-d

@@ -1,10 +1,11 @@
 -- `walk::walk` meets its contract: the sizes differ in nothing that is promised. Assumes nothing.
 use borrow.Author.Needs.{needs}
+use borrow.Author.Tests.{leb-true}
 use Rattle.walk.proofs.walk.Statement.{statement}
 use Rattle.walk.proofs.walk.Tie as tie
 
 walk-few-requires : tie.Need-walk-few-requires
-walk-few-requires c κs = (c .before .before .before .before .if1 .taken, c .before .before .before .before .before .before .pre)
+walk-few-requires c κs = ((c .before .before .before .before .before .before .if1 .taken, leb-true (c .before .before .before .before .before .before .before .before .args .k .blocks) 256 (c .before .before .before .before .if2 .taken)), c .before .before .before .before .before .before .before .before .pre)
 
 returns : tie.Need-returns
 returns c = c .walk-few .ensures

@@ -1,5 +1,5 @@
--- `walk::walk_many` meets its contract: the tables are long enough for as many nodes as the script keeps. Assumes nothing.
-use Rattle.walk.proofs.Turns.{few-nodes}
+-- `walk::walk_many` meets its contract: the tables are long enough for as many nodes and blocks as the script keeps. Assumes nothing.
+use Rattle.walk.proofs.Turns.{few-blocks, few-nodes}
 use native.Mathlib.Omega.{arith}
 use borrow.Author.Needs.{needs}
 use Rattle.walk.proofs.walk_many.Statement.{statement}
@@ -14,11 +14,17 @@ slice-aggregate-walk-over-2 c = search needs
 slice-aggregate-walk-over-3 : tie.Need-slice-aggregate-walk-over-3
 slice-aggregate-walk-over-3 c = search needs
 
+slice-aggregate-walk-over-4 : tie.Need-slice-aggregate-walk-over-4
+slice-aggregate-walk-over-4 c = search needs
+
+slice-aggregate-walk-over-5 : tie.Need-slice-aggregate-walk-over-5
+slice-aggregate-walk-over-5 c = search needs
+
 walk-over-requires : tie.Need-walk-over-requires
-walk-over-requires c κs = let n = few-nodes _ (c .before .before .before .before .before .before .before .pre .0) in ((omega arith, (n, (search needs, search needs))), c .before .before .before .before .before .before .before .pre)
+walk-over-requires c κs = let n = few-nodes _ (c .before .before .before .before .before .before .before .before .before .pre .0) in let b = few-blocks _ (c .before .before .before .before .before .before .before .before .before .pre .0) in ((omega arith, (n, (search needs, (search needs, (omega arith, omega arith))))), c .before .before .before .before .before .before .before .before .before .pre)
 
 returns : tie.Need-returns
-returns c = c .before .before .before .walk-over .ensures
+returns c = c .before .before .before .before .before .walk-over .ensures
 
 pub walk-many-spec : {M : Type 1} → statement M
 walk-many-spec =
@@ -27,5 +33,7 @@ walk-many-spec =
     slice-aggregate-walk-over
     slice-aggregate-walk-over-2
     slice-aggregate-walk-over-3
+    slice-aggregate-walk-over-4
+    slice-aggregate-walk-over-5
     walk-over-requires
     returns)
