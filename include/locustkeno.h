@@ -3,8 +3,8 @@
  * Every call answers with a refusal's number from document 01, or 0. A slice is a pointer and a length; where the
  * length is 0 the pointer must still not be null. What is written to must not overlap anything else that is handed in.
  * No call keeps a pointer, allocates, or has any state of its own: threads may call at the same time on different memory.
- * On the largest scripts 64 kilobytes of stack were enough for lk_read and lk_preview, 448 for lk_write, lk_run and lk_compile,
- * 960 for lk_parse.
+ * On the largest scripts 64 kilobytes of stack were enough for lk_read and lk_preview, 448 for lk_write, 576 for lk_run and
+ * lk_compile, 1,152 for lk_parse.
  *
  * A script is four arrays and three kept counts:
  *   ws   nodes: code, left operand, right operand at 3n, 3n + 1, 3n + 2
