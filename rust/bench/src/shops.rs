@@ -5,6 +5,7 @@ use crate::clock::{by_turns, row, time};
 use compare::{convert, meaning};
 use locustkeno::Shop;
 use oracle::calls::{self, Original};
+use std::cell::RefCell;
 use std::hint::black_box;
 
 /// All three, on one script.
@@ -32,17 +33,39 @@ fn parse(case: &Case) {
     );
 }
 
-/// Into the case's script, which has room for one shop more: into twenty copies of it, one after the other, and into one that
-/// was just made. Twenty copies of the library's arrays are more than the processor's nearer caches hold.
+/// How a script to compile into is come by, and how many of them are compiled into one after the other.
+const FRESH: [(&str, usize, bool); 4] = [
+    ("compile", 20, true),
+    ("compile1", 1, true),
+    ("copies", 20, false),
+    ("copies1", 1, false),
+];
+
+/// Into the case's script, which has room for one shop more. It is read anew into arrays that are kept, or copied with all its
+/// arrays: twenty copies of half a megabyte each are more than the processor's nearer caches hold. The original's is made anew.
 fn compile(case: &Case) {
     let sheet = convert::sheet(&case.sheet);
     let shop = Shop::with_slots(case.slots.iter().map(convert::slot));
     let slots = calls::original_slots(&case.slots);
-    for (call, batch) in [("compile", 20), ("compile1", 1)] {
+    for (call, batch, read) in FRESH {
+        let scripts = RefCell::new(vec![case.script.clone(); batch]);
+        let mut places = (0..batch).cycle();
+        let fresh = || {
+            let place = places.next().expect("a cycle has no end");
+            let script = &mut scripts.borrow_mut()[place];
+            match read {
+                true => script.read_again(&case.bytes).expect("it is an image"),
+                false => *script = case.script.clone(),
+            }
+            place
+        };
         let [ours, theirs] = by_turns(
             batch,
-            || case.script.clone(),
-            |script| script.compile(&sheet, 0, &shop).expect("it has room"),
+            fresh,
+            |place| {
+                let script = &mut scripts.borrow_mut()[*place];
+                script.compile(&sheet, 0, &shop).expect("it has room")
+            },
             || Original::new(&case.plain),
             |script| script.compile(0, &slots),
         );

@@ -128,8 +128,16 @@ fn stacked(nodes: usize, kept: usize, over: impl Fn(u16) -> [u16; 3]) -> Arrays 
 pub fn limits(tally: &mut Tally, random: &mut Random) {
     for nodes in 62..=67 {
         check(tally, random, tower(6, nodes, nodes));
-        check(tally, random, stacked(nodes, 2 * nodes, |below| [9, below, 0]));
-        check(tally, random, stacked(nodes, 2 * nodes, |below| [9, 0, below]));
+        check(
+            tally,
+            random,
+            stacked(nodes, 2 * nodes, |below| [9, below, 0]),
+        );
+        check(
+            tally,
+            random,
+            stacked(nodes, 2 * nodes, |below| [9, 0, below]),
+        );
     }
     for levels in 1..=15 {
         let whole = (1 << levels) - 1;

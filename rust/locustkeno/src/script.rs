@@ -184,7 +184,8 @@ mod shops {
         pub fn compile(&mut self, sheet: &Sheet, setup: u32, shop: &Shop) -> Result<(), Refused> {
             let a = &mut self.arrays;
             let [timer5, timer10, timer15] = sheet.timers.map(|item| item.0);
-            let shop = ShopArrays::of(shop);
+            let mut arrays = ShopArrays::new();
+            arrays.fill(shop);
             // SAFETY: the slice and the arrays are as the library takes them, and none overlaps.
             let kept = unsafe {
                 ffi::lk_compile(
@@ -202,10 +203,10 @@ mod shops {
                     a.commands,
                     a.blocks,
                     setup,
-                    &shop.items,
-                    &shop.limits,
-                    &shop.codes,
-                    &shop.lens,
+                    &arrays.items,
+                    &arrays.limits,
+                    &arrays.codes,
+                    &arrays.lens,
                 )
             };
             (a.nodes, a.commands, a.blocks) = (kept.nodes, kept.commands, kept.blocks);
@@ -255,7 +256,8 @@ mod shops {
         /// What the shop means for a save, with refusals 1, 8 and 12.
         pub fn preview(&self, sheet: &Sheet, save: &Save) -> Result<Preview, Refused> {
             let [timer5, timer10, timer15] = sheet.timers.map(|item| item.0);
-            let shop = ShopArrays::of(self);
+            let mut shop = ShopArrays::new();
+            shop.fill(self);
             // SAFETY: nothing is written.
             let seen = unsafe {
                 ffi::lk_preview(

@@ -112,6 +112,7 @@ mod crossing {
 
     impl ShopArrays {
         /// The arrays of an empty shop.
+        #[inline]
         pub fn new() -> Self {
             Self {
                 items: [-1; NUM_SLOTS],
@@ -121,19 +122,17 @@ mod crossing {
             }
         }
 
-        /// The arrays of a shop.
-        pub fn of(shop: &Shop) -> Self {
-            let mut arrays = Self::new();
+        /// Puts a shop into the arrays of an empty one, where they lie: five kilobytes handed back would be copied.
+        pub fn fill(&mut self, shop: &Shop) {
             for (i, slot) in shop.slots.iter().enumerate() {
-                arrays.items[i] = slot.item.map_or(-1, |item| item.0.into());
-                arrays.limits[i] = slot.limit;
-                arrays.lens[i] = u8::try_from(slot.requirements.len()).unwrap_or(u8::MAX);
-                let row = &mut arrays.codes[ENTRIES * i..][..ENTRIES];
+                self.items[i] = slot.item.map_or(-1, |item| item.0.into());
+                self.limits[i] = slot.limit;
+                self.lens[i] = u8::try_from(slot.requirements.len()).unwrap_or(u8::MAX);
+                let row = &mut self.codes[ENTRIES * i..][..ENTRIES];
                 for (place, entry) in row.iter_mut().zip(&slot.requirements) {
                     *place = code(*entry);
                 }
             }
-            arrays
         }
 
         /// The shop that the library left in the arrays.
