@@ -1,4 +1,4 @@
--- A record whose blocks all have room is judged fine. Assumes nothing.
+-- A record whose commands all have room, each held by one block at most, is judged fine. Assumes nothing.
 use mathlib.Core.Path.{_≡_, refl, sym, ap, subst}
 use mathlib.Core.List.{List}
 use Prim.Native.Nat.{ℕ, zero, suc, _+_, _-_, _*_, _≤_, _<_}

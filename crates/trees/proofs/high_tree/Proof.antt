@@ -9,7 +9,7 @@ use Rattle.trees.proofs.high_tree.Statement.{statement}
 use Rattle.trees.proofs.high_tree.Tie as tie
 
 returns : tie.Need-returns
-returns c = λ q ws N. sound-18 ws (c .before .before .before .args .val .now) (c .before .before .before .args .i) (N .code ∙ c .if2 .taken)
+returns c = λ q ws N. sound-18 ws (c .before .before .before .args .val .now) (c .before .before .before .args .i) (omega (arith, N .code, c .if2 .taken))
 
 returns-2 : tie.Need-returns-2
 returns-2 c = λ q. absurd (omega arith)

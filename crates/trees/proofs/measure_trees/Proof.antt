@@ -38,7 +38,7 @@ loop-less : tie.Need-loop-less Inv-loop μ-loop
 loop-less c = omega arith
 
 loop-again : tie.Need-loop-again Inv-loop μ-loop
-loop-again c = growing-more (c .before .before .before .before .before .before .args .ws .now) (c .before .before .before .before .before .before .args .val .now) (c .before .before .before .before .loop .inv) (c .before .tree-of .result) (c .before .before .before .before .before .before .pre .1) (c .before .before .before .loop-test .taken) (c .before .tree-of .ensures (c .if1 .left))
+loop-again c = growing-more (c .before .before .before .before .before .before .args .ws .now) (c .before .before .before .before .before .before .args .val .now) (c .before .before .before .before .loop .inv) (c .before .tree-of .result) (c .before .before .before .before .before .before .pre .1) (c .before .before .before .loop-test .taken) (c .before .tree-of .ensures (omega (arith, c .if1 .left)))
 
 same-length-2 : tie.Need-same-length-2 Inv-loop μ-loop
 same-length-2 c = search needs
