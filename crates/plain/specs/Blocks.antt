@@ -1,7 +1,7 @@
 -- Blocks whose nodes and commands have room are read fine. Assumes nothing.
 use mathlib.Core.Path.{_≡_, refl}
 use mathlib.Core.List.{List, _++_}
-use Prim.Native.Nat.{ℕ, _+_, _*_, _≤_, _<_}
+use Prim.Native.Nat.{ℕ, _+_, _*_, _≤_}
 use native.Mathlib.Omega.{arith}
 use lib.IntN.{ℤ}
 use lib.ListN.{length, getD}
@@ -17,7 +17,8 @@ use Rattle.judge.specs.Stages.{codedBy, memoryBy, KeptBy, uncounted, readLinks,
 use Rattle.judge.specs.Links.{link-there}
 use Rattle.judge.specs.Blocks.{links-told, code-told, block-placeholder, block-data, block-code}
 use Rattle.judge.specs.declared.Stage.the-variants.{Fine as Passed}
-use Rattle.plain.specs.Counted.{Stands, CommandsCount, CodeCount, Held, BlockCount}
+use Rattle.plain.specs.Chain.{Chain, chain-more}
+use Rattle.plain.specs.Counted.{Stands, CommandsCount, CodeCount, Held, BlockCount, Follows, Within, Apart}
 
 -- the nodes and commands that a stage says are those counted before, and r and h more
 stands : {f : List ℕ → Answer Block} {w : List ℕ} {l c x n m at n′ m′ to r h : ℕ} → Staged f w l c x n m at (Passed n′ m′ to) → n′ ≡ n + r → m′ ≡ m + h → Stands f w l c x n m at r h
@@ -30,9 +31,6 @@ module _ (t cw bw : List ℕ) (k : Counts) (K : KeptBy k) (i : ℕ) where
   link-told x n at le =
       let lb = K .blocks in
       link-there x (k .blocks) n at (length (word x)) (short-word x (length (word x)) (omega arith) refl) le
-
-  pub code-past : CodeCount t cw bw k i 40000
-  code-past = let kn = K .nodes in record { few = omega arith; reads = λ ws vs T n m at room more. absurd (omega arith) }
 
   links-fine : (x y n at : ℕ) → x ≤ k .blocks → y ≤ k .blocks → Told (readLinks (k .blocks)) uncounted (word x ++ word y) n 6 n at (Fine n ((at + length (word x)) + length (word y)))
   links-fine x y n at next else = links-told (k .blocks) x y n at (link-told x n at next) refl (link-told y n (at + length (word x)) else)
@@ -49,7 +47,6 @@ module _ (t cw bw : List ℕ) (k : Counts) (K : KeptBy k) (i : ℕ) where
     code-fine {r} C =
         let kc = K .commands in
         record {
-          few = omega (arith, C .few);
           reads = λ ws vs T n m at room more.
               let P = C .reads ws vs T n (at + length (word (getD bw (5 * i + 2) 0))) room in
               code-read ws vs n m at r (P .to) more (P .told);
@@ -60,12 +57,8 @@ module _ (t cw bw : List ℕ) (k : Counts) (K : KeptBy k) (i : ℕ) where
 
   -- ---- a block, by its kind
 
-  pub block-past : BlockCount t cw bw k i 40000
-  block-past = let kn = K .nodes in record { few = omega arith; reads = λ ws vs T n m h at H room more. absurd (omega arith) }
-
   pub count-placeholder : getD bw (5 * i) 0 ≡ 0 → BlockCount t cw bw k i 0
   count-placeholder e = record {
-    few = omega arith;
     reads = λ ws vs T n m h at H room more.
         let z : h ≡ 0 = H .none (λ o. omega arith) in
         stands (block-placeholder (limitsBy k) (memoryBy ws vs cw bw k) i n m at e (omega arith) (omega arith)) (omega arith) (omega arith);
@@ -73,7 +66,6 @@ module _ (t cw bw : List ℕ) (k : Counts) (K : KeptBy k) (i : ℕ) where
 
   pub count-data : getD bw (5 * i) 0 ≡ 2 → BlockCount t cw bw k i 0
   count-data e = record {
-    few = omega arith;
     reads = λ ws vs T n m h at H room more.
         let z : h ≡ 0 = H .none (λ o. omega arith) in
         stands (block-data (limitsBy k) (memoryBy ws vs cw bw k) i n m at e (omega arith) (omega arith)) (omega arith) (omega arith);
@@ -81,7 +73,6 @@ module _ (t cw bw : List ℕ) (k : Counts) (K : KeptBy k) (i : ℕ) where
 
   pub count-code : {r : ℕ} → getD bw (5 * i) 0 ≡ 1 → CodeCount t cw bw k i r → BlockCount t cw bw k i r
   count-code e C = record {
-    few = C .few;
     reads = λ ws vs T n m h at H room more.
         let z : h ≡ getD bw (5 * i + 2) 0 = H .code e in
         let S = C .reads ws vs T n m (at + 1) room (omega arith) in
@@ -90,8 +81,17 @@ module _ (t cw bw : List ℕ) (k : Counts) (K : KeptBy k) (i : ℕ) where
 
 -- ---- the commands that a block holds
 
-pub held-code : (bw : List ℕ) (i h : ℕ) → getD bw (5 * i) 0 ≡ 1 → h ≡ getD bw (5 * i + 2) 0 → h < 65536 → Held bw i h
-held-code bw i h e eh lt = record { few = lt; code = λ o. eh; none = λ n. absurd (n e) }
+pub held-code : (bw : List ℕ) (i h : ℕ) → getD bw (5 * i) 0 ≡ 1 → h ≡ getD bw (5 * i + 2) 0 → Held bw i h
+held-code bw i h e eh = record { code = λ o. eh; none = λ n. absurd (n e) }
 
 pub held-none : (bw : List ℕ) (i : ℕ) → (getD bw (5 * i) 0 ≡ 1 → ⊥) → Held bw i 0
-held-none bw i n = record { few = omega arith; code = λ o. absurd (n o); none = λ m. refl }
+held-none bw i n = record { code = λ o. absurd (n o); none = λ m. refl }
+
+-- ---- where the commands of all blocks end
+
+module _ (bw : List ℕ) (k : Counts) {i e : ℕ} (A : Chain (Within bw k) i e) where
+  pub apart-more : {e′ : ℕ} → (e′ ≤ k .commands → Follows bw k i e e′) → e′ ≤ k .commands → Chain (Within bw k) (i + 1) e′
+  apart-more F le = chain-more A (record { follows = F le; kept = le })
+
+  pub apart-done : i ≡ k .blocks → Apart bw k
+  apart-done q = record { end = e; ends = rw q at A }

@@ -20,7 +20,8 @@ use Rattle.judge.specs.Links.{block-there}
 use Rattle.judge.specs.Commands.{pair-told, set-variable, set-other, if-told, tail-return, tail-goto, tail-endIf, tail-other, command-told}
 use Rattle.judge.specs.CommandList.{Walked, walk-start, walk-next, walk-done}
 use Rattle.trees.specs.Trees.{nodesOf, Trees, root-reads}
-use Rattle.plain.specs.Counted.{Passes, TermCount, Named, TailCount, CommandCount, CommandsCount}
+use Rattle.plain.specs.Chain.{chain-none, chain-more}
+use Rattle.plain.specs.Counted.{Passes, TermCount, Named, TailCount, CommandCount, AllCount, CommandsCount}
 
 -- the nodes that a step says are those counted before and r more
 pub passes : {A : Type 0} {f : List ℕ → Answer A} {size : A → ℕ} {w : List ℕ} {l x n at m to r : ℕ} → Told f size w l x n at (Fine m to) → m ≡ n + r → Passes f size w l x n at r
@@ -132,13 +133,11 @@ pub record Walks (ws : List ℕ) (vs : List ℤ) (cw : List ℕ) (k : Counts) (h
 
 -- i of them were counted: r nodes
 pub record WalkCount (t cw : List ℕ) (k : Counts) (h first i r : ℕ) : Type 0 where
-  pub few : r ≤ 131072 * i
   pub walks : (ws : List ℕ) (vs : List ℤ) → Trees ws vs t (k .nodes) → (n at : ℕ) → n + r ≤ k .nodes → Walks ws vs cw k h first n at i r
 
 module _ (t cw : List ℕ) (k : Counts) (h first : ℕ) where
   pub count-start : WalkCount t cw k h first 0 0
   count-start = record {
-    few = omega arith;
     walks = λ ws vs T n at room.
         let z : n + 0 ≡ n = omega arith in
         record { to = at; walked = rw z (walk-start (limitsBy k) (codedBy ws vs cw k) h first n at (omega arith)) };
@@ -146,7 +145,6 @@ module _ (t cw : List ℕ) (k : Counts) (h first : ℕ) where
 
   pub count-next : {i r c : ℕ} → WalkCount t cw k h first i r → i < h → CommandCount t cw k (first + i) c → WalkCount t cw k h first (i + 1) (r + c)
   count-next {i} {r} {c} W lt C = record {
-    few = omega (arith, W .few, C .few);
     walks = λ ws vs T n at room.
         let w = W .walks ws vs T n at (omega arith) in
         let q = C .reads ws vs T (n + r) (w .to) (omega arith) in
@@ -156,8 +154,16 @@ module _ (t cw : List ℕ) (k : Counts) (h first : ℕ) where
 
   pub count-done : {i r : ℕ} → WalkCount t cw k h first i r → h ≤ i → i ≤ h → CommandsCount t cw k first h r
   count-done {i} {r} W ge le = record {
-    few = omega (arith, W .few);
     reads = λ ws vs T n at room.
         let w = W .walks ws vs T n at room in
         passes (walk-done (limitsBy k) (codedBy ws vs cw k) h first n at (w .walked) ge le) refl;
   }
+
+-- ---- all commands
+
+module _ (t cw : List ℕ) (k : Counts) where
+  pub all-none : AllCount t cw k 0 0
+  all-none = record { few = omega arith; sums = chain-none }
+
+  pub all-more : {i n r : ℕ} → AllCount t cw k i n → CommandCount t cw k i r → AllCount t cw k (i + 1) (n + r)
+  all-more {r = r} A C = record { few = omega (arith, A .few, C .few); sums = chain-more (A .sums) (record { nodes = r; count = C; sum = refl }) }

@@ -15,6 +15,7 @@ use Rattle.terms.specs.declared.Step.the-variants.{Fine}
 use Rattle.judge.specs.Stages.{codedBy, memoryBy, KeptBy, Staged, blockImageIn}
 use Rattle.judge.specs.declared.Stage.the-variants.{Fine as Passed}
 use Rattle.trees.specs.Trees.{Trees, Reads}
+use Rattle.plain.specs.Chain.{Chain}
 
 -- ---- what callers have to bring
 
@@ -58,29 +59,62 @@ pub record CommandCount (t cw : List ℕ) (k : Counts) (i r : ℕ) : Type 0 wher
   pub reads : (ws : List ℕ) (vs : List ℤ) → Trees ws vs t (k .nodes) → (n at : ℕ) → n + r ≤ k .nodes
       → Passes (readCommand (limitsBy k) n) commandNodes (commandImageIn (codedBy ws vs cw k) i) (k .nodes) 4 n at r
 
+-- command i is counted: its nodes come on top of n
+pub record Adds (t cw : List ℕ) (k : Counts) (i n n′ : ℕ) : Type 0 where
+  pub nodes : ℕ
+  pub count : CommandCount t cw k i nodes
+  pub sum : n′ ≡ n + nodes
+
+-- the first i commands
+pub record AllCount (t cw : List ℕ) (k : Counts) (i r : ℕ) : Type 0 where
+  pub few : r ≤ 131072 * i
+  pub sums : Chain (Adds t cw k) i r
+
 -- h commands from the first on
 pub record CommandsCount (t cw : List ℕ) (k : Counts) (first h r : ℕ) : Type 0 where
-  pub few : r ≤ 131072 * h
   pub reads : (ws : List ℕ) (vs : List ℤ) → Trees ws vs t (k .nodes) → (n at : ℕ) → n + r ≤ k .nodes
       → Passes (readCommands (limitsBy k) h n) commandsNodes (commandsImageIn (codedBy ws vs cw k) h first) (k .nodes) (4 * h) n at r
 
 -- what follows the kind of block i, which is code
 pub record CodeCount (t cw bw : List ℕ) (k : Counts) (i r : ℕ) : Type 0 where
-  pub few : r ≤ 2147483648
   pub reads : (ws : List ℕ) (vs : List ℤ) → Trees ws vs t (k .nodes) → (n m at : ℕ) → n + r ≤ k .nodes → m + getD bw (5 * i + 2) 0 ≤ k .commands
       → Stands (blockOf (limitsBy k) m n 1) (blockTail (memoryBy ws vs cw bw k) i 1) (k .nodes) (k .commands) 9 n m at r (getD bw (5 * i + 2) 0)
 
 -- the commands of block i: none where it is not code
 pub record Held (bw : List ℕ) (i h : ℕ) : Type 0 where
-  pub few : h < 65536
   pub code : getD bw (5 * i) 0 ≡ 1 → h ≡ getD bw (5 * i + 2) 0
   pub none : (getD bw (5 * i) 0 ≡ 1 → ⊥) → h ≡ 0
 
 -- block i
 pub record BlockCount (t cw bw : List ℕ) (k : Counts) (i r : ℕ) : Type 0 where
-  pub few : r ≤ 2147483648
   pub reads : (ws : List ℕ) (vs : List ℤ) → Trees ws vs t (k .nodes) → (n m h at : ℕ) → Held bw i h → n + r ≤ k .nodes → m + h ≤ k .commands
       → Stands (readBlock (limitsBy k) m n) (blockImageIn (memoryBy ws vs cw bw k) i) (k .nodes) (k .commands) 10 n m at r h
+
+-- the links of block i are there, or none
+pub record Linked (bw : List ℕ) (k : Counts) (i : ℕ) : Type 0 where
+  pub next : getD bw (5 * i + 3) 0 ≤ k .blocks
+  pub else : getD bw (5 * i + 4) 0 ≤ k .blocks
+
+-- where the commands of code block i end, those of the blocks before it ending at e
+pub data Ends (bw : List ℕ) (i e e′ : ℕ) : Type 0 where
+  none : getD bw (5 * i + 2) 0 ≡ 0 → e′ ≡ e → Ends bw i e e′
+  some : e ≤ getD bw (5 * i + 1) 0 → e′ ≡ getD bw (5 * i + 1) 0 + getD bw (5 * i + 2) 0 → Ends bw i e e′
+
+-- the same of a block of any kind that is fine but for its commands
+pub data Follows (bw : List ℕ) (k : Counts) (i e e′ : ℕ) : Type 0 where
+  placeholder : getD bw (5 * i) 0 ≡ 0 → e′ ≡ e → Follows bw k i e e′
+  code : getD bw (5 * i) 0 ≡ 1 → Linked bw k i → Ends bw i e e′ → Follows bw k i e e′
+  dataBlock : getD bw (5 * i) 0 ≡ 2 → e′ ≡ e → Follows bw k i e e′
+
+-- and all those commands are kept
+pub record Within (bw : List ℕ) (k : Counts) (i e e′ : ℕ) : Type 0 where
+  pub follows : Follows bw k i e e′
+  pub kept : e′ ≤ k .commands
+
+-- no command is held by two blocks, and every block is fine but for its commands
+pub record Apart (bw : List ℕ) (k : Counts) : Type 0 where
+  pub end : ℕ
+  pub ends : Chain (Within bw k) (k .blocks) end
 
 -- a record that is judged fine
 pub record Plain (m : Memory) : Type 0 where

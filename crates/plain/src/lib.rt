@@ -1,22 +1,22 @@
-// Whether a script record is plainly fine: one pass over its blocks and commands that sums the nodes of its expressions out of a table.
-// What is not plainly fine counts more nodes than a script may have, so that the sum is too large at the end.
+// Whether a script record is plainly fine: one pass over its commands that sums the nodes of their expressions out of a table, one over its blocks.
+// A command that is not plainly fine counts more nodes than a script may have, so that the sum is too large at the end.
 ghost use mathlib.Core.Path.{_≡_};
 ghost use mathlib.Core.Bool.{true};
 ghost use mathlib.Core.List.{List};
-ghost use Prim.Native.Nat.{ℕ, _+_, _≤_, _<_};
+ghost use Prim.Native.Nat.{ℕ, _*_, _≤_, _<_};
 ghost use lib.IntN.{ℤ};
-ghost use lib.ListN.{length};
+ghost use lib.ListN.{length, getD};
 ghost use Rattle.model.specs.Limits.{nodeLimit};
 ghost use Rattle.model.specs.Memory.{memoryIn};
 ghost use Rattle.trees.specs.Trees.{Trees};
 ghost use Rattle.judge.specs.Stages.{memoryBy, KeptBy};
-ghost use Rattle.plain.specs.Counted.{Ready, TermCount, Named, TailCount, CommandCount, CommandsCount, CodeCount, Held, BlockCount, Plain};
+ghost use Rattle.plain.specs.Counted.{Ready, TermCount, Named, TailCount, CommandCount, AllCount, Follows, Apart, Plain};
 use memory::Counts;
 use memory::index_of;
 use trees::measure_trees;
 use trees::nodes_of;
 
-// More nodes than a script may have: what is not plainly fine counts so many.
+// More nodes, and more commands, than a script may have: a command that is not plainly fine counts so many, the commands of such a block end there.
 const TOO_MANY: usize = 40000;
 
 // An element as a number that is known to be one of 16 bits.
@@ -91,100 +91,85 @@ fn command_nodes(table: &[u32], cw: &[u16; 65536], counts: Counts, i: usize) -> 
     }
 }
 
-// So many commands, from the first on.
-fn commands_nodes(
-    table: &[u32],
-    cw: &[u16; 65536],
-    counts: Counts,
-    first: usize,
-    held: usize,
-) -> usize
-    requires { ⌜ (first + held ≤ counts .commands) × Ready counts (now table) ⌝ }
-    ensures { λ r. ⌜ CommandsCount (now (table .entry)) (now (cw .entry)) counts first held r ⌝ }
+// The nodes of all commands that are kept, whether a block holds them or not.
+fn commands_nodes(table: &[u32], cw: &[u16; 65536], counts: Counts) -> usize
+    requires { ⌜ Ready counts (now table) ⌝ }
+    ensures { λ r. ⌜ AllCount (now (table .entry)) (now (cw .entry)) counts (counts .commands) r ⌝ }
 {
+    let end = index_of(counts.commands);
     let mut n: usize = 0;
     let mut i: usize = 0;
-    while i < held {
-        n += command_nodes(table, cw, counts, first + i);
+    while i < end {
+        n += command_nodes(table, cw, counts, i);
         i += 1;
     }
     n
 }
 
-// Block i, which is code: its commands lie within the kept count and its links are there, or too many.
-fn code_nodes(
-    table: &[u32],
-    cw: &[u16; 65536],
-    bw: &[u16; 20480],
-    counts: Counts,
-    i: usize,
-) -> usize
-    requires { ⌜ (i < counts .blocks) × Ready counts (now table) ⌝ }
-    ensures { λ r. ⌜ CodeCount (now (table .entry)) (now (cw .entry)) (now (bw .entry)) counts i r ⌝ }
+// Where the commands of block i end, which is code: they begin where those of the blocks before it end, or later, and its links are there.
+fn code_end(bw: &[u16; 20480], counts: Counts, i: usize, end: usize) -> usize
+    requires { ⌜ (i < counts .blocks) × (getD (now bw) (5 * i) 0 ≡ 1) × KeptBy counts ⌝ }
+    ensures { λ r. ⌜ (r ≤ counts .commands → Follows (now (bw .entry)) counts i end r) ⌝ }
 {
-    let first = element(bw[5 * i + 1]);
-    let held = element(bw[5 * i + 2]);
-    if index_of(counts.commands) < first + held {
-        return TOO_MANY;
-    }
     if counts.blocks < bw[5 * i + 3] {
         return TOO_MANY;
     }
     if counts.blocks < bw[5 * i + 4] {
         return TOO_MANY;
     }
-    commands_nodes(table, cw, counts, first, held)
-}
-
-// The commands that block i holds: none where it is not code.
-fn block_commands(bw: &[u16; 20480], i: usize) -> usize
-    requires { ⌜ i < 4096 ⌝ }
-    ensures { λ r. ⌜ Held (now (bw .entry)) i r ⌝ }
-{
-    if bw[5 * i] == 1 {
-        return element(bw[5 * i + 2]);
+    let held = element(bw[5 * i + 2]);
+    if held == 0 {
+        return end;
     }
-    0
+    let first = element(bw[5 * i + 1]);
+    if first < end {
+        return TOO_MANY;
+    }
+    first + held
 }
 
-// Block i.
-fn block_nodes(
-    table: &[u32],
-    cw: &[u16; 65536],
-    bw: &[u16; 20480],
-    counts: Counts,
-    i: usize,
-) -> usize
-    requires { ⌜ (i < counts .blocks) × Ready counts (now table) ⌝ }
-    ensures { λ r. ⌜ BlockCount (now (table .entry)) (now (cw .entry)) (now (bw .entry)) counts i r ⌝ }
+// The same of any block: where it is not code it holds no commands.
+fn block_end(bw: &[u16; 20480], counts: Counts, i: usize, end: usize) -> usize
+    requires { ⌜ (i < counts .blocks) × KeptBy counts ⌝ }
+    ensures { λ r. ⌜ (r ≤ counts .commands → Follows (now (bw .entry)) counts i end r) ⌝ }
 {
     let kind = bw[5 * i];
     match kind {
-        0 => 0,
-        1 => code_nodes(table, cw, bw, counts, i),
-        2 => 0,
+        0 => end,
+        1 => code_end(bw, counts, i, end),
+        2 => end,
         _ => TOO_MANY,
     }
 }
 
-// All blocks, by a table of the trees.
+// Whether no command is held twice and every block is fine but for its commands.
+fn blocks_apart(bw: &[u16; 20480], counts: Counts) -> bool
+    requires { ⌜ KeptBy counts ⌝ }
+    ensures { λ r. ⌜ (r ≡ true → Apart (now (bw .entry)) counts) ⌝ }
+{
+    let n = index_of(counts.blocks);
+    let most = index_of(counts.commands);
+    let mut end: usize = 0;
+    let mut i: usize = 0;
+    while i < n {
+        end = block_end(bw, counts, i, end);
+        if most < end {
+            return false;
+        }
+        i += 1;
+    }
+    true
+}
+
+// All commands and blocks, by a table of the trees.
 fn plain_by(table: &[u32], cw: &[u16; 65536], bw: &[u16; 20480], counts: Counts) -> bool
     requires { ⌜ Ready counts (now table) ⌝ }
     ensures { λ r. ⌜ (r ≡ true → (ws : List ℕ) (vs : List ℤ) → Trees ws vs (now (table .entry)) (counts .nodes) → Plain (memoryBy ws vs (now (cw .entry)) (now (bw .entry)) counts)) ⌝ }
 {
-    let end = index_of(counts.blocks);
-    let mut n: usize = 0;
-    let mut m: usize = 0;
-    let mut i: usize = 0;
-    while i < end {
-        n += block_nodes(table, cw, bw, counts, i);
-        m += block_commands(bw, i);
-        i += 1;
-    }
-    if index_of(counts.nodes) < n {
+    if index_of(counts.nodes) < commands_nodes(table, cw, counts) {
         return false;
     }
-    m <= index_of(counts.commands)
+    blocks_apart(bw, counts)
 }
 
 // With a table for 64 nodes: to clear a large one takes longer than to go over a small script.
@@ -199,7 +184,9 @@ fn plain_up_to_64(
     ensures { λ r. ⌜ (r ≡ true → Plain (memoryBy (now (ws .entry)) (now (val .entry)) (now (cw .entry)) (now (bw .entry)) counts)) ⌝ }
 {
     let mut table = [0u32; 64];
-    measure_trees(ws, val, &mut table, index_of(counts.nodes));
+    if !measure_trees(ws, val, &mut table, index_of(counts.nodes)) {
+        return false;
+    }
     plain_by(&table, cw, bw, counts)
 }
 
@@ -215,7 +202,9 @@ fn plain_up_to_1024(
     ensures { λ r. ⌜ (r ≡ true → Plain (memoryBy (now (ws .entry)) (now (val .entry)) (now (cw .entry)) (now (bw .entry)) counts)) ⌝ }
 {
     let mut table = [0u32; 1024];
-    measure_trees(ws, val, &mut table, index_of(counts.nodes));
+    if !measure_trees(ws, val, &mut table, index_of(counts.nodes)) {
+        return false;
+    }
     plain_by(&table, cw, bw, counts)
 }
 
@@ -231,7 +220,9 @@ fn plain_any(
     ensures { λ r. ⌜ (r ≡ true → Plain (memoryBy (now (ws .entry)) (now (val .entry)) (now (cw .entry)) (now (bw .entry)) counts)) ⌝ }
 {
     let mut table = [0u32; 32768];
-    measure_trees(ws, val, &mut table, index_of(counts.nodes));
+    if !measure_trees(ws, val, &mut table, index_of(counts.nodes)) {
+        return false;
+    }
     plain_by(&table, cw, bw, counts)
 }
 

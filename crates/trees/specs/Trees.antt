@@ -1,7 +1,10 @@
 -- What a word of the table tells of a node's tree: its nodes and its levels. A tree with room for both is read fine wherever it stands. Assumes nothing.
+use mathlib.Core.Path.{_≡_, sym, subst}
+use mathlib.Core.Bool.{true, false}
 use mathlib.Core.List.{List}
 use Prim.Native.Nat.{ℕ, _+_, _-_, _/_, _%_, _≤_, _<_}
 use native.Mathlib.Omega.{arith}
+use lib.Dec.{T as Holds}
 use lib.IntN.{ℤ}
 use lib.ListN.{length, getD}
 use Rattle.model.specs.Expr.{size}
@@ -24,9 +27,9 @@ pub record Reads (ws : List ℕ) (vs : List ℤ) (l b i n at o k : ℕ) : Type 0
   pub to : ℕ
   pub told : Told (readExpr l (64 - o) n) size (nodeImage (nodesIn ws vs l) b i) l 0 n at (Fine (n + k) to)
 
--- what the word w tells of node i: fewer nodes than a script may have, and then no more levels than an expression may have, or too many nodes
+-- what the word w tells of node i: no more levels than an expression may have, and its nodes
 pub record Tree (ws : List ℕ) (vs : List ℤ) (i w : ℕ) : Type 0 where
-  pub levels : nodesOf w ≤ 32768 → levelsOf w ≤ 64
+  pub levels : levelsOf w ≤ 64
   pub reads : (b : ℕ) → i < b → (n at o l : ℕ) → l ≤ 32768 → o + levelsOf w ≤ 64 → n + nodesOf w ≤ l → Reads ws vs l b i n at o (nodesOf w)
 
 -- the table tells the trees of the first n nodes
@@ -34,9 +37,13 @@ pub record Trees (ws : List ℕ) (vs : List ℤ) (t : List ℕ) (n : ℕ) : Type
   pub long : n ≤ length t
   pub each : (j : ℕ) → j < n → Tree ws vs j (getD t j 0)
 
+-- an answer of false says nothing
+pub never : {A : Type 0} → false ≡ true → A
+never e = absurd (subst Holds (sym e) tt)
+
 -- an expression of a command, where so many nodes more have room
 pub root-reads : (ws : List ℕ) (vs : List ℤ) {t : List ℕ} {l : ℕ} → Trees ws vs t l → l ≤ 32768 → (i n at : ℕ) → i < l → n + nodesOf (getD t i 0) ≤ l → Reads ws vs l l i n at 0 (nodesOf (getD t i 0))
 root-reads ws vs {t} {l} T hl i n at h room =
     let T′ = T .each i h in
-    let d = T′ .levels (omega arith) in
+    let d = T′ .levels in
     T′ .reads l h n at 0 l hl (omega arith) room

@@ -1,19 +1,17 @@
 // The trees of nodes: how many nodes and levels each has, told by one pass from the lowest node up.
 ghost use mathlib.Core.Path.{_≡_};
+ghost use mathlib.Core.Bool.{true};
 ghost use mathlib.Core.List.{List};
 ghost use Prim.Native.Nat.{ℕ, _≤_, _<_};
-ghost use lib.IntN.{ℤ};
 ghost use lib.ListN.{length};
 ghost use Rattle.model.specs.Limits.{wide};
 ghost use Rattle.trees.specs.Trees.{nodesOf, Trees};
-ghost use Rattle.trees.specs.Words.{Word, Capped, Joined, Number};
-ghost use Rattle.trees.specs.Grown.{Operand, Sound, Held};
+ghost use Rattle.trees.specs.Words.{Capped, Words, AboveOne, AboveTwo, Number};
+ghost use Rattle.trees.specs.Grown.{Sound, Held, Node};
 use memory::index_of;
-use memory::kind_of;
-use model::Kind;
 
-// What stands for a tree that is not fine by itself: more nodes than a script can have, and more levels than two trees that are fine.
-const TOO_MANY: u32 = 65576000; // 1000 * 65536 + 40000
+// A word as high as this tells nothing: 65 levels, one more than an expression may have.
+const LIMIT: u32 = 4259840; // 65 * 65536
 
 // One level, one node.
 const NODE: u32 = 65537;
@@ -25,51 +23,61 @@ pub fn nodes_of(word: u32) -> usize
     (word % 65536) as usize
 }
 
-// The operand i of node b, as the table has it.
-fn operand(table: &[u32], b: usize, i: u16) -> u32
-    requires { ⌜ b ≤ length (now table) ⌝ }
-    ensures { λ r. ⌜ ((ws : List ℕ) (vs : List ℤ) → Held ws vs (now (table .entry)) b → Operand ws vs b i r) ⌝ }
-{
-    let j = index_of(i);
-    if j < b {
-        return table[j];
-    }
-    TOO_MANY
-}
-
-// A tree as large as a script may hold, of 64 levels at most, or too many.
+// A tree of as many levels and nodes as it may have, or the limit.
 fn capped(x: u32) -> u32
     ensures { λ r. ⌜ Capped x r ⌝ }
 {
-    if x >= 4259840 {
-        return TOO_MANY;
+    if x >= LIMIT {
+        return LIMIT;
     }
     if x % 65536 >= 32768 {
-        return TOO_MANY;
+        return LIMIT;
     }
     x
 }
 
-// One node above two trees: the levels of the deeper one, the nodes of both.
-fn above_two(a: u32, b: u32) -> u32
-    requires { ⌜ Word a × Word b ⌝ }
-    ensures { λ r. ⌜ Joined a b r ⌝ }
+// Node i above the tree of node a, which has to lie below it.
+fn above_one(table: &[u32], i: usize, a: u16) -> u32
+    requires { ⌜ Words (now table) i ⌝ }
+    ensures { λ r. ⌜ (r < 4259840 → AboveOne (now (table .entry)) i a r) ⌝ }
 {
-    if a < b {
-        return capped(b + a % 65536 + NODE);
+    let j = index_of(a);
+    if j >= i {
+        return LIMIT;
     }
-    capped(a + b % 65536 + NODE)
+    capped(table[j] + NODE)
+}
+
+// Node i above the trees of nodes a and b: the levels of the deeper one, the nodes of both.
+fn above_two(table: &[u32], i: usize, a: u16, b: u16) -> u32
+    requires { ⌜ Words (now table) i ⌝ }
+    ensures { λ r. ⌜ (r < 4259840 → AboveTwo (now (table .entry)) i a b r) ⌝ }
+{
+    let j = index_of(a);
+    if j >= i {
+        return LIMIT;
+    }
+    let k = index_of(b);
+    if k >= i {
+        return LIMIT;
+    }
+    let x = table[j];
+    let y = table[k];
+    if x < y {
+        return capped(y + x % 65536 + NODE);
+    }
+    capped(x + y % 65536 + NODE)
 }
 
 // The number of an Imm16, which has to have 16 bits.
 fn imm16_tree(z: i32) -> u32
-    ensures { λ r. ⌜ Number z 65536 r ⌝ }
+    ensures { λ r. ⌜ (r < 4259840 → Number z 65536 r) ⌝ }
 {
     if z < -32768 {
-        return TOO_MANY;
+        return LIMIT;
     }
     if 32767 < z {
-        return TOO_MANY;
+        return LIMIT;
     }
     NODE
 }
@@ -81,39 +89,54 @@ fn imm32_tree(z: i32) -> u32
     NODE
 }
 
+// A node whose code is above 11: Imm32, what has one operand, Other, or no code.
+fn high_tree(val: &[i32; 32768], table: &[u32], i: usize, code: u16, a: u16) -> u32
+    requires { ⌜ (i < 32768) × (11 < code) × Words (now table) i ⌝ }
+    ensures { λ r. ⌜ (r < 4259840 → (ws : List ℕ) → Node ws (now (val .entry)) (now (table .entry)) i code a → Sound ws (now (val .entry)) i r) ⌝ }
+{
+    if code > 17 {
+        if code == 18 {
+            return NODE;
+        }
+        return LIMIT;
+    }
+    if code == 12 {
+        return imm32_tree(val[i]);
+    }
+    above_one(table, i, a)
+}
+
 // Node i, the table telling what lies below it. The code 11, which most nodes have, is asked first.
 fn tree_of(ws: &[u16; 98304], val: &[i32; 32768], table: &[u32], i: usize) -> u32
     requires { ⌜ (i < 32768) × Held (now ws) (now val) (now table) i ⌝ }
-    ensures { λ r. ⌜ Sound (now (ws .entry)) (now (val .entry)) i r ⌝ }
+    ensures { λ r. ⌜ (r < 4259840 → Sound (now (ws .entry)) (now (val .entry)) i r) ⌝ }
 {
     let code = ws[3 * i];
     if code == 11 {
         return imm16_tree(val[i]);
     }
-    if code >= 19 {
-        return TOO_MANY;
+    if code > 11 {
+        return high_tree(val, table, i, code, ws[3 * i + 1]);
     }
-    let k = kind_of(code);
-    match k {
-        Kind::Two(_) => above_two(
-            operand(table, i, ws[3 * i + 1]),
-            operand(table, i, ws[3 * i + 2]),
-        ),
-        Kind::One(_) => capped(operand(table, i, ws[3 * i + 1]) + NODE),
-        Kind::Imm16 => imm16_tree(val[i]),
-        Kind::Imm32 => imm32_tree(val[i]),
-        Kind::Other => NODE,
+    if code == 6 {
+        return above_one(table, i, ws[3 * i + 1]);
     }
+    above_two(table, i, ws[3 * i + 1], ws[3 * i + 2])
 }
 
-// The trees of the first n nodes, from the lowest on, since operands lie below.
-pub fn measure_trees(ws: &[u16; 98304], val: &[i32; 32768], table: &mut [u32], n: usize)
+// The trees of the first n nodes, from the lowest on, since operands lie below; false where one is not fine by itself.
+pub fn measure_trees(ws: &[u16; 98304], val: &[i32; 32768], table: &mut [u32], n: usize) -> bool
     requires { ⌜ (n ≤ 32768) × (n ≤ length (now table)) ⌝ }
-    ensures { λ _. ⌜ Trees (now (ws .entry)) (now (val .entry)) (now (table .exit)) n ⌝ }
+    ensures { λ r. ⌜ (r ≡ true → Trees (now (ws .entry)) (now (val .entry)) (now (table .exit)) n) ⌝ }
 {
     let mut i = 0;
     while i < n {
-        table[i] = tree_of(ws, val, table, i);
+        let w = tree_of(ws, val, table, i);
+        if w >= LIMIT {
+            return false;
+        }
+        table[i] = w;
         i += 1;
     }
+    true
 }

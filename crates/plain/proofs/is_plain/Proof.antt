@@ -1,5 +1,5 @@
 -- `plain::is_plain` meets its contract. Assumes nothing.
-use Rattle.plain.specs.Whole.{never}
+use Rattle.trees.specs.Trees.{never}
 use borrow.Author.Needs.{needs}
 use Rattle.plain.proofs.is_plain.Statement.{statement}
 use Rattle.plain.proofs.is_plain.Tie as tie

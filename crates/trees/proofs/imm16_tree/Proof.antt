@@ -12,7 +12,7 @@ returns-2 : tie.Need-returns-2
 returns-2 c = search needs
 
 returns-3 : tie.Need-returns-3
-returns-3 c = number-16 _ (rw (toZ-ofZ (c .before .before .fits .z)) at (c .before .if1 .left)) (rw (toZ-ofZ (c .before .before .fits .z)) at (c .if2 .left))
+returns-3 c = λ h. number-16 _ (rw (toZ-ofZ (c .before .before .fits .z)) at (c .before .if1 .left)) (rw (toZ-ofZ (c .before .before .fits .z)) at (c .if2 .left))
 
 pub imm16-tree-spec : {M : Type 1} → statement M
 imm16-tree-spec = tie.close (tie.spec returns returns-2 returns-3)
