@@ -21,7 +21,7 @@ add-t18 : tie.Need-add-t18
 add-t18 c = omega (arith, c .before .before .before .before .before .before .before .blocks-before .ensures, before-few (c .before .before .before .before .before .before .before .before .before .args .x .len), c .before .before .before .before .before .before .before .before .before .pre .1 .1)
 
 compile-enable-requires : tie.Need-compile-enable-requires
-compile-enable-requires c κs = let q = append-rest _ _ (c .before .before .before .before .before .before .before .before .before .before .before .before .before .pre .0) (c .before .before .before .before .before .before .compile-sold .ensures) in (rw (c .before .before .before .before .before .before .before .before .before .before .before .blocks-before .ensures) q, (c .before .before .before .before .before .before .before .before .before .before .before .before .before .pre .1 .0, omega (arith, q .blocks, c .before .before .before .before .before .before .compile-sold .ensures .counted, c .before .before .before .before .before .before .before .before .before .before .before .blocks-before .ensures, once-long (c .before .before .before .before .before .before .before .before .before .before .before .before .before .args .x .len) (c .before .before .before .before .before .before .before .before .before .before .before .before .before .args .x), c .before .before .before .before .before .before .before .before .before .before .before .before .before .pre .1 .1), omega (arith, q .blocks, c .before .before .before .before .before .before .compile-sold .ensures .counted, c .before .before .before .before .before .before .before .before .before .before .before .blocks-before .ensures, once-long (c .before .before .before .before .before .before .before .before .before .before .before .before .before .args .x .len) (c .before .before .before .before .before .before .before .before .before .before .before .before .before .args .x), c .before .before .before .before .before .before .before .before .before .before .before .before .before .pre .1 .1), omega (arith, q .blocks, c .before .before .before .before .before .before .compile-sold .ensures .counted, c .before .before .before .before .before .before .before .before .before .before .before .blocks-before .ensures, once-long (c .before .before .before .before .before .before .before .before .before .before .before .before .before .args .x .len) (c .before .before .before .before .before .before .before .before .before .before .before .before .before .args .x), c .before .before .before .before .before .before .before .before .before .before .before .before .before .pre .1 .1)))
+compile-enable-requires c κs = let q = append-rest _ _ (c .before .before .before .before .before .before .before .before .before .before .before .before .before .pre .0) (c .before .before .before .before .before .before .compile-sold .ensures) in let n = c .before .before .before .before .before .before .compile-sold .ensures .counted in let b = c .before .before .before .before .before .before .before .before .before .before .before .blocks-before .ensures in let l = once-long (c .before .before .before .before .before .before .before .before .before .before .before .before .before .args .x .len) (c .before .before .before .before .before .before .before .before .before .before .before .before .before .args .x) in let e = c .before .before .before .before .before .before .before .before .before .before .before .before .before .pre .1 .1 in (rw b q, (c .before .before .before .before .before .before .before .before .before .before .before .before .before .pre .1 .0, omega arith, omega arith, omega arith))
 
 returns : tie.Need-returns
 returns c = append-put (c .before .before .before .before .before .before .before .compile-sold .ensures) (rw (c .before .before .before .before .before .before .before .before .before .before .before .before .blocks-before .ensures) at (c .compile-enable .ensures))
