@@ -91,7 +91,8 @@ fn compile_item(
     let index = x.index;
     let item = x.item;
     let end = x.end;
-    push_slot(ws, val, cw, bw, k, index, item.0 as i32, count, end, endif)
+    let id = item.0 as i32;
+    push_slot(ws, val, cw, bw, k, index, id, count, end, endif)
 }
 
 // S: the item with var[0] as its count, likewise.
