@@ -2,7 +2,7 @@
 -- Block numbers are counted from End, as the code counts them; Same.antt holds them against the definition.
 use mathlib.Core.Path.{_≡_}
 use mathlib.Core.Bool.{Bool, true, false, cond}
-use mathlib.Core.List.{List, [], _∷_, map}
+use mathlib.Core.List.{List, [], _∷_, _++_, map}
 use Prim.Native.Nat.{ℕ, zero, suc, _+_, _≤_, _<_}
 use lib.Dec.{leb}
 use lib.IntN.{ℤ, pos}
@@ -35,14 +35,22 @@ enableBy true x cs k n =
 abbrev pub enableOf : ItemContext → List ℕ → ℕ → ℕ → List Block
 enableOf x cs k n = enableBy (x .five) x cs k n
 
--- what follows H, by the number of requirements
+-- D, [E] and N, by the number of requirements
+abbrev pub onceBy : ℕ → ItemContext → List Block
+onceBy zero x = itemBlock x false (imm16 (pos 0)) ∷ itemBlock x true (imm16 (pos 1)) ∷ []
+onceBy (suc n) x = itemBlock x true (imm16 (pos 0)) ∷ ifBlock (x .end .0 + 2) (acquiredOf (x .acquired)) (x .end .0 + 1) ∷ itemBlock x true (imm16 (pos 1)) ∷ []
+
+abbrev pub onceOf : ItemContext → List Block
+onceOf x = onceBy (x .len) x
+
+-- how many blocks stand between End and N: D, or H, D and E
+abbrev pub beforeBy : ℕ → ℕ
+beforeBy zero = 1
+beforeBy (suc n) = 3
+
+-- what follows H: the block before N is V's else
 abbrev pub uniqueBy : ℕ → ItemContext → List ℕ → List Block
-uniqueBy zero x cs = itemBlock x false (imm16 (pos 0)) ∷ itemBlock x true (imm16 (pos 1)) ∷ enableOf x cs (x .end .0 + 1) (x .end .0 + 2)
-uniqueBy (suc n) x cs =
-    itemBlock x true (imm16 (pos 0))
-    ∷ ifBlock (x .end .0 + 2) (acquiredOf (x .acquired)) (x .end .0 + 1)
-    ∷ itemBlock x true (imm16 (pos 1))
-    ∷ enableOf x cs (x .end .0 + 3) (x .end .0 + 4)
+uniqueBy n x cs = onceBy n x ++ enableOf x cs (x .end .0 + beforeBy n) (x .end .0 + beforeBy n + 1)
 
 abbrev pub uniqueOf : ItemContext → List ℕ → List Block
 uniqueOf x cs = uniqueBy (x .len) x cs

@@ -28,6 +28,12 @@ plus2 n = omega arith
 plus3 : (n : ℕ) → n + 3 ≡ suc (suc (suc n))
 plus3 n = omega arith
 
+plus1-1 : (n : ℕ) → n + 1 + 1 ≡ suc (suc n)
+plus1-1 n = omega arith
+
+plus3-1 : (n : ℕ) → n + 3 + 1 ≡ suc (suc (suc (suc n)))
+plus3-1 n = omega arith
+
 plus4 : (n : ℕ) → n + 4 ≡ suc (suc (suc (suc n)))
 plus4 n = omega arith
 
@@ -57,7 +63,7 @@ module _ (x : ItemContext) (cs : List ℕ) (h : Model.Sheet) (z : ℤ) (rs : Lis
     unique-by-none : uniqueBy zero x cs ≡ uniqueBlocks h (x .index) (x .end .0) (x .item .0) []
     unfolding uniqueBlocks
     unique-by-none =
-        rw (enable-same x cs h (negate (acquiredExpr h (x .item .0))) (timerOf h (x .item .0)) (x .end .0 + 1) (x .end .0 + 2) (s .five) (s .ten) (s .fifteen) none-missing, add-one (x .end .0), plus2 (x .end .0))
+        rw (enable-same x cs h (negate (acquiredExpr h (x .item .0))) (timerOf h (x .item .0)) (x .end .0 + 1) (x .end .0 + 1 + 1) (s .five) (s .ten) (s .fifteen) none-missing, plus1-1 (x .end .0), add-one (x .end .0))
 
     limit-by-none : limitBy zero x cs ≡ limitBlocks (x .index) (x .end .0) (x .item .0) (x .limit) []
     unfolding limitBlocks
@@ -83,12 +89,12 @@ module _ (x : ItemContext) (cs : List ℕ) (h : Model.Sheet) (z : ℤ) (rs : Lis
     unfolding uniqueBlocks
     unique-by-some =
         rw (
-          enable-same x cs h (two BitAnd (negate (acquiredExpr h (x .item .0))) (joinTests (test r) rest)) (timerOf h (x .item .0)) (x .end .0 + 3) (x .end .0 + 4) (s .five) (s .ten) (s .fifteen) some-missing,
+          enable-same x cs h (two BitAnd (negate (acquiredExpr h (x .item .0))) (joinTests (test r) rest)) (timerOf h (x .item .0)) (x .end .0 + 3) (x .end .0 + 3 + 1) (s .five) (s .ten) (s .fifteen) some-missing,
           s .acquired,
+          plus3-1 (x .end .0),
           add-one (x .end .0),
           plus2 (x .end .0),
           plus3 (x .end .0),
-          plus4 (x .end .0),
         )
 
     limit-by-some : hideBlock (x .end .0) (x .index) ∷ limitBy (suc n) x cs ≡ limitBlocks (x .index) (x .end .0) (x .item .0) (x .limit) (r ∷ rest)

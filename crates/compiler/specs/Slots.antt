@@ -34,6 +34,21 @@ append-put {s} {t} {u} {xs} {ys} p q = record {
   nodes-counted = omega (arith, p .nodes-counted, q .nodes-counted, sum-append blockNodes xs ys);
 }
 
+-- room for the first of them, and for the others once those are there
+pub append-first : {s : Memory} (xs ys : List Block) → Room s (xs ++ ys) → Room s xs
+append-first xs ys r = record {
+  blocks = omega (arith, r .blocks, length-append xs ys);
+  commands = omega (arith, r .commands, sum-append blockCommands xs ys);
+  nodes = omega (arith, r .nodes, sum-append blockNodes xs ys);
+}
+
+pub append-rest : {s t : Memory} (xs ys : List Block) → Room s (xs ++ ys) → PutBlocks s xs t → Room t ys
+append-rest xs ys r p = record {
+  blocks = omega (arith, r .blocks, p .counted, length-append xs ys);
+  commands = omega (arith, r .commands, p .commands-counted, sum-append blockCommands xs ys);
+  nodes = omega (arith, r .nodes, p .nodes-counted, sum-append blockNodes xs ys);
+}
+
 pub nothing-put : {s : Memory} → PutBlocks s [] s
 unfolding putBlocks
 nothing-put = record { is = refl; counted = omega arith; commands-counted = omega arith; nodes-counted = omega arith }

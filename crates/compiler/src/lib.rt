@@ -3,17 +3,16 @@ ghost use mathlib.Core.Path.{_≡_};
 ghost use mathlib.Core.List.{[], _∷_};
 ghost use Prim.Native.Nat.{_+_, _-_, _≤_, _<_};
 ghost use Rattle.model.specs.Limits.{slotCount};
-ghost use Rattle.model.specs.Compile.{hideBlock, slotBlocks, slotsBlocks, shopBlocks};
+ghost use Rattle.model.specs.Compile.{hideBlock, tempVar, slotBlocks, slotsBlocks, shopBlocks};
 ghost use Rattle.memory.specs.Sound.{Room};
 ghost use Rattle.emit.specs.Put.{PutBlocks, memoryOf};
-ghost use Rattle.emit.specs.Values.{valueExpr};
-ghost use Rattle.compiler.specs.Parts.{itemBlock, enableOf, uniqueOf, limitIn, soldOf, filledOf, Fitting, rateWord, isFive};
+ghost use Rattle.model.specs.Expr.{imm};
+ghost use Rattle.compiler.specs.Parts.{itemBlock, enableOf, beforeBy, onceOf, uniqueOf, limitIn, soldOf, filledOf, Fitting, rateWord, isFive};
 ghost use Rattle.compiler.specs.Context.{acquiredBy, Context};
 ghost use Rattle.shop.specs.Shapes.{atcAt, timerIs, sheetOf, slotOf, slotsOf};
 ghost use Rattle.shop.specs.Sets.{Exact, AllExact};
 ghost use Rattle.shop_arrays.specs.Arrays.{arraysIn, slotAt, shopFrom};
 use emit::Acquired;
-use emit::Value;
 use emit::push_if_acquired;
 use emit::push_if_missing;
 use emit::push_if_no_timer;
@@ -22,6 +21,7 @@ use emit::push_remaining;
 use emit::push_reset;
 use emit::push_return;
 use emit::push_slot;
+use emit::push_stock;
 use memory::Counts;
 use model::BlockNo;
 use model::ItemId;
@@ -70,21 +70,10 @@ fn compile_slot_hidden(
     requires { ⌜ (index < 20) × (end .0 < 4096) ⌝ }
     ensures { λ m. ⌜ PutBlocks (memoryOf (now (ws .entry)) (now (val .entry)) (now (cw .entry)) (now (bw .entry)) k) (hideBlock (end .0) index ∷ []) (memoryOf (now (ws .exit)) (now (val .exit)) (now (cw .exit)) (now (bw .exit)) m) ⌝ }
 {
-    push_slot(
-        ws,
-        val,
-        cw,
-        bw,
-        k,
-        index,
-        Value::Hidden,
-        Value::Zero,
-        end,
-        false,
-    )
+    push_slot(ws, val, cw, bw, k, index, -1, 0, end, false)
 }
 
-// D, N, D2 and S: the item with a count, then on to End; by EndIf where a block stands in between.
+// D, N and D2: the item with a count, then on to End; by EndIf where a block stands in between.
 fn compile_item(
     ws: &mut [u16; 98304],
     val: &mut [i32; 32768],
@@ -92,28 +81,38 @@ fn compile_item(
     bw: &mut [u16; 20480],
     k: Counts,
     x: ItemContext,
-    count: Value,
+    count: i32,
     endif: bool,
 ) -> Counts
-    requires { ⌜ Room (memoryOf (now ws) (now val) (now cw) (now bw) k) (itemBlock x endif (valueExpr count) ∷ []) ⌝ }
+    requires { ⌜ Room (memoryOf (now ws) (now val) (now cw) (now bw) k) (itemBlock x endif (imm count) ∷ []) ⌝ }
     requires { ⌜ Fitting x × (x .end .0 < 4096) ⌝ }
-    ensures { λ m. ⌜ PutBlocks (memoryOf (now (ws .entry)) (now (val .entry)) (now (cw .entry)) (now (bw .entry)) k) (itemBlock x endif (valueExpr count) ∷ []) (memoryOf (now (ws .exit)) (now (val .exit)) (now (cw .exit)) (now (bw .exit)) m) ⌝ }
+    ensures { λ m. ⌜ PutBlocks (memoryOf (now (ws .entry)) (now (val .entry)) (now (cw .entry)) (now (bw .entry)) k) (itemBlock x endif (imm count) ∷ []) (memoryOf (now (ws .exit)) (now (val .exit)) (now (cw .exit)) (now (bw .exit)) m) ⌝ }
 {
     let index = x.index;
     let item = x.item;
     let end = x.end;
-    push_slot(
-        ws,
-        val,
-        cw,
-        bw,
-        k,
-        index,
-        Value::Id(item),
-        count,
-        end,
-        endif,
-    )
+    let id = item.0 as i32;
+    push_slot(ws, val, cw, bw, k, index, id, count, end, endif)
+}
+
+// S: the item with var[0] as its count, likewise.
+fn compile_stock(
+    ws: &mut [u16; 98304],
+    val: &mut [i32; 32768],
+    cw: &mut [u16; 65536],
+    bw: &mut [u16; 20480],
+    k: Counts,
+    x: ItemContext,
+    endif: bool,
+) -> Counts
+    requires { ⌜ Room (memoryOf (now ws) (now val) (now cw) (now bw) k) (itemBlock x endif tempVar ∷ []) ⌝ }
+    requires { ⌜ Fitting x × (x .end .0 < 4096) ⌝ }
+    ensures { λ m. ⌜ PutBlocks (memoryOf (now (ws .entry)) (now (val .entry)) (now (cw .entry)) (now (bw .entry)) k) (itemBlock x endif tempVar ∷ []) (memoryOf (now (ws .exit)) (now (val .exit)) (now (cw .exit)) (now (bw .exit)) m) ⌝ }
+{
+    let index = x.index;
+    let item = x.item;
+    let end = x.end;
+    push_stock(ws, val, cw, bw, k, index, item.0 as i32, end, endif)
 }
 
 // Above N: Timer5 is sold out where neither other timer is held (D2, T), then V.
@@ -139,15 +138,50 @@ fn compile_enable(
     if x.five {
         let disable = BlockNo(enable.0 + 1);
         let no_timer = BlockNo(enable.0 + 2);
-        let k1 = compile_item(ws, val, cw, bw, k, x, Value::Zero, true);
+        let k1 = compile_item(ws, val, cw, bw, k, x, 0, true);
         let k2 = push_if_no_timer(ws, val, cw, bw, k1, ten, fifteen, disable, enable);
         return push_if_missing(ws, val, cw, bw, k2, a, codes, len, no_timer, other);
     }
     push_if_missing(ws, val, cw, bw, k, a, codes, len, enable, other)
 }
 
+// How many blocks stand between End and N: D, or H, D and E.
+fn blocks_before(len: u8) -> u32
+    ensures { λ r. ⌜ r ≡ beforeBy len ⌝ }
+{
+    if len == 0 {
+        return 1;
+    }
+    3
+}
+
+// D, [E] and N: the item sold out, and the item for sale. Blocks are counted from End: D is the first, or H is and D the second.
+fn compile_sold(
+    ws: &mut [u16; 98304],
+    val: &mut [i32; 32768],
+    cw: &mut [u16; 65536],
+    bw: &mut [u16; 20480],
+    k: Counts,
+    x: ItemContext,
+) -> Counts
+    requires { ⌜ Room (memoryOf (now ws) (now val) (now cw) (now bw) k) (onceOf x) ⌝ }
+    requires { ⌜ Fitting x × (x .end .0 + 1 ≤ k .blocks) ⌝ }
+    ensures { λ m. ⌜ PutBlocks (memoryOf (now (ws .entry)) (now (val .entry)) (now (cw .entry)) (now (bw .entry)) k) (onceOf x) (memoryOf (now (ws .exit)) (now (val .exit)) (now (cw .exit)) (now (bw .exit)) m) ⌝ }
+{
+    let a = x.acquired;
+    let end = x.end;
+    if x.len == 0 {
+        let k1 = compile_item(ws, val, cw, bw, k, x, 0, false);
+        return compile_item(ws, val, cw, bw, k1, x, 1, true);
+    }
+    let first = BlockNo(end.0 + 1);
+    let second = BlockNo(end.0 + 2);
+    let k3 = compile_item(ws, val, cw, bw, k, x, 0, true);
+    let k4 = push_if_acquired(ws, val, cw, bw, k3, a, second, first);
+    compile_item(ws, val, cw, bw, k4, x, 1, true)
+}
+
 // A slot which holds a "unique" item that can only be in the inventory once: D, [E], N and what is above.
-// Blocks are counted from End: D is the first, or H is and D the second.
 fn compile_slot_unique(
     ws: &mut [u16; 98304],
     val: &mut [i32; 32768],
@@ -161,21 +195,12 @@ fn compile_slot_unique(
     requires { ⌜ Fitting x × (x .end .0 + 1 ≤ k .blocks) ⌝ }
     ensures { λ m. ⌜ PutBlocks (memoryOf (now (ws .entry)) (now (val .entry)) (now (cw .entry)) (now (bw .entry)) k) (uniqueOf x (now (codes .entry))) (memoryOf (now (ws .exit)) (now (val .exit)) (now (cw .exit)) (now (bw .exit)) m) ⌝ }
 {
-    let a = x.acquired;
     let end = x.end;
-    let first = BlockNo(end.0 + 1);
-    let second = BlockNo(end.0 + 2);
-    if x.len == 0 {
-        let k1 = compile_item(ws, val, cw, bw, k, x, Value::Zero, false);
-        let k2 = compile_item(ws, val, cw, bw, k1, x, Value::One, true);
-        return compile_enable(ws, val, cw, bw, k2, x, codes, first, second);
-    }
-    let third = BlockNo(end.0 + 3);
-    let fourth = BlockNo(end.0 + 4);
-    let k3 = compile_item(ws, val, cw, bw, k, x, Value::Zero, true);
-    let k4 = push_if_acquired(ws, val, cw, bw, k3, a, second, first);
-    let k5 = compile_item(ws, val, cw, bw, k4, x, Value::One, true);
-    compile_enable(ws, val, cw, bw, k5, x, codes, third, fourth)
+    let before = blocks_before(x.len);
+    let k1 = compile_sold(ws, val, cw, bw, k, x);
+    let other = BlockNo(end.0 + before);
+    let enable = BlockNo(end.0 + before + 1);
+    compile_enable(ws, val, cw, bw, k1, x, codes, other, enable)
 }
 
 // A slot which may hold more than one item: S, Z, M, [If R].
@@ -198,13 +223,13 @@ fn compile_slot_limit(
     let len = x.len;
     let first = BlockNo(end.0 + 1);
     if len == 0 {
-        let k1 = compile_item(ws, val, cw, bw, k, x, Value::TempVar, false);
+        let k1 = compile_stock(ws, val, cw, bw, k, x, false);
         let k2 = push_reset(ws, val, cw, bw, k1, first);
         return push_remaining(ws, val, cw, bw, k2, limit, item, first);
     }
     let second = BlockNo(end.0 + 2);
     let fourth = BlockNo(end.0 + 4);
-    let k3 = compile_item(ws, val, cw, bw, k, x, Value::TempVar, true);
+    let k3 = compile_stock(ws, val, cw, bw, k, x, true);
     let k4 = push_reset(ws, val, cw, bw, k3, second);
     let k5 = push_remaining(ws, val, cw, bw, k4, limit, item, second);
     push_if_visible(ws, val, cw, bw, k5, codes, len, fourth, first)

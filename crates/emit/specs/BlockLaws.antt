@@ -8,16 +8,17 @@ use lib.ListN.{length}
 use lib.IntN.{ℤ}
 use native.Mathlib.Numerals.{add-one}
 use native.Mathlib.Omega.{arith}
-use Rattle.model.specs.Limits.{nodeLimit, commandLimit, blockLimit}
+use Rattle.model.specs.Limits.{nodeLimit, commandLimit, blockLimit, itemFirst, countFirst}
 use Rattle.model.specs.Expr.{Expr, size}
 use Rattle.model.specs.Script.{Command, return, setVariable, ifElse, endIf, Block, code, commandNodes, commandsNodes, blockCommands, blockNodes, sumOf}
 use Rattle.model.specs.Memory.{Nodes, Coded, Memory, nodesIn, codedIn, memoryIn, putExpr, commandWords, pushCommand, putCommand, putCommands, blockWords, linkWord, pushBlock, putBlock, putBlocks}
-use Rattle.model.specs.Compile.{ifBlock}
+use Rattle.model.specs.Compile.{emitSet, ifBlock}
 use Rattle.memory.specs.declared.Counts.{Counts}
 use Rattle.memory.specs.Pushed.{PutExpr, PushedCommand, PutCommand, PushedBlock}
 use Rattle.memory.specs.Sound.{Room}
-use Rattle.emit.specs.Put.{PutCommands, PutBlocks, memoryOf}
-use Rattle.emit.specs.Values.{PushedIf, setSlotCommands, slotBlock}
+use Rattle.emit.specs.Put.{PutCommands, PutBlocks, codedOf, memoryOf}
+use Rattle.emit.specs.declared.Held.{Held}
+use Rattle.emit.specs.Values.{heldIn, slotBlock, withEnd, PushedEnd, PushedIf}
 
 -- ---- commands
 
@@ -77,17 +78,8 @@ next-put {s} {t} {u} {c} {cs} p q = record {
   nodes-counted = omega (arith, p .nodes-counted, q .nodes-counted);
 }
 
--- two commands, and a third after them
 pub two-commands : {s t u : Coded} {a b : Command} → PutCommand s a t → PutCommand t b u → PutCommands s (a ∷ b ∷ []) u
 two-commands p q = next-put p (next-put q none-put)
-
-pub and-then : {s t u : Coded} {a b c : Command} → PutCommands s (a ∷ b ∷ []) t → PutCommand t c u → PutCommands s (a ∷ b ∷ c ∷ []) u
-unfolding putCommands commandsNodes
-and-then {s} {t} {u} {a} {b} {c} p q = record {
-  is = q .is ∙ ap (λ (x : Coded). putCommand x c) (p .is);
-  counted = omega (arith, p .counted, q .counted);
-  nodes-counted = omega (arith, p .nodes-counted, q .nodes-counted);
-}
 
 -- ---- blocks
 
@@ -131,15 +123,30 @@ room-rest r p = record {
   nodes = omega (arith, r .nodes, p .nodes-counted);
 }
 
--- the room of a slot's block, as its two Sets want it
-pub record SlotRoom (m : Memory) (i : ℕ) (a b : Expr) : Type 0 where
-  pub nodes : m .coded .nodes .count + commandsNodes (setSlotCommands i a b) ≤ nodeLimit
-  pub commands : m .coded .count + 2 ≤ commandLimit
+-- ---- blocks of a slot
 
-pub slot-room : (m : Memory) (t : Bool) (end i : ℕ) (a b : Expr) → Room m (slotBlock t end i a b ∷ []) → SlotRoom m i a b
-unfolding blockNodes blockCommands commandsNodes commandNodes
-slot-room m true end i a b r = record { nodes = omega (arith, r .nodes); commands = omega (arith, r .commands) }
-slot-room m false end i a b r = record { nodes = omega (arith, r .nodes); commands = omega (arith, r .commands) }
+-- room for its two Sets, and for what ends it
+pub record SlotRoom (m : Memory) (endif : Bool) (a b : Expr) : Type 0 where
+  pub nodes : m .coded .nodes .count + (1 + size a) + (1 + size b) ≤ nodeLimit
+  pub commands : m .coded .count + 2 ≤ commandLimit
+  pub last : (n : ℕ) → n ≡ m .coded .count + 2 → withEnd endif n ≤ commandLimit
+  pub blocks : m .count < blockLimit
+
+pub slot-room : (m : Memory) (endif : Bool) (end i : ℕ) (a b : Expr) → Room m (slotBlock endif end i a b ∷ []) → SlotRoom m endif a b
+unfolding size blockNodes blockCommands commandsNodes commandNodes
+slot-room m true end i a b r = record { nodes = omega (arith, r .nodes); commands = omega (arith, r .commands); last = λ n e. omega (arith, r .commands); blocks = omega (arith, r .blocks) }
+slot-room m false end i a b r = record { nodes = omega (arith, r .nodes); commands = omega (arith, r .commands); last = λ n e. omega (arith, r .commands); blocks = omega (arith, r .blocks) }
+
+-- the two Sets, then what ends the block
+pub slot-block : {ws ws1 cw cw1 cw2 bw bw1 : List ℕ} {vs vs1 : List ℤ} {s : Coded} {k m : Counts} {h : Held} {end : ℕ} {a b : Expr} (endif : Bool) (i : ℕ)
+    → PutCommand (codedOf ws vs cw k) (emitSet (itemFirst + i) a) s → PutCommand s (emitSet (countFirst + i) b) (heldIn ws1 vs1 cw1 h)
+    → PushedEnd cw1 bw k h end endif cw2 bw1 m → PutBlocks (memoryOf ws vs cw bw k) (slotBlock endif end i a b ∷ []) (memoryOf ws1 vs1 cw2 bw1 m)
+slot-block {end} true i p q r =
+    rw (r .nodes) (block-put
+    (next-put p (two-commands q (endif-put (record { is = r .commands-are; counted = r .commands }))))
+    (record { is = r .blocks-are; counted = r .blocks }) (add-one end) refl)
+slot-block {end} false i p q r =
+    rw (r .nodes, r .commands-are, r .commands) (block-put (two-commands p q) (record { is = r .blocks-are; counted = r .blocks }) (add-one end) refl)
 
 -- ---- blocks of an If
 

@@ -5,7 +5,6 @@ ghost use Prim.Native.Nat.{_+_, _-_, _≤_, _<_, _%_};
 ghost use lib.IntN.{pos};
 ghost use Rattle.model.specs.Image.{code2, code1};
 ghost use Rattle.model.specs.Expr.{imm, imm16, one, two, size};
-ghost use Rattle.model.specs.Script.{commandsNodes};
 ghost use Rattle.model.specs.Compile.{test, emitSet, tempVar, remainingExpr, returnBlock, resetBlock, remainingBlock, ifBlock};
 ghost use Rattle.shop.specs.Shapes.{unshift, idOf, requirementOf};
 ghost use Rattle.model.specs.declared.Op1.the-variants.{Flag};
@@ -13,9 +12,9 @@ ghost use Rattle.model.specs.declared.Op2.the-variants.{Less};
 ghost use Rattle.model.specs.Memory.{nodesIn};
 ghost use Rattle.memory.specs.Pushed.{PushedNode, PutExpr, PutCommand};
 ghost use Rattle.memory.specs.Sound.{Room};
-ghost use Rattle.emit.specs.Put.{PutImm, PutCommands, PutBlocks, memoryOf};
+ghost use Rattle.emit.specs.Put.{PutImm, PutBlocks, memoryOf};
 ghost use Rattle.emit.specs.Tests.{withZero, joinCodes, rateTest, eitherTest, acquiredOf, missingOf, missingAnd, bothMissing};
-ghost use Rattle.emit.specs.Values.{valueExpr, heldIn, setSlotCommands, slotBlock, PushedIf};
+ghost use Rattle.emit.specs.Values.{heldIn, slotBlock, withEnd, PushedEnd, PushedIf};
 use memory::Counts;
 use memory::code_one;
 use memory::code_two;
@@ -252,16 +251,6 @@ pub fn push_no_timer(
     push_two(ws, val, n2, Op2::BitAnd, n1 - 1, n2 - 1)
 }
 
-// What a Set writes: -1, 0, 1, an item's id, var[0], or a limit less the number held of an item.
-pub enum Value {
-    Hidden,
-    Zero,
-    One,
-    Id(ItemId),
-    TempVar,
-    Remaining(u8, ItemId),
-}
-
 // The counts of nodes and commands while a block is built.
 pub struct Held {
     pub nodes: u16,
@@ -285,38 +274,31 @@ pub fn push_left(
     push_two(ws, val, n3, Op2::Subtract, n1 - 1, n3 - 1)
 }
 
-pub fn push_value(ws: &mut [u16; 98304], val: &mut [i32; 32768], n: u16, v: Value) -> u16
-    requires { ⌜ n + size (valueExpr v) ≤ 32768 ⌝ }
-    ensures { λ m. ⌜ PutExpr (nodesIn (now (ws .entry)) (now (val .entry)) n) (valueExpr v) (nodesIn (now (ws .exit)) (now (val .exit)) m) ⌝ }
+// var[0]
+pub fn push_temp(ws: &mut [u16; 98304], val: &mut [i32; 32768], n: u16) -> u16
+    requires { ⌜ n + 2 ≤ 32768 ⌝ }
+    ensures { λ m. ⌜ PutExpr (nodesIn (now (ws .entry)) (now (val .entry)) n) tempVar (nodesIn (now (ws .exit)) (now (val .exit)) m) ⌝ }
 {
-    match v {
-        Value::Hidden => push_node(ws, val, n, 11, 0, 0, -1),
-        Value::Zero => push_imm16(ws, val, n, 0),
-        Value::One => push_imm16(ws, val, n, 1),
-        Value::Id(item) => push_imm(ws, val, n, item.0 as i32),
-        Value::TempVar => {
-            let n1 = push_imm16(ws, val, n, 0);
-            push_one(ws, val, n1, Op1::Variable, n1 - 1)
-        }
-        Value::Remaining(limit, item) => push_left(ws, val, n, limit, item),
-    }
+    let n1 = push_imm16(ws, val, n, 0);
+    push_one(ws, val, n1, Op1::Variable, n1 - 1)
 }
 
-pub fn emit_set(
+// emit_set of a number: -1, 0, 1 or an item's id.
+pub fn emit_number(
     ws: &mut [u16; 98304],
     val: &mut [i32; 32768],
     cw: &mut [u16; 65536],
     h: Held,
     var: u16,
-    value: Value,
+    z: i32,
 ) -> Held
-    requires { ⌜ (h .nodes + 1 + size (valueExpr value) ≤ 32768) × (h .commands < 16384) × (var < 32768) ⌝ }
-    ensures { λ m. ⌜ PutCommand (heldIn (now (ws .entry)) (now (val .entry)) (now (cw .entry)) h) (emitSet var (valueExpr value)) (heldIn (now (ws .exit)) (now (val .exit)) (now (cw .exit)) m) ⌝ }
+    requires { ⌜ (h .nodes + 2 ≤ 32768) × (h .commands < 16384) × (var < 32768) ⌝ }
+    ensures { λ m. ⌜ PutCommand (heldIn (now (ws .entry)) (now (val .entry)) (now (cw .entry)) h) (emitSet var (imm z)) (heldIn (now (ws .exit)) (now (val .exit)) (now (cw .exit)) m) ⌝ }
 {
     let n0 = h.nodes;
     let c0 = h.commands;
     let n1 = push_imm16(ws, val, n0, var);
-    let n2 = push_value(ws, val, n1, value);
+    let n2 = push_imm(ws, val, n1, z);
     let c1 = push_command(cw, c0, 2, n1 - 1, n2 - 1, 0);
     Held {
         nodes: n2,
@@ -324,23 +306,83 @@ pub fn emit_set(
     }
 }
 
-pub fn emit_set_slot(
+// emit_set of var[0].
+pub fn emit_temp(
     ws: &mut [u16; 98304],
     val: &mut [i32; 32768],
     cw: &mut [u16; 65536],
     h: Held,
-    index: u16,
-    item: Value,
-    count: Value,
+    var: u16,
 ) -> Held
-    requires { ⌜ (h .nodes + commandsNodes (setSlotCommands index (valueExpr item) (valueExpr count)) ≤ 32768) × (h .commands + 2 ≤ 16384) × (index < 20) ⌝ }
-    ensures { λ m. ⌜ PutCommands (heldIn (now (ws .entry)) (now (val .entry)) (now (cw .entry)) h) (setSlotCommands index (valueExpr item) (valueExpr count)) (heldIn (now (ws .exit)) (now (val .exit)) (now (cw .exit)) m) ⌝ }
+    requires { ⌜ (h .nodes + 3 ≤ 32768) × (h .commands < 16384) × (var < 32768) ⌝ }
+    ensures { λ m. ⌜ PutCommand (heldIn (now (ws .entry)) (now (val .entry)) (now (cw .entry)) h) (emitSet var tempVar) (heldIn (now (ws .exit)) (now (val .exit)) (now (cw .exit)) m) ⌝ }
 {
-    let h1 = emit_set(ws, val, cw, h, 600 + index, item);
-    emit_set(ws, val, cw, h1, 620 + index, count)
+    let n0 = h.nodes;
+    let c0 = h.commands;
+    let n1 = push_imm16(ws, val, n0, var);
+    let n2 = push_temp(ws, val, n1);
+    let c1 = push_command(cw, c0, 2, n1 - 1, n2 - 1, 0);
+    Held {
+        nodes: n2,
+        commands: c1,
+    }
 }
 
-// H, D, N and S: writes item and count of a slot, then goes to end, by EndIf or as the block last pushed.
+// emit_set of what is left of a limit, to var[0].
+pub fn emit_left(
+    ws: &mut [u16; 98304],
+    val: &mut [i32; 32768],
+    cw: &mut [u16; 65536],
+    h: Held,
+    limit: u8,
+    item: ItemId,
+) -> Held
+    requires { ⌜ (h .nodes + 5 ≤ 32768) × (h .commands < 16384) ⌝ }
+    ensures { λ m. ⌜ PutCommand (heldIn (now (ws .entry)) (now (val .entry)) (now (cw .entry)) h) (emitSet 0 (remainingExpr limit (item .0))) (heldIn (now (ws .exit)) (now (val .exit)) (now (cw .exit)) m) ⌝ }
+{
+    let n0 = h.nodes;
+    let c0 = h.commands;
+    let n1 = push_imm16(ws, val, n0, 0);
+    let n2 = push_left(ws, val, n1, limit, item);
+    let c1 = push_command(cw, c0, 2, n1 - 1, n2 - 1, 0);
+    Held {
+        nodes: n2,
+        commands: c1,
+    }
+}
+
+// What ends H, D, N and S, whose commands begin at k and reach to h: on to end, by EndIf or as the block last pushed.
+pub fn end_slot(
+    cw: &mut [u16; 65536],
+    bw: &mut [u16; 20480],
+    k: Counts,
+    h: Held,
+    end: BlockNo,
+    endif: bool,
+) -> Counts
+    requires { ⌜ (withEnd endif (h .commands) ≤ 16384) × (k .blocks < 4096) × (end .0 < 4096) ⌝ }
+    ensures { λ m. ⌜ PushedEnd (now (cw .entry)) (now (bw .entry)) k h (end .0) endif (now (cw .exit)) (now (bw .exit)) m ⌝ }
+{
+    let c0 = k.commands;
+    let to = end.0 as u16;
+    if endif {
+        let c3 = push_command(cw, h.commands, 4, 0, 0, to);
+        let b1 = push_block(bw, k.blocks, 1, c0, 3, to + 1, 0);
+        return Counts {
+            nodes: h.nodes,
+            commands: c3,
+            blocks: b1,
+        };
+    }
+    let b2 = push_block(bw, k.blocks, 1, c0, 2, to + 1, 0);
+    Counts {
+        nodes: h.nodes,
+        commands: h.commands,
+        blocks: b2,
+    }
+}
+
+// H, D and N: writes two numbers, the item and the count of a slot, then goes to end.
 pub fn push_slot(
     ws: &mut [u16; 98304],
     val: &mut [i32; 32768],
@@ -348,37 +390,47 @@ pub fn push_slot(
     bw: &mut [u16; 20480],
     k: Counts,
     index: u16,
-    item: Value,
-    count: Value,
+    item: i32,
+    count: i32,
     end: BlockNo,
     endif: bool,
 ) -> Counts
-    requires { ⌜ Room (memoryOf (now ws) (now val) (now cw) (now bw) k) (slotBlock endif (end .0) index (valueExpr item) (valueExpr count) ∷ []) ⌝ }
+    requires { ⌜ Room (memoryOf (now ws) (now val) (now cw) (now bw) k) (slotBlock endif (end .0) index (imm item) (imm count) ∷ []) ⌝ }
     requires { ⌜ (index < 20) × (end .0 < 4096) ⌝ }
-    ensures { λ m. ⌜ PutBlocks (memoryOf (now (ws .entry)) (now (val .entry)) (now (cw .entry)) (now (bw .entry)) k) (slotBlock endif (end .0) index (valueExpr item) (valueExpr count) ∷ []) (memoryOf (now (ws .exit)) (now (val .exit)) (now (cw .exit)) (now (bw .exit)) m) ⌝ }
+    ensures { λ m. ⌜ PutBlocks (memoryOf (now (ws .entry)) (now (val .entry)) (now (cw .entry)) (now (bw .entry)) k) (slotBlock endif (end .0) index (imm item) (imm count) ∷ []) (memoryOf (now (ws .exit)) (now (val .exit)) (now (cw .exit)) (now (bw .exit)) m) ⌝ }
 {
-    let c0 = k.commands;
-    let to = end.0 as u16;
     let h0 = Held {
         nodes: k.nodes,
-        commands: c0,
+        commands: k.commands,
     };
-    let h1 = emit_set_slot(ws, val, cw, h0, index, item, count);
-    if endif {
-        let c3 = push_command(cw, h1.commands, 4, 0, 0, to);
-        let b1 = push_block(bw, k.blocks, 1, c0, 3, to + 1, 0);
-        return Counts {
-            nodes: h1.nodes,
-            commands: c3,
-            blocks: b1,
-        };
-    }
-    let b2 = push_block(bw, k.blocks, 1, c0, 2, to + 1, 0);
-    Counts {
-        nodes: h1.nodes,
-        commands: h1.commands,
-        blocks: b2,
-    }
+    let h1 = emit_number(ws, val, cw, h0, 600 + index, item);
+    let h2 = emit_number(ws, val, cw, h1, 620 + index, count);
+    end_slot(cw, bw, k, h2, end, endif)
+}
+
+// S: writes the item of a slot and var[0] as its count, then goes to end.
+pub fn push_stock(
+    ws: &mut [u16; 98304],
+    val: &mut [i32; 32768],
+    cw: &mut [u16; 65536],
+    bw: &mut [u16; 20480],
+    k: Counts,
+    index: u16,
+    item: i32,
+    end: BlockNo,
+    endif: bool,
+) -> Counts
+    requires { ⌜ Room (memoryOf (now ws) (now val) (now cw) (now bw) k) (slotBlock endif (end .0) index (imm item) tempVar ∷ []) ⌝ }
+    requires { ⌜ (index < 20) × (end .0 < 4096) ⌝ }
+    ensures { λ m. ⌜ PutBlocks (memoryOf (now (ws .entry)) (now (val .entry)) (now (cw .entry)) (now (bw .entry)) k) (slotBlock endif (end .0) index (imm item) tempVar ∷ []) (memoryOf (now (ws .exit)) (now (val .exit)) (now (cw .exit)) (now (bw .exit)) m) ⌝ }
+{
+    let h0 = Held {
+        nodes: k.nodes,
+        commands: k.commands,
+    };
+    let h1 = emit_number(ws, val, cw, h0, 600 + index, item);
+    let h2 = emit_temp(ws, val, cw, h1, 620 + index);
+    end_slot(cw, bw, k, h2, end, endif)
 }
 
 // The Return block, which ends every path.
@@ -423,7 +475,7 @@ pub fn push_reset(
         nodes: k.nodes,
         commands: c0,
     };
-    let h1 = emit_set(ws, val, cw, h0, 0, Value::Zero);
+    let h1 = emit_number(ws, val, cw, h0, 0, 0);
     let b1 = push_block(bw, b0, 1, c0, 1, to + 1, 0);
     Counts {
         nodes: h1.nodes,
@@ -437,7 +489,7 @@ pub fn push_below(ws: &mut [u16; 98304], val: &mut [i32; 32768], n: u16) -> u16
     requires { ⌜ n + 4 ≤ 32768 ⌝ }
     ensures { λ m. ⌜ PutExpr (nodesIn (now (ws .entry)) (now (val .entry)) n) (two Less tempVar (imm16 (pos 0))) (nodesIn (now (ws .exit)) (now (val .exit)) m) ⌝ }
 {
-    let n1 = push_value(ws, val, n, Value::TempVar);
+    let n1 = push_temp(ws, val, n);
     let n2 = push_imm16(ws, val, n1, 0);
     push_two(ws, val, n2, Op2::Less, n1 - 1, n2 - 1)
 }
@@ -464,7 +516,7 @@ pub fn push_remaining(
         nodes: k.nodes,
         commands: c0,
     };
-    let h1 = emit_set(ws, val, cw, h0, 0, Value::Remaining(limit, item));
+    let h1 = emit_left(ws, val, cw, h0, limit, item);
     let n2 = push_below(ws, val, h1.nodes);
     let c2 = push_command(cw, h1.commands, 3, n2 - 1, 0, to);
     let b1 = push_block(bw, b0, 1, c0, 2, to + 2, to + 1);

@@ -4,9 +4,9 @@ use borrow.Author.Needs.{needs}
 use Rattle.emit.proofs.push_below.Statement.{statement}
 use Rattle.emit.proofs.push_below.Tie as tie
 
-push-value-requires : tie.Need-push-value-requires
+push-temp-requires : tie.Need-push-temp-requires
 unfolding size
-push-value-requires c κs = search needs
+push-temp-requires c κs = search needs
 
 push-imm16-requires : tie.Need-push-imm16-requires
 unfolding size
@@ -25,13 +25,13 @@ unfolding size
 push-two-requires c κs = search needs
 
 returns : tie.Need-returns
-returns c = two-put (c .before .before .before .before .before .before .push-value .ensures) (c .before .before .before .push-imm16 .ensures) (c .push-two .ensures)
+returns c = two-put (c .before .before .before .before .before .before .push-temp .ensures) (c .before .before .before .push-imm16 .ensures) (c .push-two .ensures)
 
 pub push-below-spec : {M : Type 1} → statement M
 push-below-spec =
     tie.close
     (tie.spec
-    push-value-requires
+    push-temp-requires
     push-imm16-requires
     sub-push-two
     sub-push-two-2

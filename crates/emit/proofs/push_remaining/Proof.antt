@@ -10,13 +10,13 @@ use Rattle.emit.proofs.push_remaining.Tie as tie
 cast-to : tie.Need-cast-to
 cast-to c = search needs
 
-emit-set-requires : tie.Need-emit-set-requires
+emit-left-requires : tie.Need-emit-left-requires
 unfolding size blockCommands blockNodes commandsNodes commandNodes
-emit-set-requires c κs = (omega (arith, c .before .before .before .before .pre .0 .nodes), omega (arith, c .before .before .before .before .pre .0 .commands), search needs)
+emit-left-requires c κs = (omega (arith, c .before .before .before .before .pre .0 .nodes), omega (arith, c .before .before .before .before .pre .0 .commands))
 
 push-below-requires : tie.Need-push-below-requires
 unfolding size blockCommands blockNodes commandsNodes commandNodes
-push-below-requires c κs = omega (arith, c .before .before .before .before .before .before .before .pre .0 .nodes, c .before .before .emit-set .ensures .nodes-counted)
+push-below-requires c κs = omega (arith, c .before .before .before .before .before .before .before .pre .0 .nodes, c .before .before .emit-left .ensures .nodes-counted)
 
 sub-push-command : tie.Need-sub-push-command
 unfolding size blockCommands blockNodes commandsNodes commandNodes
@@ -24,7 +24,7 @@ sub-push-command c = omega (arith, c .before .push-below .ensures .counted)
 
 push-command-requires : tie.Need-push-command-requires
 unfolding size blockCommands blockNodes commandsNodes commandNodes
-push-command-requires c κs = omega (arith, c .before .before .before .before .before .before .before .before .before .pre .0 .commands, c .before .before .before .before .emit-set .ensures .counted)
+push-command-requires c κs = omega (arith, c .before .before .before .before .before .before .before .before .before .pre .0 .commands, c .before .before .before .before .emit-left .ensures .counted)
 
 add-push-block : tie.Need-add-push-block
 add-push-block c = search needs
@@ -36,14 +36,14 @@ push-block-requires : tie.Need-push-block-requires
 push-block-requires c κs = search needs
 
 returns : tie.Need-returns
-returns c = block-put (two-commands (c .before .before .before .before .before .before .before .emit-set .ensures) (if-put (c .before .before .before .before .push-below .ensures) (c .before .before .push-command .ensures))) (c .push-block .ensures) (omega arith) (add-one (c .before .before .before .before .before .before .before .before .before .before .before .before .args .set .0))
+returns c = block-put (two-commands (c .before .before .before .before .before .before .before .emit-left .ensures) (if-put (c .before .before .before .before .push-below .ensures) (c .before .before .push-command .ensures))) (c .push-block .ensures) (omega arith) (add-one (c .before .before .before .before .before .before .before .before .before .before .before .before .args .set .0))
 
 pub push-remaining-spec : {M : Type 1} → statement M
 push-remaining-spec =
     tie.close
     (tie.spec
     cast-to
-    emit-set-requires
+    emit-left-requires
     push-below-requires
     sub-push-command
     push-command-requires
