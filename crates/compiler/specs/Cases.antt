@@ -26,7 +26,7 @@ pub before-few : (n : ℕ) → beforeBy n ≤ 3
 before-few zero = omega arith
 before-few (suc n) = omega arith
 
--- H is not of these
+-- D, [E] and N are no fewer than the blocks before N
 pub once-long : (n : ℕ) (x : ItemContext) → beforeBy n ≤ length (onceBy n x)
 once-long zero x = omega arith
 once-long (suc n) x = omega arith
