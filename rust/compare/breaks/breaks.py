@@ -5,7 +5,7 @@ usage: breaks.py SEED COUNT LONGEST [CRATE/LABEL ...]     (the edits of breaks.t
 
 Only a proved crate is built into a library, so a broken one is compiled the way `rt try` compiles a program without a
 proof: a program that mentions the library's calls, with a compiler in between that keeps what it is given. Each edit is
-one of the must-fail edits of a crate's source. The first line is the engine as it is: there nothing may differ.
+one of the edits of a crate's source (must-fail/ or edits/). The first line is the engine as it is: there nothing may differ.
 """
 import os
 import pathlib
@@ -69,7 +69,9 @@ def apply(edit, crates):
     crate, label = edit.split("/")
     file = None
     pairs = []
-    for line in (TOP / "crates" / crate / "must-fail" / f"{label}.edit").read_text().splitlines():
+    folders = [TOP / "crates" / crate / kind for kind in ("must-fail", "edits")]
+    found = [folder / f"{label}.edit" for folder in folders if (folder / f"{label}.edit").is_file()]
+    for line in found[0].read_text().splitlines():
         if line.startswith("file: "):
             file = crates / crate / line[6:]
         elif line.startswith("old:"):
