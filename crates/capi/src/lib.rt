@@ -23,10 +23,9 @@ use memory::Counts;
 use model::BlockNo;
 use model::ItemId;
 use parse::parse_arrays;
-use preview::preview;
+use preview::preview_arrays;
 use runner::run;
 use shop::Sheet;
-use shop_arrays::shop_from;
 
 // The refusal or 0, and the kept counts of the script; all are 0 where a read is refused.
 #[repr(C)]
@@ -296,8 +295,19 @@ pub extern "C" fn lk_preview(
     ensures { λ r. ⌜ previewedAs r ≡ previewedOf (previewCall (sheetOf (now (attached .entry)) (sheetBy atcs timer5 timer10 timer15)) (slotsOf (shopFrom (arraysIn (now (items .entry)) (now (limits .entry)) (now (codes .entry)) (now (lens .entry))))) (saveOf (now (counts .entry)) (now (held .entry)) (now (flags .entry)) (now (times .entry)) (now (vars .entry)))) ⌝ }
 {
     let sheet = sheet_by(atcs, timer5, timer10, timer15);
-    let shop = shop_from(items, limits, codes, lens);
-    let r = preview(attached, sheet, shop, counts, held, flags, times, vars);
+    let r = preview_arrays(
+        attached,
+        sheet,
+        items,
+        limits,
+        codes,
+        lens,
+        counts,
+        held,
+        flags,
+        times,
+        vars,
+    );
     let pair_items = r.items;
     let pair_counts = r.counts;
     Previewed {

@@ -1,3 +1,4 @@
+pub mod Parts
 pub mod Tests
 pub mod Shown
 pub mod Accepted

@@ -1,35 +1,39 @@
 // The preview: what a shop means under a save, slot by slot, without compiling it.
 ghost use mathlib.Core.Path.{_≡_};
 ghost use mathlib.Core.Bool.{not};
-ghost use mathlib.Core.List.{List};
 ghost use Prim.Native.Nat.{ℕ, _%_, _<_};
 ghost use lib.IntN.{ℤ, pos, _-ℤ_};
-ghost use lib.ListN.{getD};
+ghost use mathlib.Core.List.{List, map};
+ghost use lib.ListN.{getD, length};
 ghost use lib.Signed.{ltZ};
-ghost use Rattle.model.specs.Limits.{wide, slotCount};
+ghost use Rattle.model.specs.Limits.{wide, slotCount, entryLimit};
 ghost use Rattle.model.specs.Signed.{eqZ, isZero, clamp};
 ghost use Rattle.model.specs.Sheet.{atcFor};
 ghost use Rattle.model.specs.Compile.{rateOf, acquiredReq};
 ghost use Rattle.model.specs.Meaning.{holds, allHold, acquired, hidden, listed, noTimerHeld, oneOf, uniqueMeaning, limitMeaning, meaningOf};
 ghost use Rattle.model.specs.Preview.{previewCall};
 ghost use Rattle.shop.specs.declared.Sheet.{Sheet};
-ghost use Rattle.shop.specs.Shapes.{unshift, requirementOf, sheetOf, timerIs, slotOf, slotsOf};
+ghost use Rattle.shop.specs.Shapes.{unshift, requirementOf, entries, sheetOf, timerIs, slotOf, slotsOf};
+ghost use Rattle.shop_arrays.specs.Arrays.{arraysIn, slotAt, shopFrom};
 ghost use Rattle.checks.specs.Calls.{saveOf};
 ghost use Rattle.preview.specs.Tests.{placeOf, isMissing, isThere, ratedAt};
+ghost use Rattle.preview.specs.Parts.{partsOf};
 ghost use Rattle.preview.specs.Shown.{meaningIs, blankOf, shown, meaningsOf, previewedOf};
 use checks::check_save;
 use model::ItemId;
 use shop::ItemAtc;
 use shop::Sheet;
 use shop::Shop;
-use shop::Slot;
 use shop::SlotItem;
 use shop::Timer;
 use shop::atc_for;
 use shop::check_sheet;
-use shop::check_shop;
 use shop::limit_of;
 use shop::timer_of;
+use shop_arrays::arrays_of;
+use shop_arrays::check_arrays;
+use shop_arrays::item_at;
+use shop_arrays::sizes;
 
 const TIMER_5_RATE: u8 = 200;
 
@@ -135,25 +139,24 @@ fn holds(code: u64, items: &[i16], atcs: &[u8], flags: &[u8]) -> bool
     there
 }
 
-// Past the array every entry is code 0, as in the slot's value.
-fn entry_at(codes: [u64; 32], i: usize) -> u64
-    ensures { λ r. ⌜ r ≡ getD codes i 0 ⌝ }
+// Past the row every entry is code 0, as in the slot's value.
+fn entry_at(row: &[u64], i: usize) -> u64
+    ensures { λ r. ⌜ r ≡ getD (now (row .entry)) i 0 ⌝ }
 {
-    if i < 32 {
-        return codes[i];
+    if i < row.len() {
+        return row[i];
     }
     0
 }
 
 // R: the entries as given, in any order and with repeats.
-fn all_hold(slot: Slot, items: &[i16], atcs: &[u8], flags: &[u8]) -> bool
-    ensures { λ r. ⌜ ((t v : List ℤ) → r ≡ allHold (saveOf (now (items .entry)) (now (atcs .entry)) (now (flags .entry)) t v) (slotOf slot .requirements)) ⌝ }
+fn all_hold(row: &[u64], len: u8, items: &[i16], atcs: &[u8], flags: &[u8]) -> bool
+    ensures { λ r. ⌜ ((t v : List ℤ) → r ≡ allHold (saveOf (now (items .entry)) (now (atcs .entry)) (now (flags .entry)) t v) (map requirementOf (entries len (now (row .entry))))) ⌝ }
 {
-    let codes = slot.requirements;
-    let n = slot.len as usize;
+    let n = len as usize;
     let mut i = 0;
     while i < n {
-        if !holds(entry_at(codes, i), items, atcs, flags) {
+        if !holds(entry_at(row, i), items, atcs, flags) {
             return false;
         }
         i += 1;
@@ -296,29 +299,68 @@ fn limit_meaning(item: ItemId, limit: u8, r: bool, items: &[i16]) -> Meaning
     hidden()
 }
 
+// A slot by its parts, so that its codes are read where they stand.
 fn meaning_of(
     attached: &[u8],
     sheet: Sheet,
-    slot: Slot,
+    item: SlotItem,
+    limit: i16,
+    row: &[u64],
+    len: u8,
     items: &[i16],
     atcs: &[u8],
     flags: &[u8],
     times: &[i16],
 ) -> Meaning
-    ensures { λ r. ⌜ ((v : List ℤ) → meaningIs r ≡ meaningOf (sheetOf (now (attached .entry)) sheet) (saveOf (now (items .entry)) (now (atcs .entry)) (now (flags .entry)) (now (times .entry)) v) (slotOf slot)) ⌝ }
+    ensures { λ r. ⌜ ((v : List ℤ) → meaningIs r ≡ meaningOf (sheetOf (now (attached .entry)) sheet) (saveOf (now (items .entry)) (now (atcs .entry)) (now (flags .entry)) (now (times .entry)) v) (slotOf (partsOf item limit (now (row .entry)) len))) ⌝ }
 {
-    let item = slot.item;
     match item {
         SlotItem::Nothing => hidden(),
         SlotItem::Of(w) => {
-            let r = all_hold(slot, items, atcs, flags);
-            let limit = limit_of(attached, sheet, w, slot.limit);
-            if limit <= 1 {
+            let r = all_hold(row, len, items, atcs, flags);
+            let most = limit_of(attached, sheet, w, limit);
+            if most <= 1 {
                 return unique_meaning(attached, sheet, w, r, items, atcs, times);
             }
-            limit_meaning(w, limit, r, items)
+            limit_meaning(w, most, r, items)
         }
     }
+}
+
+// Slot i of the arrays.
+fn meaning_at(
+    attached: &[u8],
+    sheet: Sheet,
+    sold: &[i32; 20],
+    limits: &[i16; 20],
+    codes: &[u64; 640],
+    lens: &[u8; 20],
+    i: usize,
+    items: &[i16],
+    atcs: &[u8],
+    flags: &[u8],
+    times: &[i16],
+) -> Meaning
+    requires { ⌜ i < slotCount ⌝ }
+    ensures { λ r. ⌜ ((v : List ℤ) → meaningIs r ≡ meaningOf (sheetOf (now (attached .entry)) sheet) (saveOf (now (items .entry)) (now (atcs .entry)) (now (flags .entry)) (now (times .entry)) v) (slotOf (slotAt (arraysIn (now (sold .entry)) (now (limits .entry)) (now (codes .entry)) (now (lens .entry))) i))) ⌝ }
+{
+    sizes(sold, limits, codes, lens);
+    let all: &[u64] = codes;
+    let start = 32 * i;
+    let end = start + 32;
+    let item = item_at(sold, i);
+    meaning_of(
+        attached,
+        sheet,
+        item,
+        limits[i],
+        &all[start..end],
+        lens[i],
+        items,
+        atcs,
+        flags,
+        times,
+    )
 }
 
 // ---- the call
@@ -358,27 +400,81 @@ fn put(p: Previewed, i: usize, m: Meaning) -> Previewed
 fn meanings(
     attached: &[u8],
     sheet: Sheet,
-    shop: Shop,
+    sold: &[i32; 20],
+    limits: &[i16; 20],
+    codes: &[u64; 640],
+    lens: &[u8; 20],
     items: &[i16],
     atcs: &[u8],
     flags: &[u8],
     times: &[i16],
     vars: &[i32],
 ) -> Previewed
-    ensures { λ r. ⌜ r ≡ previewedOf (meaningsOf (sheetOf (now (attached .entry)) sheet) (slotsOf shop) (saveOf (now (items .entry)) (now (atcs .entry)) (now (flags .entry)) (now (times .entry)) (now (vars .entry)))) ⌝ }
+    ensures { λ r. ⌜ r ≡ previewedOf (meaningsOf (sheetOf (now (attached .entry)) sheet) (slotsOf (shopFrom (arraysIn (now (sold .entry)) (now (limits .entry)) (now (codes .entry)) (now (lens .entry))))) (saveOf (now (items .entry)) (now (atcs .entry)) (now (flags .entry)) (now (times .entry)) (now (vars .entry)))) ⌝ }
 {
     let mut out = blank(0, vars);
     let mut i = 0;
     while i < 20 {
-        let slot = shop.slots[i];
-        let m = meaning_of(attached, sheet, slot, items, atcs, flags, times);
+        let m = meaning_at(
+            attached,
+            sheet,
+            sold,
+            limits,
+            codes,
+            lens,
+            i,
+            items,
+            atcs,
+            flags,
+            times,
+        );
         out = put(out, i, m);
         i += 1;
     }
     out
 }
 
-// What the shop means under the save. Refused by 1, 8 or 12 it has no pairs, and variable 0 as in the save.
+// What the shop of the arrays means under the save. Refused by 1, 8 or 12 it has no pairs, and variable 0 as in the save.
+pub fn preview_arrays(
+    attached: &[u8],
+    sheet: Sheet,
+    sold: &[i32; 20],
+    limits: &[i16; 20],
+    codes: &[u64; 640],
+    lens: &[u8; 20],
+    items: &[i16],
+    atcs: &[u8],
+    flags: &[u8],
+    times: &[i16],
+    vars: &[i32],
+) -> Previewed
+    ensures { λ r. ⌜ r ≡ previewedOf (previewCall (sheetOf (now (attached .entry)) sheet) (slotsOf (shopFrom (arraysIn (now (sold .entry)) (now (limits .entry)) (now (codes .entry)) (now (lens .entry))))) (saveOf (now (items .entry)) (now (atcs .entry)) (now (flags .entry)) (now (times .entry)) (now (vars .entry)))) ⌝ }
+{
+    if !check_sheet(attached, sheet) {
+        return blank(1, vars);
+    }
+    if !check_arrays(attached, sheet, sold, codes, lens) {
+        return blank(8, vars);
+    }
+    if !check_save(attached, sheet, items, atcs, flags, times, vars) {
+        return blank(12, vars);
+    }
+    meanings(
+        attached,
+        sheet,
+        sold,
+        limits,
+        codes,
+        lens,
+        items,
+        atcs,
+        flags,
+        times,
+        vars,
+    )
+}
+
+// The same of a shop as a value.
 pub fn preview(
     attached: &[u8],
     sheet: Sheet,
@@ -391,14 +487,22 @@ pub fn preview(
 ) -> Previewed
     ensures { λ r. ⌜ r ≡ previewedOf (previewCall (sheetOf (now (attached .entry)) sheet) (slotsOf shop) (saveOf (now (items .entry)) (now (atcs .entry)) (now (flags .entry)) (now (times .entry)) (now (vars .entry)))) ⌝ }
 {
-    if !check_sheet(attached, sheet) {
-        return blank(1, vars);
-    }
-    if !check_shop(attached, sheet, shop) {
-        return blank(8, vars);
-    }
-    if !check_save(attached, sheet, items, atcs, flags, times, vars) {
-        return blank(12, vars);
-    }
-    meanings(attached, sheet, shop, items, atcs, flags, times, vars)
+    let mut sold = [-1; 20];
+    let mut limits = [0; 20];
+    let mut codes = [0; 640];
+    let mut lens = [0; 20];
+    arrays_of(shop, &mut sold, &mut limits, &mut codes, &mut lens);
+    preview_arrays(
+        attached,
+        sheet,
+        &sold,
+        &limits,
+        &codes,
+        &lens,
+        items,
+        atcs,
+        flags,
+        times,
+        vars,
+    )
 }

@@ -8,16 +8,13 @@ use Rattle.capi.proofs.lk_preview.Tie as tie
 sheet-by-requires : tie.Need-sheet-by-requires
 sheet-by-requires c κs = search needs
 
-shop-from-requires : tie.Need-shop-from-requires
-shop-from-requires c κs = search needs
-
-preview-requires : tie.Need-preview-requires
-preview-requires c κs = search needs
+preview-arrays-requires : tie.Need-preview-arrays-requires
+preview-arrays-requires c κs = search needs
 
 returns : tie.Need-returns
 returns c =
-    let t = toZ-ofZ {w = w32} {z = c .before .before .before .preview .result .temp} (record { sfits = c .struct-told .given .1 .1 .1 .0 .1 }) in
-    rw t (rw (c .before .before .before .before .before .sheet-by .ensures, c .before .before .before .before .shop-from .ensures) at (c .before .before .before .preview .ensures))
+    let t = toZ-ofZ {w = w32} {z = c .before .before .before .preview-arrays .result .temp} (record { sfits = c .struct-told .given .1 .1 .1 .0 .1 }) in
+    rw t (rw (c .before .before .before .before .sheet-by .ensures) at (c .before .before .before .preview-arrays .ensures))
 
 pub lk-preview-spec : {M : Type 1} → statement M
-lk-preview-spec = tie.close (tie.spec sheet-by-requires shop-from-requires preview-requires returns)
+lk-preview-spec = tie.close (tie.spec sheet-by-requires preview-arrays-requires returns)

@@ -5,6 +5,7 @@ use mir.Facts.{toZ-ofZ}
 use Rattle.model.specs.Meaning.{meaningOf}
 use Rattle.shop.specs.Shapes.{sheetOf, slotOf}
 use Rattle.checks.specs.Calls.{saveOf}
+use Rattle.preview.specs.Parts.{partsOf}
 use Rattle.preview.proofs.Pairs.{meaning-unique, meaning-limit}
 use borrow.Author.Needs.{needs}
 use Rattle.preview.proofs.meaning_of.Statement.{statement}
@@ -29,10 +30,11 @@ unique-meaning-requires : tie.Need-unique-meaning-requires
 unique-meaning-requires c κs = search needs
 
 returns : tie.Need-returns
+unfolding slotOf
 returns c = λ v.
     let s = c .before .before .before .before .before .before .before .before .before .before .before in
     c .unique-meaning .ensures (s .args .flags .now) v
-    ∙ meaning-unique (sheetOf (s .args .attached .now) (s .args .sheet)) (saveOf (s .args .items .now) (s .args .atcs .now) (s .args .flags .now) (s .args .times .now) v) (s .args .slot) _ (c .before .before .before .before .before .before .item .given .1) _ (c .before .before .before .before .all-hold .ensures (s .args .times .now) v) _ (rw (toZ-ofZ {w = w16} {z = s .args .slot .limit} (record { sfits = c .before .before .before .struct-told .given .1 .0 .1 })) at (c .before .before .limit-of .ensures)) (c .before .if1 .taken)
+    ∙ meaning-unique (sheetOf (s .args .attached .now) (s .args .sheet)) (saveOf (s .args .items .now) (s .args .atcs .now) (s .args .flags .now) (s .args .times .now) v) (partsOf (s .args .item) (s .args .limit) (s .args .row .now) (s .args .len)) _ (c .before .before .before .before .before .item .given .1) _ (c .before .before .before .all-hold .ensures (s .args .times .now) v) _ (rw (toZ-ofZ {w = w16} {z = s .args .limit} (s .fits .limit)) at (c .before .before .limit-of .ensures)) (c .before .if1 .taken)
 
 limit-meaning-requires : tie.Need-limit-meaning-requires
 limit-meaning-requires c κs = search needs
@@ -42,10 +44,11 @@ unfolding meaningOf slotOf
 returns-2 c = λ v. rw (c .before .enum-told .given .1) (c .hidden .ensures)
 
 returns-3 : tie.Need-returns-3
+unfolding slotOf
 returns-3 c = λ v.
     let s = c .before .before .before .before .before .before .before .before .before .before .before in
     c .limit-meaning .ensures (s .args .atcs .now) (s .args .flags .now) (s .args .times .now) v
-    ∙ meaning-limit (sheetOf (s .args .attached .now) (s .args .sheet)) (saveOf (s .args .items .now) (s .args .atcs .now) (s .args .flags .now) (s .args .times .now) v) (s .args .slot) _ (c .before .before .before .before .before .before .item .given .1) _ (c .before .before .before .before .all-hold .ensures (s .args .times .now) v) _ (rw (toZ-ofZ {w = w16} {z = s .args .slot .limit} (record { sfits = c .before .before .before .struct-told .given .1 .0 .1 })) at (c .before .before .limit-of .ensures)) (c .before .if1 .left)
+    ∙ meaning-limit (sheetOf (s .args .attached .now) (s .args .sheet)) (saveOf (s .args .items .now) (s .args .atcs .now) (s .args .flags .now) (s .args .times .now) v) (partsOf (s .args .item) (s .args .limit) (s .args .row .now) (s .args .len)) _ (c .before .before .before .before .before .item .given .1) _ (c .before .before .before .all-hold .ensures (s .args .times .now) v) _ (rw (toZ-ofZ {w = w16} {z = s .args .limit} (s .fits .limit)) at (c .before .before .limit-of .ensures)) (c .before .if1 .left)
 
 pub meaning-of-spec : {M : Type 1} → statement M
 meaning-of-spec =

@@ -1,77 +1,16 @@
--- `preview` meets its contract: the checks answer in their order, and then the slots are shown. Assumes nothing.
-use mathlib.Core.Path.{_≡_, refl, sym, _∙_}
-use mathlib.Core.Bool.{true, false}
-use lib.ListN.{length}
-use borrow.Author.Tests.{not-true, not-false}
-use Rattle.model.specs.Limits.{slotCount}
-use Rattle.shop.specs.Shapes.{sheetOf}
-use Rattle.shop.proofs.All.{length-mapped}
-use Rattle.checks.specs.Calls.{saveOf}
-use Rattle.preview.specs.Shown.{previewedOf}
-use Rattle.preview.proofs.Checks.{answered}
+-- `preview` meets its contract: the arrays stand for the shop. Assumes nothing.
 use borrow.Author.Needs.{needs}
 use Rattle.preview.proofs.preview.Statement.{statement}
 use Rattle.preview.proofs.preview.Tie as tie
 
-size : (c : tie.Start) → length (c .args .shop .slots) ≡ slotCount
-size c = search (length-mapped, needs)
+arrays-of-requires : tie.Need-arrays-of-requires
+arrays-of-requires c κs = search needs
 
-check-sheet-requires : tie.Need-check-sheet-requires
-check-sheet-requires c κs = search needs
-
-blank-requires : tie.Need-blank-requires
-blank-requires c κs = search needs
+preview-arrays-requires : tie.Need-preview-arrays-requires
+preview-arrays-requires c κs = search needs
 
 returns : tie.Need-returns
-unfolding previewedOf
-returns c =
-    let s = c .before .before .before .before .before .before in
-    answered (sheetOf (s .args .attached .now) (s .args .sheet)) (saveOf (s .args .items .now) (s .args .atcs .now) (s .args .flags .now) (s .args .times .now) (s .args .vars .now)) (s .args .shop) (size s) _ false _ _ (sym (c .before .before .check-sheet .ensures) ∙ not-true _ (c .before .if1 .taken)) refl refl (c .blank .ensures)
-
-check-shop-requires : tie.Need-check-shop-requires
-check-shop-requires c κs = search needs
-
-blank-requires-2 : tie.Need-blank-requires-2
-blank-requires-2 c κs = search needs
-
-returns-2 : tie.Need-returns-2
-unfolding previewedOf
-returns-2 c =
-    let s = c .before .before .before .before .before .before .before .before in
-    answered (sheetOf (s .args .attached .now) (s .args .sheet)) (saveOf (s .args .items .now) (s .args .atcs .now) (s .args .flags .now) (s .args .times .now) (s .args .vars .now)) (s .args .shop) (size s) _ true false _ (sym (c .before .before .before .before .check-sheet .ensures) ∙ not-false _ (c .before .before .before .if1 .left)) (sym (c .before .before .check-shop .ensures) ∙ not-true _ (c .before .if2 .taken)) refl (c .blank2 .ensures)
-
-check-save-requires : tie.Need-check-save-requires
-check-save-requires c κs = search needs
-
-blank-requires-3 : tie.Need-blank-requires-3
-blank-requires-3 c κs = search needs
-
-returns-3 : tie.Need-returns-3
-unfolding previewedOf
-returns-3 c =
-    let s = c .before .before .before .before .before .before .before .before .before .before in
-    answered (sheetOf (s .args .attached .now) (s .args .sheet)) (saveOf (s .args .items .now) (s .args .atcs .now) (s .args .flags .now) (s .args .times .now) (s .args .vars .now)) (s .args .shop) (size s) _ true true false (sym (c .before .before .before .before .before .before .check-sheet .ensures) ∙ not-false _ (c .before .before .before .before .before .if1 .left)) (sym (c .before .before .before .before .check-shop .ensures) ∙ not-false _ (c .before .before .before .if2 .left)) (sym (c .before .before .check-save .ensures) ∙ not-true _ (c .before .if3 .taken)) (c .blank3 .ensures)
-
-meanings-requires : tie.Need-meanings-requires
-meanings-requires c κs = search needs
-
-returns-4 : tie.Need-returns-4
-returns-4 c =
-    let s = c .before .before .before .before .before .before .before .before .before .before in
-    answered (sheetOf (s .args .attached .now) (s .args .sheet)) (saveOf (s .args .items .now) (s .args .atcs .now) (s .args .flags .now) (s .args .times .now) (s .args .vars .now)) (s .args .shop) (size s) _ true true true (sym (c .before .before .before .before .before .before .check-sheet .ensures) ∙ not-false _ (c .before .before .before .before .before .if1 .left)) (sym (c .before .before .before .before .check-shop .ensures) ∙ not-false _ (c .before .before .before .if2 .left)) (sym (c .before .before .check-save .ensures) ∙ not-false _ (c .before .if3 .left)) (c .meanings .ensures)
+returns c = rw (c .before .before .before .before .before .arrays-of .ensures) at (c .preview-arrays .ensures)
 
 pub preview-spec : {M : Type 1} → statement M
-preview-spec =
-    tie.close
-    (tie.spec
-    check-sheet-requires
-    blank-requires
-    returns
-    check-shop-requires
-    blank-requires-2
-    returns-2
-    check-save-requires
-    blank-requires-3
-    returns-3
-    meanings-requires
-    returns-4)
+preview-spec = tie.close (tie.spec arrays-of-requires preview-arrays-requires returns)
