@@ -6,3 +6,4 @@ pub mod Commands
 pub mod Blocks
 pub mod Loop
 pub mod Call
+pub mod Lengths

@@ -10,12 +10,14 @@ ghost use Rattle.terms.specs.Told.{nodesBy};
 ghost use Rattle.judge.specs.Stages.{codedBy, memoryBy, KeptBy, blockImageIn};
 ghost use Rattle.image_write.specs.Stored.{Stored, Room};
 ghost use Rattle.image_write.specs.Call.{wrote, lengthIn};
+ghost use Rattle.image_write.specs.Lengths.{mostBytes};
 use judge::Judged;
 use judge::judge_record;
 use memory::Counts;
 use memory::index_of;
 use memory::kind_of;
 use model::Kind;
+use plain::is_plain;
 use terms::folded;
 
 // The refusal's number, or 0 and the length of the image in bytes.
@@ -46,10 +48,15 @@ fn write_groups(out: &mut [u8], at: usize, v: u64, f: u8) -> usize
     write_groups(out, at + 1, v / 128, f - 1)
 }
 
+// Most numbers of an image take one byte, and those take no call.
 fn write_word(out: &mut [u8], at: usize, v: u64) -> usize
     requires { ⌜ (v < 34359738368) × Room (now out) at (word v) ⌝ }
     ensures { λ r. ⌜ Stored (now (out .entry)) at (word v) (now (out .exit)) r ⌝ }
 {
+    if v < 128 {
+        out[at] = low_byte(v);
+        return at + 1;
+    }
     write_groups(out, at, v, 5)
 }
 
@@ -316,7 +323,7 @@ fn write_record(
 }
 
 // Judged first, in the place of refusals 2 to 5; then 16 where the slice is shorter than the image; then written. Refused, the slice stays as it was.
-pub fn write_script(
+fn write_judged(
     ws: &[u16; 98304],
     val: &[i32; 32768],
     cw: &[u16; 65536],
@@ -343,4 +350,34 @@ pub fn write_script(
         }
         Judged::No(k) => Written { refusal: k, len: 0 },
     }
+}
+
+// So many bytes hold the image of any accepted record with these counts.
+fn most_bytes(counts: Counts) -> usize
+    ensures { λ r. ⌜ r ≡ mostBytes (counts .blocks) (counts .commands) (counts .nodes) ⌝ }
+{
+    5 + 16 * counts.blocks as usize + 6 * counts.commands as usize + 6 * counts.nodes as usize
+}
+
+// A record that is plainly fine needs no judgement where the slice holds any such record; the others are judged step by step, which also tells the length.
+pub fn write_script(
+    ws: &[u16; 98304],
+    val: &[i32; 32768],
+    cw: &[u16; 65536],
+    bw: &[u16; 20480],
+    counts: Counts,
+    out: &mut [u8],
+) -> Written
+    ensures { λ r. ⌜ (wrote (r .refusal) (now (out .exit)) ≡ writeIn (memoryIn (now (ws .entry)) (now (val .entry)) (now (cw .entry)) (now (bw .entry)) (counts .nodes) (counts .commands) (counts .blocks)) (now (out .entry))) × (r .len ≡ lengthIn (memoryIn (now (ws .entry)) (now (val .entry)) (now (cw .entry)) (now (bw .entry)) (counts .nodes) (counts .commands) (counts .blocks)) (now (out .entry))) ⌝ }
+{
+    if most_bytes(counts) <= out.len() {
+        if is_plain(ws, val, cw, bw, counts) {
+            let end = write_record(ws, val, cw, bw, counts, out);
+            return Written {
+                refusal: 0,
+                len: end,
+            };
+        }
+    }
+    write_judged(ws, val, cw, bw, counts, out)
 }

@@ -57,10 +57,11 @@ impl Script {
 
     /// The image of the script. A script that was read is never refused.
     pub fn write(&self) -> Result<Vec<u8>, Refused> {
-        // A node takes 6 bytes at most, a command 3 and a block 8, besides the count of blocks.
+        // A slice of this length holds the image of any accepted script with these counts, and the library then
+        // writes a script that is plainly fine without measuring it first.
         let a = &self.arrays;
         let most =
-            6 * usize::from(a.nodes) + 3 * usize::from(a.commands) + 8 * usize::from(a.blocks) + 3;
+            6 * usize::from(a.nodes) + 6 * usize::from(a.commands) + 16 * usize::from(a.blocks) + 5;
         let mut image = vec![0; most];
         let len = self.write_into(&mut image)?;
         image.truncate(len);

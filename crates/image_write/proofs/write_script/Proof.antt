@@ -1,7 +1,13 @@
--- `image_write::write_script` meets its contract: refused by the judgement, by the slice's length, or written. Assumes nothing.
+-- `image_write::write_script` meets its contract: a plain record in a slice that holds any such record is written, the others are judged. Assumes nothing.
+use Prim.Native.Nat.{_≤_}
+use native.Mathlib.Omega.{arith}
+use lib.ListN.{length}
+use Rattle.model.specs.Image.{image}
 use Rattle.model.specs.Memory.{Memory, memoryIn}
+use Rattle.plain.specs.Counted.{Plain}
 use Rattle.image_write.specs.Stored.{stored-length}
-use Rattle.image_write.specs.Call.{fine-of, fine-kept, fine-room, call-no, call-short, call-fine}
+use Rattle.image_write.specs.Call.{fine-kept, fine-room, call-fine}
+use Rattle.image_write.specs.Lengths.{mostBytes, plain-accepted, plain-short}
 use borrow.Author.Needs.{needs}
 use Rattle.image_write.proofs.write_script.Statement.{statement}
 use Rattle.image_write.proofs.write_script.Tie as tie
@@ -9,29 +15,40 @@ use Rattle.image_write.proofs.write_script.Tie as tie
 abbrev me : tie.Start → Memory
 me s = memoryIn (s .args .ws .now) (s .args .val .now) (s .args .cw .now) (s .args .bw .now) (s .args .counts .nodes) (s .args .counts .commands) (s .args .counts .blocks)
 
-judge-record-requires : tie.Need-judge-record-requires
-judge-record-requires c κs = search needs
+-- the slice holds the image
+fits : (s : tie.Start) (p : Plain (me s)) → mostBytes (s .args .counts .blocks) (s .args .counts .commands) (s .args .counts .nodes) ≤ length (s .args .out .now) → length (image (p .blocks)) ≤ length (s .args .out .now)
+fits s p l = omega (arith, plain-short (me s) p)
 
-enum-known-judged : tie.Need-enum-known-judged
-enum-known-judged c = search needs
+most-bytes-requires : tie.Need-most-bytes-requires
+most-bytes-requires c κs = search needs
 
-returns : tie.Need-returns
-returns c = call-short (fine-of (me (c .before .before .before .before .before .before)) _ _ (c .before .before .before .before .judge-record .ensures) (c .before .before .judged .given .1)) (c .before .before .before .before .before .before .args .out .now) (c .if1 .taken)
+is-plain-requires : tie.Need-is-plain-requires
+is-plain-requires c κs = search needs
 
 write-record-requires : tie.Need-write-record-requires
-write-record-requires c κs = (fine-kept (fine-of (me (c .before .before .before .before .before .before .before)) _ _ (c .before .before .before .before .before .judge-record .ensures) (c .before .before .before .judged .given .1)), fine-room (fine-of (me (c .before .before .before .before .before .before .before)) _ _ (c .before .before .before .before .before .judge-record .ensures) (c .before .before .before .judged .given .1)) (c .before .before .before .before .before .before .before .args .out .now) (c .before .if1 .left))
-
-enum-known-judged-2 : tie.Need-enum-known-judged-2
-enum-known-judged-2 c = search needs
+write-record-requires c κs =
+    let s = c .before .before .before .before .before .before in
+    let p : Plain (me s) = c .before .before .is-plain .ensures (c .before .if2 .taken) in
+    (fine-kept (plain-accepted (me s) p), fine-room (plain-accepted (me s) p) (s .args .out .now) (fits s p (omega (arith, c .before .before .before .before .most-bytes .ensures, c .before .before .before .if1 .taken))))
 
 same-length : tie.Need-same-length
 same-length c = stored-length (c .before .before .write-record .ensures)
 
-returns-2 : tie.Need-returns-2
-returns-2 c = call-fine (fine-of (me (c .before .before .before .before .before .before .before .before .before .before)) _ _ (c .before .before .before .before .before .before .before .before .judge-record .ensures) (c .before .before .before .before .before .before .judged .given .1)) (c .before .before .before .before .before .before .before .before .before .before .args .out .now) (c .before .before .before .before .if1 .left) (c .before .before .write-record .ensures)
+returns : tie.Need-returns
+returns c =
+    let s = c .before .before .before .before .before .before .before .before .before in
+    let p : Plain (me s) = c .before .before .before .before .before .is-plain .ensures (c .before .before .before .before .if2 .taken) in
+    let l = fits s p (omega (arith, c .before .before .before .before .before .before .before .most-bytes .ensures, c .before .before .before .before .before .before .if1 .taken)) in
+    call-fine (plain-accepted (me s) p) (s .args .out .now) l (c .before .before .write-record .ensures)
 
-returns-3 : tie.Need-returns-3
-returns-3 c = call-no (me (c .before .before .before .before .before)) (c .before .before .before .before .before .args .out .now) _ _ (c .before .before .before .judge-record .ensures) (c .before .judged2 .given .1)
+write-judged-requires : tie.Need-write-judged-requires
+write-judged-requires c κs = search needs
+
+same-length-2 : tie.Need-same-length-2
+same-length-2 c = search needs
+
+returns-2 : tie.Need-returns-2
+returns-2 c = search needs
 
 pub write-script-spec : {M : Type 1} → statement M
-write-script-spec = tie.close (tie.spec judge-record-requires enum-known-judged returns write-record-requires enum-known-judged-2 same-length returns-2 returns-3)
+write-script-spec = tie.close (tie.spec most-bytes-requires is-plain-requires write-record-requires same-length returns write-judged-requires same-length-2 returns-2)

@@ -1,20 +1,38 @@
 -- `image_write::write_word` meets its contract, where five groups are enough. Assumes nothing.
 use Rattle.model.specs.Reading.{word}
+use Rattle.image_write.specs.Words.{room-last, stored-last}
 use native.Mathlib.Omega.{arith}
 use borrow.Author.Needs.{needs}
 use Rattle.image_write.proofs.write_word.Statement.{statement}
 use Rattle.image_write.proofs.write_word.Tie as tie
 
-write-groups-requires : tie.Need-write-groups-requires
+low-byte-requires : tie.Need-low-byte-requires
+low-byte-requires c κs = search needs
+
+slice-write-out : tie.Need-slice-write-out
 unfolding word
-write-groups-requires c κs = (c .before .before .pre .0, omega arith, c .before .before .pre .1)
+slice-write-out c = room-last 5 (c .before .before .before .args .v) (omega arith) (c .before .before .before .pre .1) (c .before .if1 .taken)
+
+add-result : tie.Need-add-result
+add-result c = search needs
 
 same-length : tie.Need-same-length
 same-length c = search needs
 
 returns : tie.Need-returns
 unfolding word
-returns c = c .before .before .write-groups .ensures
+returns c = stored-last 5 (c .before .before .before .args .v) (omega arith) _ _ _ (c .before .if1 .taken) (c .low-byte .ensures)
+
+write-groups-requires : tie.Need-write-groups-requires
+unfolding word
+write-groups-requires c κs = (c .before .before .before .pre .0, omega arith, c .before .before .before .pre .1)
+
+same-length-2 : tie.Need-same-length-2
+same-length-2 c = search needs
+
+returns-2 : tie.Need-returns-2
+unfolding word
+returns-2 c = c .before .before .write-groups .ensures
 
 pub write-word-spec : {M : Type 1} → statement M
-write-word-spec = tie.close (tie.spec write-groups-requires same-length returns)
+write-word-spec = tie.close (tie.spec low-byte-requires slice-write-out add-result same-length returns write-groups-requires same-length-2 returns-2)
