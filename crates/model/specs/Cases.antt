@@ -89,6 +89,14 @@ oneBlock cs = counted (code cs none none ∷ [])
 pub hidesUnder : List Command → Script
 hidesUnder cs = counted (code (ifElse (one Flag (imm16 (pos 1))) 0 ∷ []) (some 1) none ∷ code cs none none ∷ [])
 
+-- item w and count w into slot 0
+pub fills : ℕ → Block
+fills w = code (emitSet 600 (imm16 (pos w)) ∷ emitSet 620 (imm16 (pos w)) ∷ []) none none
+
+-- an If on flag[1] whose next fills slot 0 with item 1, limit 1 and whose else with item 2, limit 2
+pub bothWays : Script
+bothWays = counted (code (ifElse (one Flag (imm16 (pos 1))) 2 ∷ []) (some 1) (some 2) ∷ fills 1 ∷ fills 2 ∷ [])
+
 -- n Return blocks
 pub many : ℕ → Script
 many n = counted (replicate n returnBlock)
@@ -111,7 +119,7 @@ bytes (n ∷ ns) = pos n ∷ bytes ns
 
 -- names all that the cases compute with
 unfoldable pub opened : ℕ
-unfolding sheet slotOf first with saved brief ranAt flat itemNumber readAs parsedAt nextOf oneBlock hidesUnder many emptyShopAt p1 timer5 p5 bytes wrap imm size sheetOk saveOk insert sorted member settled padded limitOf commandNodes commandsNodes blockNodes blockCommands number more groups under word wordTo zig zag image blocksImage blockImage commandsImage commandImage exprImage linkImage kinds kindOf readKind readOperands readExpr readTerm setOf commandOf readCommand readCommands readCode blockOf readBlock readBlocks readBlockNo linkOf readLink ended readWithin readImage countsOk judged callRefusal compiled compileRefusal appended redirect hasRoom shopBlocks slotsBlocks slotBlocks limitBlocks uniqueBlocks acquiredExpr itemTest atcTest flagTest test joinTests run step runCall parseCall parse parseBlock visited parseRequirements gather placeOf slots readSheet readAtcs readTimers digitsTo decimal signedDecimal letter requirementsText itemText slotLine slotLines refusedText readInput parsedText inputText
+unfolding sheet slotOf first with saved brief ranAt flat itemNumber readAs parsedAt nextOf oneBlock hidesUnder fills bothWays many emptyShopAt p1 timer5 p5 bytes wrap imm size sheetOk saveOk insert sorted member settled padded limitOf commandNodes commandsNodes blockNodes blockCommands number more groups under word wordTo zig zag image blocksImage blockImage commandsImage commandImage exprImage linkImage kinds kindOf readKind readOperands readExpr readTerm setOf commandOf readCommand readCommands readCode blockOf readBlock readBlocks readBlockNo linkOf readLink ended readWithin readImage countsOk judged callRefusal compiled compileRefusal appended redirect hasRoom shopBlocks slotsBlocks slotBlocks limitBlocks uniqueBlocks acquiredExpr itemTest atcTest flagTest test joinTests run step runCall parseCall parse parseBlock visited parseRequirements gather placeOf slots readSheet readAtcs readTimers digitsTo decimal signedDecimal letter requirementsText itemText slotLine slotLines refusedText readInput parsedText inputText
 opened = 0
 
 -- ---- P1 to P10
@@ -150,6 +158,8 @@ table =
     ∷ case (parsedAt (hidesUnder (emitSet 600 (imm16 (negsuc 0)) ∷ []))) (pos 0 ∷ negsuc 0 ∷ pos 0 ∷ [])
     -- with a count it adds the negated condition
     ∷ case (parsedAt (hidesUnder (emitSet 600 (imm16 (negsuc 0)) ∷ emitSet 620 (imm16 (pos 0)) ∷ []))) (pos 0 ∷ negsuc 0 ∷ pos 0 ∷ pos 5 ∷ pos 1 ∷ [])
+    -- next before else: the item is that of next, which fills the slot, the limit that of else, which replaces it
+    ∷ case (parsedAt bothWays) (pos 0 ∷ pos 1 ∷ pos 2 ∷ [])
     -- P8: Timer5, not acquired, no other timer; with Timer10
     ∷ case (ranAt timer5 (saved 7 (pos 0) 0 0 (pos 0))) (pos 0 ∷ pos 0 ∷ pos 0 ∷ pos 24 ∷ [])
     ∷ case (ranAt timer5 (saved 1 (pos 1) 0 0 (pos 0))) (pos 0 ∷ pos 0 ∷ pos 1 ∷ pos 24 ∷ [])
@@ -162,7 +172,7 @@ table =
 
 pub p1-to-p10 : AllSo table
 unfolding opened
-p1-to-p10 = (refl, (refl, (refl, (refl, (refl, (refl, (refl, (refl, (refl, (refl, (refl, (refl, (refl, (refl, (refl, (refl, (refl, tt)))))))))))))))))
+p1-to-p10 = (refl, (refl, (refl, (refl, (refl, (refl, (refl, (refl, (refl, (refl, (refl, (refl, (refl, (refl, (refl, (refl, (refl, (refl, tt))))))))))))))))))
 
 -- ---- the worked input of slots: 0 3 1, then 1 - 0 and so on to 19 - 0
 
