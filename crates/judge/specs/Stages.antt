@@ -1,5 +1,6 @@
 -- What the judge promises of commands, of blocks and of the whole record: the answer is what reading the image gives. Assumes nothing: these are definitions.
 use mathlib.Core.Path.{_≡_}
+use mathlib.Core.Bool.{true}
 use mathlib.Core.Option.{Option}
 use mathlib.Core.List.{List, [], _++_}
 use Prim.Native.Nat.{ℕ, _+_, _*_, _≤_, _<_}
@@ -10,7 +11,7 @@ use Rattle.model.specs.Reading.{Answer, got, refused, onward, word}
 use Rattle.model.specs.Script.{Block, blockNodes, blockCommands}
 use Rattle.model.specs.Image.{image, readLink}
 use Rattle.model.specs.Memory.{Coded, Memory, codedIn, memoryIn, blockWord}
-use Rattle.model.specs.Record.{blockTail, recordImage, judgedRecord}
+use Rattle.model.specs.Record.{blockTail, recordImage, heldKept, judgedRecord}
 use Rattle.terms.specs.Told.{Kept}
 use Rattle.judge.specs.declared.Stage.{Stage}
 use Rattle.judge.specs.declared.Stage.the-variants.{Fine as Passed, No as Stopped}
@@ -91,3 +92,8 @@ pub record Accepted (m : Memory) (len : ℕ) : Type 0 where
 unfoldable pub JudgedAs : Memory → Judged → Type 0
 JudgedAs m (Fine len) = Accepted m len
 JudgedAs m (No k) = judgedRecord m ≡ refused k
+
+-- the answer of the walk: it is the judgement, unless something is held past the kept counts
+unfoldable pub WalkedAs : Memory → Judged → Type 0
+WalkedAs m (Fine len) = Accepted m len
+WalkedAs m (No k) = heldKept m ≡ true → judgedRecord m ≡ refused k

@@ -8,7 +8,8 @@ ghost use Rattle.model.specs.Memory.{memoryIn};
 ghost use Rattle.model.specs.Record.{rootImage, commandTail, commandImageIn, commandsImageIn, blockTail};
 ghost use Rattle.terms.specs.Told.{Told, limitsBy, nodesBy, ReadyBy};
 ghost use Rattle.terms.specs.Measures.{Table};
-ghost use Rattle.judge.specs.Stages.{codedBy, memoryBy, KeptBy, uncounted, readLinks, StandingBy, Staged, blockImageIn, JudgedAs};
+ghost use Rattle.judge.specs.Stages.{codedBy, memoryBy, KeptBy, uncounted, readLinks, StandingBy, Staged, blockImageIn, JudgedAs, WalkedAs};
+use held::held_kept;
 use memory::Counts;
 use memory::index_of;
 use terms::Step;
@@ -295,7 +296,7 @@ fn judge_blocks(
     counts: Counts,
 ) -> Judged
     requires { ⌜ KeptBy counts × Table (now ws) (now val) (now table) (counts .nodes) ⌝ }
-    ensures { λ r. ⌜ JudgedAs (memoryBy (now (ws .entry)) (now (val .entry)) (now (cw .entry)) (now (bw .entry)) counts) r ⌝ }
+    ensures { λ r. ⌜ WalkedAs (memoryBy (now (ws .entry)) (now (val .entry)) (now (cw .entry)) (now (bw .entry)) counts) r ⌝ }
 {
     let end = index_of(counts.blocks);
     let mut n: u16 = 0;
@@ -328,7 +329,7 @@ fn judge_up_to_64(
     counts: Counts,
 ) -> Judged
     requires { ⌜ (counts .nodes ≤ 64) × KeptBy counts ⌝ }
-    ensures { λ r. ⌜ JudgedAs (memoryBy (now (ws .entry)) (now (val .entry)) (now (cw .entry)) (now (bw .entry)) counts) r ⌝ }
+    ensures { λ r. ⌜ WalkedAs (memoryBy (now (ws .entry)) (now (val .entry)) (now (cw .entry)) (now (bw .entry)) counts) r ⌝ }
 {
     let mut table = [0u32; 192];
     measure_nodes(ws, val, &mut table, index_of(counts.nodes));
@@ -344,7 +345,7 @@ fn judge_up_to_1024(
     counts: Counts,
 ) -> Judged
     requires { ⌜ (counts .nodes ≤ 1024) × KeptBy counts ⌝ }
-    ensures { λ r. ⌜ JudgedAs (memoryBy (now (ws .entry)) (now (val .entry)) (now (cw .entry)) (now (bw .entry)) counts) r ⌝ }
+    ensures { λ r. ⌜ WalkedAs (memoryBy (now (ws .entry)) (now (val .entry)) (now (cw .entry)) (now (bw .entry)) counts) r ⌝ }
 {
     let mut table = [0u32; 3072];
     measure_nodes(ws, val, &mut table, index_of(counts.nodes));
@@ -360,14 +361,35 @@ fn judge_any(
     counts: Counts,
 ) -> Judged
     requires { ⌜ KeptBy counts ⌝ }
-    ensures { λ r. ⌜ JudgedAs (memoryBy (now (ws .entry)) (now (val .entry)) (now (cw .entry)) (now (bw .entry)) counts) r ⌝ }
+    ensures { λ r. ⌜ WalkedAs (memoryBy (now (ws .entry)) (now (val .entry)) (now (cw .entry)) (now (bw .entry)) counts) r ⌝ }
 {
     let mut table = [0u32; 98304];
     measure_nodes(ws, val, &mut table, index_of(counts.nodes));
     judge_blocks(ws, val, &table, cw, bw, counts)
 }
 
+// The walk, with a table of the size that the script needs.
+fn walk_record(
+    ws: &[u16; 98304],
+    val: &[i32; 32768],
+    cw: &[u16; 65536],
+    bw: &[u16; 20480],
+    counts: Counts,
+) -> Judged
+    requires { ⌜ KeptBy counts ⌝ }
+    ensures { λ r. ⌜ WalkedAs (memoryBy (now (ws .entry)) (now (val .entry)) (now (cw .entry)) (now (bw .entry)) counts) r ⌝ }
+{
+    if counts.nodes > 1024 {
+        return judge_any(ws, val, cw, bw, counts);
+    }
+    if counts.nodes > 64 {
+        return judge_up_to_1024(ws, val, cw, bw, counts);
+    }
+    judge_up_to_64(ws, val, cw, bw, counts)
+}
+
 // The judgement of a script record, in the place of refusals 2 to 5: the kept counts first, then block by block as its image would be read.
+// What the walk accepts holds nothing past its kept counts, so that only a record that it refuses is asked for that.
 pub fn judge_record(
     ws: &[u16; 98304],
     val: &[i32; 32768],
@@ -386,11 +408,14 @@ pub fn judge_record(
     if counts.nodes > 32768 {
         return Judged::No(3);
     }
-    if counts.nodes > 1024 {
-        return judge_any(ws, val, cw, bw, counts);
+    let walked = walk_record(ws, val, cw, bw, counts);
+    match walked {
+        Judged::Fine(len) => Judged::Fine(len),
+        Judged::No(k) => {
+            if held_kept(cw, bw, counts) {
+                return Judged::No(k);
+            }
+            Judged::No(3)
+        }
     }
-    if counts.nodes > 64 {
-        return judge_up_to_1024(ws, val, cw, bw, counts);
-    }
-    judge_up_to_64(ws, val, cw, bw, counts)
 }
