@@ -16,7 +16,7 @@ blocks-kept-requires : tie.Need-blocks-kept-requires
 blocks-kept-requires c κs = search needs
 
 returns : tie.Need-returns
-returns c = λ ws vs. c .blocks-kept .ensures ws vs (c .before .before .before .before .before .args .cw .now) (c .before .note-runs .ensures)
+returns c = λ ws vs. c .blocks-kept .ensures ws vs (c .before .before .before .before .before .args .cw .now) (c .before .before .before .note-runs .ensures)
 
 pub held-kept-spec : {M : Type 1} → statement M
 held-kept-spec = tie.close (tie.spec slice-aggregate-note-runs note-runs-requires slice-aggregate-blocks-kept blocks-kept-requires returns)
