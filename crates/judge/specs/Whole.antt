@@ -1,6 +1,6 @@
 -- The whole record is judged as its image would be read. Assumes nothing.
 use mathlib.Core.Path.{_≡_, refl, ap, sym, _∙_}
-use mathlib.Core.Bool.{true, false}
+use mathlib.Core.Bool.{Bool, true, false}
 use mathlib.Core.List.{List, [], _++_, append-assoc, append-nil}
 use Prim.Native.Nat.{ℕ, suc, _+_, _-_, _*_, _≤_, _<_}
 use native.Mathlib.Omega.{arith}
@@ -19,7 +19,7 @@ use Rattle.memory.specs.Kept.{sound-kept}
 use Rattle.memory.specs.Agree.{past-judged}
 use Rattle.terms.specs.Told.{Kept, ShortWord}
 use Rattle.judge.specs.Loop.{Part, Next, part-start, part-next, part-no, part-done, part-bytes}
-use Rattle.judge.specs.Stages.{GoodBlock, Staged, Accepted, JudgedAs, WalkedAs}
+use Rattle.judge.specs.Stages.{GoodBlock, Staged, JudgedAs, WalkedAs}
 use Rattle.judge.specs.Blocks.{block-of, stop-of}
 use Rattle.judge.specs.declared.Stage.{Stage}
 use Rattle.judge.specs.declared.Stage.the-variants.{Fine as Passed, No as Stopped}
@@ -121,8 +121,8 @@ module _ (me : Memory) where
           ∙ sym (length-append (word (me .count)) (blocksImageIn me (me .count) 0))
 
       -- what the walk accepts holds nothing past the kept counts
-      pub pass-done : me .count ≤ i → Accepted me p
-      unfolding readBlocks blocksImageIn ended
+      pub pass-done : me .count ≤ i → JudgedAs me (Fine p)
+      unfolding JudgedAs readBlocks blocksImageIn ended
       pass-done ge =
           let bs = P .part .seen in
           let all : readWithin (me .coded .count) (me .coded .nodes .count) (recordImage me) ≡ got bs []
@@ -133,22 +133,23 @@ module _ (me : Memory) where
 
 -- ---- the walk's answer, and whether all that is held is kept
 
-module _ (me : Memory) {r : Judged} (w : WalkedAs me r) where
-  pub walked-fine : {len : ℕ} → r ≡ Fine len → JudgedAs me (Fine len)
-  unfolding WalkedAs JudgedAs
-  walked-fine e = rw e at w
+pub walked-done : (me : Memory) (len : ℕ) → JudgedAs me (Fine len) → WalkedAs me (Fine len)
+unfolding WalkedAs JudgedAs
+walked-done me len j = j
 
-  pub walked-no : {k : ℕ} → r ≡ No k → heldKept me ≡ true → JudgedAs me (No k)
-  unfolding WalkedAs JudgedAs
-  walked-no e h = (rw e at w) h
+module _ (me : Memory) where
+  module _ {r : Judged} (w : WalkedAs me r) where
+    pub walked-fine : {len : ℕ} → r ≡ Fine len → JudgedAs me (Fine len)
+    unfolding WalkedAs JudgedAs
+    walked-fine e = rw e at w
 
-pub walked-done : (me : Memory) {len : ℕ} → Accepted me len → WalkedAs me (Fine len)
-unfolding WalkedAs
-walked-done me a = a
+    pub walked-no : {k : ℕ} {b : Bool} → r ≡ No k → b ≡ heldKept me → b ≡ true → JudgedAs me (No k)
+    unfolding WalkedAs JudgedAs
+    walked-no e p q = (rw e at w) (sym p ∙ q)
 
-pub held-past : (me : Memory) → heldKept me ≡ false → JudgedAs me (No 3)
-unfolding JudgedAs
-held-past me e = past-judged me e
+  pub held-past : {b : Bool} → b ≡ heldKept me → b ≡ false → JudgedAs me (No 3)
+  unfolding JudgedAs
+  held-past p q = past-judged me (sym p ∙ q)
 
 -- ---- the statement determines the answer
 
