@@ -182,24 +182,71 @@ fn under(
     push_command(cw, 0, 6, 0, 0, 0);
     push_command(cw, 1, 3, 0, 0, 0);
     set_block(bw, 0, 1, 0, 2, 0, 0);
-    show(b"code 6 and an If, all kept", ws, val, cw, bw, counts(1, 2, 1));
-    show(b"code 6 and an If, no node kept", ws, val, cw, bw, counts(0, 2, 1));
+    show(
+        b"code 6 and an If, all kept",
+        ws,
+        val,
+        cw,
+        bw,
+        counts(1, 2, 1),
+    );
+    show(
+        b"code 6 and an If, no node kept",
+        ws,
+        val,
+        cw,
+        bw,
+        counts(0, 2, 1),
+    );
     set_block(bw, 0, 3, 0, 2, 0, 0);
-    show(b"the same in a block of kind 3", ws, val, cw, bw, counts(0, 2, 1));
+    show(
+        b"the same in a block of kind 3",
+        ws,
+        val,
+        cw,
+        bw,
+        counts(0, 2, 1),
+    );
     push_command(cw, 0, 2, 9, 0, 1);
     set_block(bw, 0, 1, 0, 1, 0, 0);
-    show(b"no target past the count", ws, val, cw, bw, counts(1, 1, 1));
+    show(
+        b"no target past the count",
+        ws,
+        val,
+        cw,
+        bw,
+        counts(1, 1, 1),
+    );
 }
 
 // Each block but the first, which is of no kind, holds all commands that may be kept: Returns, and at last an If with a root past the count.
-fn overlapping(ws: &[u16; 98304], val: &[i32; 32768], cw: &mut [u16; 65536], bw: &mut [u16; 20480]) {
+fn overlapping(
+    ws: &[u16; 98304],
+    val: &[i32; 32768],
+    cw: &mut [u16; 65536],
+    bw: &mut [u16; 20480],
+) {
     push_command(cw, 0, 0, 0, 0, 0);
     push_command(cw, 1, 0, 0, 0, 0);
     all_hold_all(bw);
     set_block(bw, 0, 3, 0, 0, 0, 0);
-    show(b"all blocks hold all commands", ws, val, cw, bw, counts(0, 16384, 4096));
+    show(
+        b"all blocks hold all commands",
+        ws,
+        val,
+        cw,
+        bw,
+        counts(0, 16384, 4096),
+    );
     push_command(cw, 16383, 3, 0, 0, 0);
-    show(b"and the last a root past the count", ws, val, cw, bw, counts(0, 16384, 4096));
+    show(
+        b"and the last a root past the count",
+        ws,
+        val,
+        cw,
+        bw,
+        counts(0, 16384, 4096),
+    );
 }
 
 // ---- what they are made of
