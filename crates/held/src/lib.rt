@@ -94,12 +94,11 @@ fn blocks_kept(bw: &[u16; 20480], runs: &[u16], counts: Counts) -> bool
     true
 }
 
-// False where a block holds a command, or such a command the root of an expression, at or past its kept count.
-pub fn held_kept(cw: &[u16; 65536], bw: &[u16; 20480], counts: Counts) -> bool
-    requires { ⌜ (counts .blocks ≤ blockLimit) × (counts .commands ≤ commandLimit) ⌝ }
+// False where a block holds a command, or such a command the root of an expression, at or past its kept count. What the table held before means nothing.
+pub fn held_kept(cw: &[u16; 65536], bw: &[u16; 20480], runs: &mut [u16], counts: Counts) -> bool
+    requires { ⌜ (counts .blocks ≤ blockLimit) × (counts .commands ≤ commandLimit) × (counts .commands ≤ length (now runs)) ⌝ }
     ensures { λ r. ⌜ ((ws : List ℕ) (vs : List ℤ) → r ≡ heldKept (memoryIn ws vs (now (cw .entry)) (now (bw .entry)) (counts .nodes) (counts .commands) (counts .blocks))) ⌝ }
 {
-    let mut runs: [u16; 16384] = [0; 16384];
-    note_runs(cw, &mut runs, counts);
-    blocks_kept(bw, &runs, counts)
+    note_runs(cw, runs, counts);
+    blocks_kept(bw, runs, counts)
 }

@@ -1,10 +1,11 @@
 -- The whole record is judged as its image would be read. Assumes nothing.
-use mathlib.Core.Path.{_≡_, refl, ap, sym, _∙_}
+use mathlib.Core.Path.{_≡_, refl, ap, sym, _∙_, subst}
 use mathlib.Core.Bool.{Bool, true, false}
 use mathlib.Core.List.{List, [], _++_, append-assoc, append-nil}
 use Prim.Native.Nat.{ℕ, suc, _+_, _-_, _*_, _≤_, _<_}
 use native.Mathlib.Omega.{arith}
-use borrow.Author.Tests.{le-leb, lt-leb}
+use lib.Dec.{T, leb}
+use borrow.Author.Tests.{leb-true, le-leb, lt-leb}
 use lib.ListN.{length, length-append}
 use Rattle.model.specs.Limits.{wide, blockLimit, commandLimit, nodeLimit}
 use Rattle.model.specs.Reading.{Answer, got, refused, onward, word}
@@ -14,12 +15,13 @@ use Rattle.model.specs.Memory.{Memory, blockWord}
 use Rattle.model.specs.Record.{blockTail, blocksImageIn, recordImage, heldKept, limitsKept, keptOk, judgedRecord}
 use Rattle.model.specs.Laws.Reading.{read-word}
 use Rattle.model.specs.Laws.Image.{write-image}
+use Rattle.memory.specs.declared.Counts.{Counts}
 use Rattle.memory.specs.RecordLaws.{read-sound}
 use Rattle.memory.specs.Kept.{sound-kept}
 use Rattle.memory.specs.Agree.{past-judged}
 use Rattle.terms.specs.Told.{Kept, ShortWord}
 use Rattle.judge.specs.Loop.{Part, Next, part-start, part-next, part-no, part-done, part-bytes}
-use Rattle.judge.specs.Stages.{GoodBlock, Staged, JudgedAs, WalkedAs}
+use Rattle.judge.specs.Stages.{memoryBy, KeptBy, Within, GoodBlock, Staged, JudgedAs, WalkedAs}
 use Rattle.judge.specs.Blocks.{block-of, stop-of}
 use Rattle.judge.specs.declared.Stage.{Stage}
 use Rattle.judge.specs.declared.Stage.the-variants.{Fine as Passed, No as Stopped}
@@ -60,18 +62,26 @@ module _ (l : Limits) (me : Memory) (c b n m p : ℕ) where
 
 -- ---- kept counts
 
+module _ (k : Counts) where
+  pub limits-blocks : blockLimit < k .blocks → Within k false
+  unfolding limitsKept
+  limits-blocks h = record { kept = λ e. absurd (subst T (sym e) tt); over = λ e ws vs cw bw. rw (lt-leb (k .blocks) blockLimit h) }
+
+  pub limits-commands : k .blocks ≤ blockLimit → commandLimit < k .commands → Within k false
+  unfolding limitsKept
+  limits-commands b h = record { kept = λ e. absurd (subst T (sym e) tt); over = λ e ws vs cw bw. rw (le-leb (k .blocks) blockLimit b, lt-leb (k .commands) commandLimit h) }
+
+  pub limits-nodes : k .blocks ≤ blockLimit → k .commands ≤ commandLimit → Within k (leb (k .nodes) nodeLimit)
+  unfolding limitsKept
+  limits-nodes b c = record {
+    kept = λ e. record { nodes = leb-true (k .nodes) nodeLimit e; commands = c; blocks = b };
+    over = λ e ws vs cw bw. rw (le-leb (k .blocks) blockLimit b, le-leb (k .commands) commandLimit c, e);
+  }
+
 module _ (me : Memory) where
-  pub kept-blocks : blockLimit < me .count → JudgedAs me (No 3)
-  unfolding JudgedAs judgedRecord keptOk limitsKept
-  kept-blocks h = rw (lt-leb (me .count) blockLimit h)
-
-  pub kept-commands : me .count ≤ blockLimit → commandLimit < me .coded .count → JudgedAs me (No 3)
-  unfolding JudgedAs judgedRecord keptOk limitsKept
-  kept-commands b h = rw (le-leb (me .count) blockLimit b, lt-leb (me .coded .count) commandLimit h)
-
-  pub kept-nodes : me .count ≤ blockLimit → me .coded .count ≤ commandLimit → nodeLimit < me .coded .nodes .count → JudgedAs me (No 3)
-  unfolding JudgedAs judgedRecord keptOk limitsKept
-  kept-nodes b c h = rw (le-leb (me .count) blockLimit b, le-leb (me .coded .count) commandLimit c, lt-leb (me .coded .nodes .count) nodeLimit h)
+  pub limits-over : limitsKept me ≡ false → JudgedAs me (No 3)
+  unfolding JudgedAs judgedRecord keptOk
+  limits-over e = rw e
 
   module _ (K : Kept (me .coded .nodes .count) (me .coded .count) (me .count)) where
     -- the walk is reading the blocks

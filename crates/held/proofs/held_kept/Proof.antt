@@ -3,20 +3,17 @@ use borrow.Author.Needs.{needs}
 use Rattle.held.proofs.held_kept.Statement.{statement}
 use Rattle.held.proofs.held_kept.Tie as tie
 
-slice-aggregate-note-runs : tie.Need-slice-aggregate-note-runs
-slice-aggregate-note-runs c = search needs
-
 note-runs-requires : tie.Need-note-runs-requires
 note-runs-requires c κs = search needs
-
-slice-aggregate-blocks-kept : tie.Need-slice-aggregate-blocks-kept
-slice-aggregate-blocks-kept c = search needs
 
 blocks-kept-requires : tie.Need-blocks-kept-requires
 blocks-kept-requires c κs = search needs
 
+same-length : tie.Need-same-length
+same-length c = search needs
+
 returns : tie.Need-returns
-returns c = λ ws vs. c .blocks-kept .ensures ws vs (c .before .before .before .before .before .args .cw .now) (c .before .before .before .note-runs .ensures)
+returns c = λ ws vs. c .blocks-kept .ensures ws vs (c .before .before .before .before .before .before .before .args .cw .now) (c .before .before .before .before .note-runs .ensures)
 
 pub held-kept-spec : {M : Type 1} → statement M
-held-kept-spec = tie.close (tie.spec slice-aggregate-note-runs note-runs-requires slice-aggregate-blocks-kept blocks-kept-requires returns)
+held-kept-spec = tie.close (tie.spec note-runs-requires blocks-kept-requires same-length returns)
