@@ -13,7 +13,7 @@ use Rattle.model.specs.Refusal.{overLimit}
 use Rattle.model.specs.Reading.{refused}
 use Rattle.model.specs.Image.{image, readWithin}
 use Rattle.model.specs.Memory.{Memory, scriptOf}
-use Rattle.model.specs.Record.{recordImage, keptOk, judgedRecord}
+use Rattle.model.specs.Record.{recordImage, heldKept, limitsKept, keptOk, judgedRecord}
 use Rattle.model.specs.Files.{Wrote, over}
 use Rattle.model.specs.RecordCalls.{writeIn}
 use Rattle.model.specs.Laws.Reading.{passed}
@@ -67,12 +67,13 @@ fine-of m r len t e = rw e at t
 
 module _ {m : Memory} {len : ℕ} (A : Accepted m len) where
   pub fine-kept : Kept (m .coded .nodes .count) (m .coded .count) (m .count)
-  unfolding judgedRecord keptOk
+  unfolding judgedRecord keptOk limitsKept
   fine-kept =
       let b = leb (m .count) blockLimit in
       let c = leb (m .coded .count) commandLimit in
       let n = leb (m .coded .nodes .count) nodeLimit in
-      let k = passed (b && (c && n)) (readWithin (m .coded .count) (m .coded .nodes .count) (recordImage m)) overLimit (A .blocks) [] (A .judged) .0 in
+      let all = passed (keptOk m) (readWithin (m .coded .count) (m .coded .nodes .count) (recordImage m)) overLimit (A .blocks) [] (A .judged) .0 in
+      let k = and-left (b && (c && n)) (heldKept m) all in
       let l = and-right b (c && n) k in
       record { nodes = leb-true (m .coded .nodes .count) nodeLimit (and-right c n l); commands = leb-true (m .coded .count) commandLimit (and-left c n l); blocks = leb-true (m .count) blockLimit (and-left b (c && n) k) }
 

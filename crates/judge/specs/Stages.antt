@@ -1,16 +1,18 @@
 -- What the judge promises of commands, of blocks and of the whole record: the answer is what reading the image gives. Assumes nothing: these are definitions.
 use mathlib.Core.Path.{_≡_}
+use mathlib.Core.Bool.{Bool, true, false}
 use mathlib.Core.Option.{Option}
 use mathlib.Core.List.{List, [], _++_}
 use Prim.Native.Nat.{ℕ, _+_, _*_, _≤_, _<_}
 use lib.IntN.{ℤ}
 use lib.ListN.{length}
 use Rattle.memory.specs.declared.Counts.{Counts}
+use Rattle.model.specs.Limits.{commandLimit, nodeLimit}
 use Rattle.model.specs.Reading.{Answer, got, refused, onward, word}
 use Rattle.model.specs.Script.{Block, blockNodes, blockCommands}
 use Rattle.model.specs.Image.{image, readLink}
 use Rattle.model.specs.Memory.{Coded, Memory, codedIn, memoryIn, blockWord}
-use Rattle.model.specs.Record.{blockTail, recordImage, judgedRecord}
+use Rattle.model.specs.Record.{blockTail, recordImage, heldKept, limitsKept, judgedRecord}
 use Rattle.terms.specs.Told.{Kept}
 use Rattle.judge.specs.declared.Stage.{Stage}
 use Rattle.judge.specs.declared.Stage.the-variants.{Fine as Passed, No as Stopped}
@@ -27,6 +29,16 @@ memoryBy ws vs cw bw k = memoryIn ws vs cw bw (k .nodes) (k .commands) (k .block
 
 abbrev pub KeptBy : Counts → Type 0
 KeptBy k = Kept (k .nodes) (k .commands) (k .blocks)
+
+-- whether the kept counts are within their limits
+pub record Within (k : Counts) (b : Bool) : Type 0 where
+  pub kept : b ≡ true → KeptBy k
+  pub over : b ≡ false → (ws : List ℕ) (vs : List ℤ) (cw bw : List ℕ) → limitsKept (memoryBy ws vs cw bw k) ≡ false
+
+-- tables for the nodes and commands of a script within its limits
+pub record Tables (k : Counts) (table runs : ℕ) : Type 0 where
+  pub nodes : k .nodes ≤ nodeLimit → 3 * k .nodes ≤ table
+  pub commands : k .commands ≤ commandLimit → k .commands ≤ runs
 
 -- ---- commands and blocks
 
@@ -91,3 +103,8 @@ pub record Accepted (m : Memory) (len : ℕ) : Type 0 where
 unfoldable pub JudgedAs : Memory → Judged → Type 0
 JudgedAs m (Fine len) = Accepted m len
 JudgedAs m (No k) = judgedRecord m ≡ refused k
+
+-- the answer of the walk: it is the judgement, unless something is held past the kept counts
+unfoldable pub WalkedAs : Memory → Judged → Type 0
+WalkedAs m (Fine len) = Accepted m len
+WalkedAs m (No k) = heldKept m ≡ true → judgedRecord m ≡ refused k

@@ -1,21 +1,27 @@
 -- The whole record is judged as its image would be read. Assumes nothing.
-use mathlib.Core.Path.{_≡_, refl, ap, sym, _∙_}
+use mathlib.Core.Path.{_≡_, refl, ap, sym, _∙_, subst}
+use mathlib.Core.Bool.{Bool, true, false}
 use mathlib.Core.List.{List, [], _++_, append-assoc, append-nil}
 use Prim.Native.Nat.{ℕ, suc, _+_, _-_, _*_, _≤_, _<_}
 use native.Mathlib.Omega.{arith}
-use borrow.Author.Tests.{le-leb, lt-leb}
+use lib.Dec.{T, leb}
+use borrow.Author.Tests.{leb-true, le-leb, lt-leb}
 use lib.ListN.{length, length-append}
 use Rattle.model.specs.Limits.{wide, blockLimit, commandLimit, nodeLimit}
 use Rattle.model.specs.Reading.{Answer, got, refused, onward, word}
 use Rattle.model.specs.Script.{Block}
 use Rattle.model.specs.Image.{Limits, limits, readBlock, readBlocks, ended, readWithin, image}
 use Rattle.model.specs.Memory.{Memory, blockWord}
-use Rattle.model.specs.Record.{blockTail, blocksImageIn, recordImage, keptOk, judgedRecord}
+use Rattle.model.specs.Record.{blockTail, blocksImageIn, recordImage, heldKept, limitsKept, keptOk, judgedRecord}
 use Rattle.model.specs.Laws.Reading.{read-word}
 use Rattle.model.specs.Laws.Image.{write-image}
+use Rattle.memory.specs.declared.Counts.{Counts}
+use Rattle.memory.specs.RecordLaws.{read-sound}
+use Rattle.memory.specs.Kept.{sound-kept}
+use Rattle.memory.specs.Agree.{past-judged}
 use Rattle.terms.specs.Told.{Kept, ShortWord}
 use Rattle.judge.specs.Loop.{Part, Next, part-start, part-next, part-no, part-done, part-bytes}
-use Rattle.judge.specs.Stages.{GoodBlock, Staged, JudgedAs}
+use Rattle.judge.specs.Stages.{memoryBy, KeptBy, Within, GoodBlock, Staged, JudgedAs, WalkedAs}
 use Rattle.judge.specs.Blocks.{block-of, stop-of}
 use Rattle.judge.specs.declared.Stage.{Stage}
 use Rattle.judge.specs.declared.Stage.the-variants.{Fine as Passed, No as Stopped}
@@ -56,37 +62,38 @@ module _ (l : Limits) (me : Memory) (c b n m p : ℕ) where
 
 -- ---- kept counts
 
+module _ (k : Counts) where
+  pub limits-blocks : blockLimit < k .blocks → Within k false
+  unfolding limitsKept
+  limits-blocks h = record { kept = λ e. absurd (subst T (sym e) tt); over = λ e ws vs cw bw. rw (lt-leb (k .blocks) blockLimit h) }
+
+  pub limits-commands : k .blocks ≤ blockLimit → commandLimit < k .commands → Within k false
+  unfolding limitsKept
+  limits-commands b h = record { kept = λ e. absurd (subst T (sym e) tt); over = λ e ws vs cw bw. rw (le-leb (k .blocks) blockLimit b, lt-leb (k .commands) commandLimit h) }
+
+  pub limits-nodes : k .blocks ≤ blockLimit → k .commands ≤ commandLimit → Within k (leb (k .nodes) nodeLimit)
+  unfolding limitsKept
+  limits-nodes b c = record {
+    kept = λ e. record { nodes = leb-true (k .nodes) nodeLimit e; commands = c; blocks = b };
+    over = λ e ws vs cw bw. rw (le-leb (k .blocks) blockLimit b, le-leb (k .commands) commandLimit c, e);
+  }
+
 module _ (me : Memory) where
-  pub kept-blocks : blockLimit < me .count → JudgedAs me (No 3)
+  pub limits-over : limitsKept me ≡ false → JudgedAs me (No 3)
   unfolding JudgedAs judgedRecord keptOk
-  kept-blocks h = rw (lt-leb (me .count) blockLimit h)
-
-  pub kept-commands : me .count ≤ blockLimit → commandLimit < me .coded .count → JudgedAs me (No 3)
-  unfolding JudgedAs judgedRecord keptOk
-  kept-commands b h = rw (le-leb (me .count) blockLimit b, lt-leb (me .coded .count) commandLimit h)
-
-  pub kept-nodes : me .count ≤ blockLimit → me .coded .count ≤ commandLimit → nodeLimit < me .coded .nodes .count → JudgedAs me (No 3)
-  unfolding JudgedAs judgedRecord keptOk
-  kept-nodes b c h = rw (le-leb (me .count) blockLimit b, le-leb (me .coded .count) commandLimit c, lt-leb (me .coded .nodes .count) nodeLimit h)
+  limits-over e = rw e
 
   module _ (K : Kept (me .coded .nodes .count) (me .coded .count) (me .count)) where
-    -- what is left is reading the blocks
-    judged-read : judgedRecord me ≡ onward (readBlocks (limitsOf me) (me .count) 0 0 (blocksImageIn me (me .count) 0 ++ [])) ended
-    unfolding judgedRecord keptOk readWithin recordImage
-    judged-read =
+    -- the walk is reading the blocks
+    walk-read : readWithin (me .coded .count) (me .coded .nodes .count) (recordImage me) ≡ onward (readBlocks (limitsOf me) (me .count) 0 0 (blocksImageIn me (me .count) 0 ++ [])) ended
+    unfolding readWithin recordImage
+    walk-read =
         let kb = K .blocks in
-        rw (
-          le-leb (me .count) blockLimit kb,
-          le-leb (me .coded .count) commandLimit (K .commands),
-          le-leb (me .coded .nodes .count) nodeLimit (K .nodes),
-          read-word wide (me .count) (blocksImageIn me (me .count) 0) (omega arith) (omega arith),
-          le-leb (me .count) blockLimit kb,
-          append-nil,
-        )
+        rw (read-word wide (me .count) (blocksImageIn me (me .count) 0) (omega arith) (omega arith), le-leb (me .count) blockLimit kb, append-nil)
 
-    within : judgedRecord me ≡ readWithin (me .coded .count) (me .coded .nodes .count) (recordImage me)
-    unfolding judgedRecord keptOk
-    within = rw (le-leb (me .count) blockLimit (K .blocks), le-leb (me .coded .count) commandLimit (K .commands), le-leb (me .coded .nodes .count) nodeLimit (K .nodes))
+    within : heldKept me ≡ true → judgedRecord me ≡ readWithin (me .coded .count) (me .coded .nodes .count) (recordImage me)
+    unfolding judgedRecord keptOk limitsKept
+    within e = rw (le-leb (me .count) blockLimit (K .blocks), le-leb (me .coded .count) commandLimit (K .commands), le-leb (me .coded .nodes .count) nodeLimit (K .nodes), e)
 
     pub pass-start : (p : ℕ) → ShortWord (me .count) p → Passing me 0 0 0 p
     pass-start p s =
@@ -110,11 +117,11 @@ module _ (me : Memory) where
               short = omega (arith, A .short);
             }
 
-        pub pass-no : {e : ℕ} → r ≡ Stopped e → JudgedAs me (No e)
-        unfolding JudgedAs
-        pass-no {e = k} e =
+        pub pass-no : {e : ℕ} → r ≡ Stopped e → WalkedAs me (No e)
+        unfolding WalkedAs
+        pass-no {e = k} e h =
             let z : 0 + i ≡ i = omega arith in
-            judged-read ∙ rw (part-no (manyBlocks (limitsOf me)) (blocksImageIn me) (me .count) 0 (counted 0 0) (length (word (me .count))) (P .part) lt {e = k}
+            within h ∙ walk-read ∙ rw (part-no (manyBlocks (limitsOf me)) (blocksImageIn me) (me .count) 0 (counted 0 0) (length (word (me .count))) (P .part) lt {e = k}
             (λ u. rw z (block-no (limitsOf me) me (me .count - (i + 1)) i n m p (stop-of t e) u)) [])
 
       pass-bytes : me .count ≤ i → p ≡ length (recordImage me)
@@ -123,14 +130,36 @@ module _ (me : Memory) where
           part-bytes (manyBlocks (limitsOf me)) (blocksImageIn me) (me .count) 0 (counted 0 0) (length (word (me .count))) (P .part) ge (λ t. refl) refl
           ∙ sym (length-append (word (me .count)) (blocksImageIn me (me .count) 0))
 
+      -- what the walk accepts holds nothing past the kept counts
       pub pass-done : me .count ≤ i → JudgedAs me (Fine p)
       unfolding JudgedAs readBlocks blocksImageIn ended
       pass-done ge =
           let bs = P .part .seen in
-          let all : judgedRecord me ≡ got bs []
-          = judged-read ∙ rw (part-done (manyBlocks (limitsOf me)) (blocksImageIn me) (me .count) 0 (counted 0 0) (length (word (me .count))) (P .part) ge (λ t. refl) []) in
-          let same : recordImage me ≡ image bs = write-image (me .coded .count) (me .coded .nodes .count) (recordImage me) bs [] (sym within ∙ all) .bytes in
-          record { blocks = bs; judged = all; same = same; bytes = pass-bytes ge ∙ ap length same }
+          let all : readWithin (me .coded .count) (me .coded .nodes .count) (recordImage me) ≡ got bs []
+          = walk-read ∙ rw (part-done (manyBlocks (limitsOf me)) (blocksImageIn me) (me .count) 0 (counted 0 0) (length (word (me .count))) (P .part) ge (λ t. refl) []) in
+          let same : recordImage me ≡ image bs = write-image (me .coded .count) (me .coded .nodes .count) (recordImage me) bs [] all .bytes in
+          let kept = sound-kept me (read-sound (me .coded .count) (me .coded .nodes .count) me bs [] all) in
+          record { blocks = bs; judged = within kept ∙ all; same = same; bytes = pass-bytes ge ∙ ap length same }
+
+-- ---- the walk's answer, and whether all that is held is kept
+
+pub walked-done : (me : Memory) (len : ℕ) → JudgedAs me (Fine len) → WalkedAs me (Fine len)
+unfolding WalkedAs JudgedAs
+walked-done me len j = j
+
+module _ (me : Memory) where
+  module _ {r : Judged} (w : WalkedAs me r) where
+    pub walked-fine : {len : ℕ} → r ≡ Fine len → JudgedAs me (Fine len)
+    unfolding WalkedAs JudgedAs
+    walked-fine e = rw e at w
+
+    pub walked-no : {k : ℕ} {b : Bool} → r ≡ No k → b ≡ heldKept me → b ≡ true → JudgedAs me (No k)
+    unfolding WalkedAs JudgedAs
+    walked-no e p q = (rw e at w) (sym p ∙ q)
+
+  pub held-past : {b : Bool} → b ≡ heldKept me → b ≡ false → JudgedAs me (No 3)
+  unfolding JudgedAs
+  held-past p q = past-judged me (sym p ∙ q)
 
 -- ---- the statement determines the answer
 

@@ -1,6 +1,7 @@
 // The judgement of a script record: block by block as its image would be read, whatever its arrays hold.
 ghost use mathlib.Core.List.{_++_};
 ghost use Prim.Native.Nat.{_*_, _≤_, _<_};
+ghost use lib.ListN.{length};
 ghost use Rattle.model.specs.Reading.{word};
 ghost use Rattle.model.specs.Script.{commandNodes, commandsNodes};
 ghost use Rattle.model.specs.Image.{readBlockNo, readLink, commandOf, readCommand, readCommands, setOf, blockOf, readBlock};
@@ -8,7 +9,8 @@ ghost use Rattle.model.specs.Memory.{memoryIn};
 ghost use Rattle.model.specs.Record.{rootImage, commandTail, commandImageIn, commandsImageIn, blockTail};
 ghost use Rattle.terms.specs.Told.{Told, limitsBy, nodesBy, ReadyBy};
 ghost use Rattle.terms.specs.Measures.{Table};
-ghost use Rattle.judge.specs.Stages.{codedBy, memoryBy, KeptBy, uncounted, readLinks, StandingBy, Staged, blockImageIn, JudgedAs};
+ghost use Rattle.judge.specs.Stages.{codedBy, memoryBy, KeptBy, uncounted, readLinks, StandingBy, Staged, blockImageIn, Within, Tables, JudgedAs, WalkedAs};
+use held::held_kept;
 use memory::Counts;
 use memory::index_of;
 use terms::Step;
@@ -295,7 +297,7 @@ fn judge_blocks(
     counts: Counts,
 ) -> Judged
     requires { ⌜ KeptBy counts × Table (now ws) (now val) (now table) (counts .nodes) ⌝ }
-    ensures { λ r. ⌜ JudgedAs (memoryBy (now (ws .entry)) (now (val .entry)) (now (cw .entry)) (now (bw .entry)) counts) r ⌝ }
+    ensures { λ r. ⌜ WalkedAs (memoryBy (now (ws .entry)) (now (val .entry)) (now (cw .entry)) (now (bw .entry)) counts) r ⌝ }
 {
     let end = index_of(counts.blocks);
     let mut n: u16 = 0;
@@ -319,7 +321,49 @@ fn judge_blocks(
     Judged::Fine(p)
 }
 
-// With a table for 64 nodes: to clear a large one takes longer than to judge a small script.
+// Whether the kept counts are within their limits.
+fn within_limits(counts: Counts) -> bool
+    ensures { λ r. ⌜ Within counts r ⌝ }
+{
+    if counts.blocks > 4096 {
+        return false;
+    }
+    if counts.commands > 16384 {
+        return false;
+    }
+    counts.nodes <= 32768
+}
+
+// The kept counts, then block by block. What the walk accepts holds nothing past its kept counts, so that only what it refuses is asked for that.
+fn judge_by(
+    ws: &[u16; 98304],
+    val: &[i32; 32768],
+    table: &mut [u32],
+    runs: &mut [u16],
+    cw: &[u16; 65536],
+    bw: &[u16; 20480],
+    counts: Counts,
+) -> Judged
+    requires { ⌜ Tables counts (length (now table)) (length (now runs)) ⌝ }
+    ensures { λ r. ⌜ JudgedAs (memoryBy (now (ws .entry)) (now (val .entry)) (now (cw .entry)) (now (bw .entry)) counts) r ⌝ }
+{
+    if !within_limits(counts) {
+        return Judged::No(3);
+    }
+    measure_nodes(ws, val, table, index_of(counts.nodes));
+    let walked = judge_blocks(ws, val, table, cw, bw, counts);
+    match walked {
+        Judged::Fine(len) => Judged::Fine(len),
+        Judged::No(k) => {
+            if held_kept(cw, bw, runs, counts) {
+                return Judged::No(k);
+            }
+            Judged::No(3)
+        }
+    }
+}
+
+// With tables for 64 nodes and commands: to clear large ones takes longer than to judge a small script.
 fn judge_up_to_64(
     ws: &[u16; 98304],
     val: &[i32; 32768],
@@ -327,15 +371,15 @@ fn judge_up_to_64(
     bw: &[u16; 20480],
     counts: Counts,
 ) -> Judged
-    requires { ⌜ (counts .nodes ≤ 64) × KeptBy counts ⌝ }
+    requires { ⌜ (counts .nodes ≤ 64) × (counts .commands ≤ 64) ⌝ }
     ensures { λ r. ⌜ JudgedAs (memoryBy (now (ws .entry)) (now (val .entry)) (now (cw .entry)) (now (bw .entry)) counts) r ⌝ }
 {
     let mut table = [0u32; 192];
-    measure_nodes(ws, val, &mut table, index_of(counts.nodes));
-    judge_blocks(ws, val, &table, cw, bw, counts)
+    let mut runs = [0u16; 64];
+    judge_by(ws, val, &mut table, &mut runs, cw, bw, counts)
 }
 
-// With a table for 1,024 nodes.
+// With tables for 1,024 nodes and commands.
 fn judge_up_to_1024(
     ws: &[u16; 98304],
     val: &[i32; 32768],
@@ -343,15 +387,15 @@ fn judge_up_to_1024(
     bw: &[u16; 20480],
     counts: Counts,
 ) -> Judged
-    requires { ⌜ (counts .nodes ≤ 1024) × KeptBy counts ⌝ }
+    requires { ⌜ (counts .nodes ≤ 1024) × (counts .commands ≤ 1024) ⌝ }
     ensures { λ r. ⌜ JudgedAs (memoryBy (now (ws .entry)) (now (val .entry)) (now (cw .entry)) (now (bw .entry)) counts) r ⌝ }
 {
     let mut table = [0u32; 3072];
-    measure_nodes(ws, val, &mut table, index_of(counts.nodes));
-    judge_blocks(ws, val, &table, cw, bw, counts)
+    let mut runs = [0u16; 1024];
+    judge_by(ws, val, &mut table, &mut runs, cw, bw, counts)
 }
 
-// With a table for any script.
+// With tables for any script.
 fn judge_any(
     ws: &[u16; 98304],
     val: &[i32; 32768],
@@ -359,15 +403,15 @@ fn judge_any(
     bw: &[u16; 20480],
     counts: Counts,
 ) -> Judged
-    requires { ⌜ KeptBy counts ⌝ }
     ensures { λ r. ⌜ JudgedAs (memoryBy (now (ws .entry)) (now (val .entry)) (now (cw .entry)) (now (bw .entry)) counts) r ⌝ }
 {
     let mut table = [0u32; 98304];
-    measure_nodes(ws, val, &mut table, index_of(counts.nodes));
-    judge_blocks(ws, val, &table, cw, bw, counts)
+    let mut runs = [0u16; 16384];
+    judge_by(ws, val, &mut table, &mut runs, cw, bw, counts)
 }
 
 // The judgement of a script record, in the place of refusals 2 to 5: the kept counts first, then block by block as its image would be read.
+// Each way leads to tables, which are made before anything is looked at: a way out before a large array is what the back end may get wrong.
 pub fn judge_record(
     ws: &[u16; 98304],
     val: &[i32; 32768],
@@ -377,19 +421,10 @@ pub fn judge_record(
 ) -> Judged
     ensures { λ r. ⌜ JudgedAs (memoryIn (now (ws .entry)) (now (val .entry)) (now (cw .entry)) (now (bw .entry)) (counts .nodes) (counts .commands) (counts .blocks)) r ⌝ }
 {
-    if counts.blocks > 4096 {
-        return Judged::No(3);
-    }
-    if counts.commands > 16384 {
-        return Judged::No(3);
-    }
-    if counts.nodes > 32768 {
-        return Judged::No(3);
-    }
-    if counts.nodes > 1024 {
+    if counts.nodes > 1024 || counts.commands > 1024 {
         return judge_any(ws, val, cw, bw, counts);
     }
-    if counts.nodes > 64 {
+    if counts.nodes > 64 || counts.commands > 64 {
         return judge_up_to_1024(ws, val, cw, bw, counts);
     }
     judge_up_to_64(ws, val, cw, bw, counts)

@@ -20,6 +20,8 @@ fn main() {
     ranges(&ws, &val, &mut cw, &mut bw);
     links(&ws, &val, &mut cw, &mut bw);
     codes(&ws, &val, &mut cw, &mut bw);
+    under(&mut ws, &mut val, &mut cw, &mut bw);
+    overlapping(&ws, &val, &mut cw, &mut bw);
 }
 
 // ---- the cases; what one leaves in the arrays is garbage to the next
@@ -164,7 +166,98 @@ fn codes(ws: &[u16; 98304], val: &[i32; 32768], cw: &mut [u16; 65536], bw: &mut 
     show(b"block kind 3", ws, val, cw, bw, counts(0, 0, 1));
 }
 
+// Kept counts under what the block holds. The first record is what the image 01 01 01 03 0B 02 00 00 00 is read into.
+fn under(
+    ws: &mut [u16; 98304],
+    val: &mut [i32; 32768],
+    cw: &mut [u16; 65536],
+    bw: &mut [u16; 20480],
+) {
+    push_node(ws, val, 0, 11, 0, 0, 1);
+    push_command(cw, 0, 3, 0, 0, 0);
+    set_block(bw, 0, 1, 0, 1, 0, 0);
+    show(b"an If, all kept", ws, val, cw, bw, counts(1, 1, 1));
+    show(b"an If, no node kept", ws, val, cw, bw, counts(0, 1, 1));
+    show(b"an If, no command kept", ws, val, cw, bw, counts(1, 0, 1));
+    push_command(cw, 0, 6, 0, 0, 0);
+    push_command(cw, 1, 3, 0, 0, 0);
+    set_block(bw, 0, 1, 0, 2, 0, 0);
+    show(
+        b"code 6 and an If, all kept",
+        ws,
+        val,
+        cw,
+        bw,
+        counts(1, 2, 1),
+    );
+    show(
+        b"code 6 and an If, no node kept",
+        ws,
+        val,
+        cw,
+        bw,
+        counts(0, 2, 1),
+    );
+    set_block(bw, 0, 3, 0, 2, 0, 0);
+    show(
+        b"the same in a block of kind 3",
+        ws,
+        val,
+        cw,
+        bw,
+        counts(0, 2, 1),
+    );
+    push_command(cw, 0, 2, 9, 0, 1);
+    set_block(bw, 0, 1, 0, 1, 0, 0);
+    show(
+        b"no target past the count",
+        ws,
+        val,
+        cw,
+        bw,
+        counts(1, 1, 1),
+    );
+}
+
+// Each block but the first, which is of no kind, holds all commands that may be kept: Returns, and at last an If with a root past the count.
+fn overlapping(
+    ws: &[u16; 98304],
+    val: &[i32; 32768],
+    cw: &mut [u16; 65536],
+    bw: &mut [u16; 20480],
+) {
+    push_command(cw, 0, 0, 0, 0, 0);
+    push_command(cw, 1, 0, 0, 0, 0);
+    all_hold_all(bw);
+    set_block(bw, 0, 3, 0, 0, 0, 0);
+    show(
+        b"all blocks hold all commands",
+        ws,
+        val,
+        cw,
+        bw,
+        counts(0, 16384, 4096),
+    );
+    push_command(cw, 16383, 3, 0, 0, 0);
+    show(
+        b"and the last a root past the count",
+        ws,
+        val,
+        cw,
+        bw,
+        counts(0, 16384, 4096),
+    );
+}
+
 // ---- what they are made of
+
+fn all_hold_all(bw: &mut [u16; 20480]) {
+    let mut b: u16 = 0;
+    while b < 4096 {
+        set_block(bw, b, 1, 0, 16384, 0, 0);
+        b += 1;
+    }
+}
 
 // Nodes 0 to top: an Other, and each further one of the code over the one before it.
 fn chain(ws: &mut [u16; 98304], val: &mut [i32; 32768], code: u16, top: u16)

@@ -2,7 +2,9 @@ pub mod Pushed
 pub mod Sound
 pub mod NodeLaws
 pub mod RecordLaws
+pub mod Kept
 pub mod PutNodes
 pub mod PutCommands
 pub mod PutBlocks
 pub mod Transfer
+pub mod Agree

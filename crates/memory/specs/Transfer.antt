@@ -1,5 +1,6 @@
 -- The judgement of a sound record is its script's, and so a compile that is accepted on trees leaves an accepted record. Assumes nothing.
 use mathlib.Core.Path.{_≡_, refl, ap, sym, _∙_, subst}
+use mathlib.Core.Bool.{and-true}
 use mathlib.Core.List.{List, [], _++_}
 use Prim.Native.Nat.{ℕ, _+_, _≤_, _<_}
 use native.Mathlib.Omega.{arith}
@@ -12,11 +13,12 @@ use Rattle.model.specs.Sheet.{Sheet}
 use Rattle.model.specs.Shop.{withSlots}
 use Rattle.model.specs.Compile.{redirect, Call, freshBlocks, rootOf, compileRefusal, appended}
 use Rattle.model.specs.Memory.{Memory, scriptOf, putBlocks, redirectIn}
-use Rattle.model.specs.Record.{keptOk, judgedRecord}
+use Rattle.model.specs.Record.{limitsKept, keptOk, judgedRecord}
 use Rattle.model.specs.Laws.Checks.{setup-inside, call-passed, compile-passed}
 use Rattle.model.specs.Laws.Judged.{accepted-fits, fits-judged, counts-low, kept-judged}
 use Rattle.memory.specs.Sound.{Sound, Long, Room}
 use Rattle.memory.specs.RecordLaws.{sound-image, length-blocksIn, judged-sound}
+use Rattle.memory.specs.Kept.{sound-kept}
 use Rattle.memory.specs.PutBlocks.{put-sound, redirect-sound}
 
 -- ---- one judgement
@@ -26,8 +28,8 @@ unfolding scriptOf
 blocks-counted m = length-blocksIn m (m .count) 0
 
 pub sound-judged : (m : Memory) → Sound m → judgedRecord m ≡ judged (scriptOf m)
-unfolding judgedRecord judged keptOk countsOk scriptOf
-sound-judged m s = rw (sound-image m s, blocks-counted m)
+unfolding judgedRecord judged keptOk limitsKept countsOk scriptOf
+sound-judged m s = rw (sound-kept m s, and-true, sound-image m s, blocks-counted m)
 
 -- a script from its parts
 script-from : (m : Memory) (bs : List Block) (c n : ℕ) → scriptOf m .blocks ≡ bs → m .coded .count ≡ c → m .coded .nodes .count ≡ n → scriptOf m ≡ record { blocks = bs; commands = c; nodes = n }

@@ -25,3 +25,4 @@ pub mod FitTests
 pub mod FitBlocks
 pub mod Judged
 pub mod Files
+pub mod Over

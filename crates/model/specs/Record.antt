@@ -67,9 +67,54 @@ blocksImageIn m (suc h) b = (word (blockWord m b 0) ++ blockTail m b (blockWord 
 unfoldable pub recordImage : Memory → List ℕ
 recordImage m = word (m .count) ++ blocksImageIn m (m .count) 0
 
-unfoldable pub keptOk : Memory → Bool
-keptOk m = leb (m .count) blockLimit && (leb (m .coded .count) commandLimit && leb (m .coded .nodes .count) nodeLimit)
+-- ---- the kept counts: "a limit passed, by its blocks or its kept counts, or a kept count under what its blocks hold, 3"
 
--- kept counts within their limits, then as its image would be; the kept counts are the limits of the walk
+-- of command c, the root in word j is below the kept count of nodes
+abbrev pub rootKept : Coded → ℕ → ℕ → Bool
+rootKept co c j = ltb (commandWord co c j) (co .nodes .count)
+
+-- a Set holds its value, and its target where that is a Variable
+unfoldable pub setKept : Coded → ℕ → ℕ → Bool
+setKept co c zero = rootKept co c 1 && rootKept co c 2
+setKept co c (suc t) = rootKept co c 2
+
+-- the expressions that the image of a command with this code has
+unfoldable pub rootsKept : Coded → ℕ → ℕ → Bool
+rootsKept co c zero = true
+rootsKept co c (suc zero) = true
+rootsKept co c (suc (suc zero)) = setKept co c (commandWord co c 3)
+rootsKept co c (suc (suc (suc zero))) = rootKept co c 1
+rootsKept co c (suc (suc (suc (suc k)))) = true
+
+unfoldable pub commandKept : Coded → ℕ → Bool
+commandKept co c = ltb c (co .count) && rootsKept co c (commandWord co c 0)
+
+-- h commands from command c on
+unfoldable pub commandsKept : Coded → ℕ → ℕ → Bool
+commandsKept co zero c = true
+commandsKept co (suc h) c = commandKept co c && commandsKept co h (suc c)
+
+-- a block that is not code holds nothing
+unfoldable pub blockKept : Memory → ℕ → ℕ → Bool
+blockKept m b zero = true
+blockKept m b (suc zero) = commandsKept (m .coded) (blockWord m b 2) (blockWord m b 1)
+blockKept m b (suc (suc k)) = true
+
+-- h blocks from block b on
+unfoldable pub blocksKept : Memory → ℕ → ℕ → Bool
+blocksKept m zero b = true
+blocksKept m (suc h) b = blockKept m b (blockWord m b 0) && blocksKept m h (suc b)
+
+-- no block holds a command, and no command the root of an expression, at or past the kept count
+unfoldable pub heldKept : Memory → Bool
+heldKept m = blocksKept m (m .count) 0
+
+unfoldable pub limitsKept : Memory → Bool
+limitsKept m = leb (m .count) blockLimit && (leb (m .coded .count) commandLimit && leb (m .coded .nodes .count) nodeLimit)
+
+unfoldable pub keptOk : Memory → Bool
+keptOk m = limitsKept m && heldKept m
+
+-- the kept counts first, then block by block as its image would be; the kept counts are the limits of the walk, so that shared nodes and commands pass them too
 unfoldable pub judgedRecord : Memory → Answer (List Block)
 judgedRecord m = cond (keptOk m) (readWithin (m .coded .count) (m .coded .nodes .count) (recordImage m)) (refused overLimit)

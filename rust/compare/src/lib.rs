@@ -6,6 +6,7 @@ pub mod images;
 pub mod interpret;
 pub mod judge;
 pub mod meaning;
+pub mod recounted;
 pub mod runs;
 pub mod saves;
 pub mod shared;
@@ -27,6 +28,7 @@ pub fn all(seed: u64, count: usize, longest: usize, small: bool) -> Tally {
     images::random(&mut tally, &mut random, count);
     runs::random(&mut tally, &mut random, count);
     runs::records(&mut tally, &mut random, count);
+    recounted::random(&mut tally, &mut random, count);
     shared::limits(&mut tally, &mut random);
     shared::random(&mut tally, &mut random, count);
     runs::compiled(&mut tally, &mut random, count);

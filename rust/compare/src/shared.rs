@@ -2,7 +2,7 @@
 //! no node uses between them.
 
 use crate::tally::Tally;
-use crate::{convert, judge, runs, saves, small, tree};
+use crate::{convert, judge, recounted, runs, saves, small, tree};
 use locustkeno::{Arrays, Script, Shop};
 use oracle::rules;
 use record::random::Random;
@@ -68,6 +68,11 @@ fn record(random: &mut Random, most: usize) -> Arrays {
     a.nodes = (nodes + room) as u16;
     a.commands = (commands + random.pick(&[0, 30])) as u16;
     a.blocks = blocks as u16;
+    if random.once_in(3) {
+        (a.nodes, a.commands) = (nodes as u16, commands as u16);
+        recounted::litter(random, &mut a);
+        recounted::recount(random, &mut a);
+    }
     a
 }
 

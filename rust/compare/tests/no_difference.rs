@@ -7,4 +7,5 @@ fn no_difference() {
     let tally = calls::on_large_stack(|| compare::all(1, 400, 2, false)).expect("nothing panics");
     assert_eq!(tally.differences, 0, "{}", tally.report());
     assert!(tally.total("read") > 400 && tally.total("run") > 1_000);
+    assert!(tally.total("recounted") > 200);
 }

@@ -1,6 +1,6 @@
 -- `judge::judge_blocks` meets its contract. The invariant says which blocks were seen; the measure is how many are left. Assumes nothing.
 use Rattle.model.specs.Memory.{memoryIn}
-use Rattle.judge.specs.Whole.{Passing, pass-start, pass-next, pass-no, pass-done}
+use Rattle.judge.specs.Whole.{Passing, pass-start, pass-next, pass-no, pass-done, walked-done}
 use Prim.Native.Nat.{_-_, _≤_}
 use borrow.Author.Needs.{needs}
 use native.Mathlib.Omega.{arith}
@@ -44,7 +44,7 @@ loop-again : tie.Need-loop-again Inv-loop μ-loop
 loop-again c = ((omega (arith, c .before .before .before .before .loop-test .taken, c .before .before .before .before .before .before .before .index-of .ensures)), pass-next (memoryIn (c .before .before .before .before .before .before .before .before .before .args .ws .now) (c .before .before .before .before .before .before .before .before .before .args .val .now) (c .before .before .before .before .before .before .before .before .before .args .cw .now) (c .before .before .before .before .before .before .before .before .before .args .bw .now) (c .before .before .before .before .before .before .before .before .before .args .counts .nodes) (c .before .before .before .before .before .before .before .before .before .args .counts .commands) (c .before .before .before .before .before .before .before .before .before .args .counts .blocks)) (c .before .before .before .before .before .before .before .before .before .pre .0) (c .before .before .before .before .before .loop .inv .1) (omega (arith, c .before .before .before .before .loop-test .taken, c .before .before .before .before .before .before .before .index-of .ensures)) (c .before .before .before .judge-block .ensures) (c .before .r .given .1))
 
 returns-2 : tie.Need-returns-2 Inv-loop μ-loop
-returns-2 c = pass-done (memoryIn (c .before .before .before .before .before .args .ws .now) (c .before .before .before .before .before .args .val .now) (c .before .before .before .before .before .args .cw .now) (c .before .before .before .before .before .args .bw .now) (c .before .before .before .before .before .args .counts .nodes) (c .before .before .before .before .before .args .counts .commands) (c .before .before .before .before .before .args .counts .blocks)) (c .before .before .before .before .before .pre .0) (c .before .loop .inv .1) (omega (arith, c .loop-test .left, c .before .before .before .index-of .ensures))
+returns-2 c = walked-done _ _ (pass-done (memoryIn (c .before .before .before .before .before .args .ws .now) (c .before .before .before .before .before .args .val .now) (c .before .before .before .before .before .args .cw .now) (c .before .before .before .before .before .args .bw .now) (c .before .before .before .before .before .args .counts .nodes) (c .before .before .before .before .before .args .counts .commands) (c .before .before .before .before .before .args .counts .blocks)) (c .before .before .before .before .before .pre .0) (c .before .loop .inv .1) (omega (arith, c .loop-test .left, c .before .before .before .index-of .ensures)))
 
 pub judge-blocks-spec : {M : Type 1} → statement M
 judge-blocks-spec =

@@ -93,7 +93,7 @@ sum-set f (x ∷ xs) (suc i) y p = omega (arith, sum-set f xs i y p)
 -- ---- the fit, and what it is made of
 
 module _ (l : Limits) where
-  command-fits : (n : ℕ) (c : Command) → SoundCommand (l .blocks) c → n + commandNodes c ≤ l .nodes → FitsCommand l n c
+  pub command-fits : (n : ℕ) (c : Command) → SoundCommand (l .blocks) c → n + commandNodes c ≤ l .nodes → FitsCommand l n c
   unfolding SoundCommand FitsCommand commandNodes
   command-fits n return f h = tt
   command-fits n (goto k) f h = f
@@ -108,7 +108,7 @@ module _ (l : Limits) where
   commands-fit n [] f h = tt
   commands-fit n (c ∷ cs) f h = (command-fits n c (f .0) (omega arith), commands-fit (n + commandNodes c) cs (f .1) (omega arith))
 
-  block-fits : (m n : ℕ) (b : Block) → SoundBlock (l .blocks) b → m + blockCommands b ≤ l .commands → n + blockNodes b ≤ l .nodes → FitsBlock l m n b
+  pub block-fits : (m n : ℕ) (b : Block) → SoundBlock (l .blocks) b → m + blockCommands b ≤ l .commands → n + blockNodes b ≤ l .nodes → FitsBlock l m n b
   unfolding SoundBlock FitsBlock blockNodes blockCommands
   block-fits m n placeholder f h g = tt
   block-fits m n (code cs nx el) f h g = (h, commands-fit n cs (f .0) g, f .1, f .2)

@@ -1,0 +1,2 @@
+-- The specifications of `held` and the laws that carry them. Assumes nothing.
+pub mod Runs
