@@ -21,6 +21,7 @@ use Rattle.model.specs.declared.Kind.the-variants.{Two, One, Imm16, Imm32, Othe
 use Rattle.memory.specs.Pushed.{PushedNode, PutExpr}
 use Rattle.memory.specs.Sound.{LongNodes}
 use Rattle.memory.specs.PutNodes.{PutTree, push-grown, push-holds, put-tree}
+use Rattle.expr.specs.Tree.{size-pos, count-put}
 use Rattle.expr_negate.specs.Turns.{flip, isSum, operatorOf, rootKind, Flips, compared, joined, Turns, flips, gains, negate-compared, negate-joined, negate-gains, flips-root, gains-root, flips-size, turns-size}
 
 -- the nodes of e from node c on, with the operators of its negation
@@ -61,14 +62,6 @@ pub laid-size : {ws : List ℕ} {c i : ℕ} {e : Expr} → Laid ws c e i → i +
 unfolding size
 laid-size (compare-laid j k h) = omega arith
 laid-size (join-laid j k l r h p q) = omega (arith, laid-size p, laid-size q)
-
-pub size-pos : (e : Expr) → 0 < size e
-unfolding size
-size-pos (two o a b) = omega arith
-size-pos (one o a) = omega arith
-size-pos (imm16 z) = omega arith
-size-pos (imm32 z) = omega arith
-size-pos other = omega arith
 
 pub laid-frame : {ws ws′ : List ℕ} {c i : ℕ} {e : Expr} → ((j : ℕ) → 3 * c ≤ j → j < 3 * i + 3 → getD ws′ j 0 ≡ getD ws j 0) → Laid ws c e i → Laid ws′ c e i
 laid-frame {i = i} f (compare-laid {a = a} {b = b} j k h) = compare-laid j (f (3 * i) (omega arith) (omega arith) ∙ k) h
@@ -180,14 +173,6 @@ compare-done {ws} {c} {i} {e} o x eo ej ex (join-laid {o = p} j k f g h s t) = a
 
 abbrev flipped : Nodes → ℕ → Expr → Nodes
 flipped t c e = record { words = flipIn (t .words) c e; values = t .values; count = t .count }
-
-count-put : (s : Nodes) (e : Expr) → putExpr s e .count ≡ s .count + size e
-unfolding putExpr size
-count-put s (two o a b) = omega (arith, count-put s a, count-put (putExpr s a) b)
-count-put s (one o a) = omega (arith, count-put s a)
-count-put s (imm16 z) = refl
-count-put s (imm32 z) = refl
-count-put s other = refl
 
 -- under a node that came later
 flip-push : (t : Nodes) (o l r : ℕ) (z : ℤ) (c : ℕ) (e : Expr) → c + size e ≤ t .count → flipped (pushNode t o l r z) c e ≡ pushNode (flipped t c e) o l r z

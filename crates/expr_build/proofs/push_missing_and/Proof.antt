@@ -1,5 +1,5 @@
 use Rattle.model.specs.Expr.{negate}
-use Rattle.expr_negate.specs.InPlace.{size-pos}
+use Rattle.expr.specs.Tree.{size-pos}
 use Rattle.expr_build.specs.Tests.{joinCodes, acquiredOf}
 use Rattle.expr_build.specs.Laws.{two-put}
 use Rattle.expr_build.specs.AcquiredLaws.{missing-none, missing-some, size-missing-some, size-missing-least}

@@ -10,7 +10,7 @@ use Rattle.model.specs.Memory.{Nodes, nodesIn}
 use Rattle.shop.specs.Shapes.{requirementOf}
 use Rattle.memory.specs.Pushed.{PutExpr}
 use Rattle.expr_build.specs.Tests.{codesRest, joinCodes}
-use Rattle.expr_negate.specs.InPlace.{size-pos}
+use Rattle.expr.specs.Tree.{size-pos}
 use Rattle.expr_build.specs.Laws.{two-put}
 use Rattle.expr_build.specs.Joined.{joined-room, joined-step, joined-grows}
 use Rattle.expr_build.proofs.push_tests.Statement.{statement}
