@@ -22,8 +22,8 @@ use Rattle.shop.specs.Sets.{held, reqsOf, sortedReqs, sortedCodes, Exact}
 use Rattle.shop.specs.Codes.{sorted-narrow, codes-narrow, sorted-code, codes-stand}
 use Rattle.shop.specs.SetLaws.{held-set, sorted-few}
 use Rattle.shop.specs.Slots.{atc-for, entries-length}
-use Rattle.emit.specs.declared.Acquired.{Acquired}
-use Rattle.emit.specs.Tests.{acquiredOf}
+use Rattle.expr_build.specs.declared.Acquired.{Acquired}
+use Rattle.expr_build.specs.Tests.{acquiredOf}
 use Rattle.model.specs.Sheet as Model
 use Rattle.model.specs.declared.BlockNo.{BlockNo}
 use Rattle.model.specs.declared.ItemId.{ItemId}

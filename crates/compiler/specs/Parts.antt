@@ -15,7 +15,7 @@ use Rattle.model.specs.Sheet as Model
 use Rattle.model.specs.Shop.{Timer, plain, five, ten, fifteen, timerOf, limitOf}
 use Rattle.model.specs.Compile.{acquiredExpr, itemExpr, hideBlock, ifBlock, tempVar, resetBlock, remainingBlock}
 use Rattle.shop.specs.Shapes.{requirementOf}
-use Rattle.emit.specs.Tests.{acquiredOf, missingAnd, bothMissing, joinCodes}
+use Rattle.expr_build.specs.Tests.{acquiredOf, missingAnd, bothMissing, joinCodes}
 use Rattle.emit.specs.Values.{slotBlock}
 use Rattle.compiler.specs.declared.ItemContext.{ItemContext}
 

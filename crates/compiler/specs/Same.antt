@@ -17,8 +17,8 @@ use Rattle.model.specs.Sheet as Model
 use Rattle.model.specs.Shop.{Timer, plain, five, ten, fifteen, timerOf, limitOf}
 use Rattle.model.specs.Compile.{itemTest, test, joinTests, acquiredExpr, noTimerExpr, hideBlock, enableBlocks, uniqueBlocks, limitBlocks, filledBlocks}
 use Rattle.shop.specs.Shapes.{requirementOf}
-use Rattle.emit.specs.Tests.{codesRest, joinCodes, acquiredOf, missingOf, missingAnd, bothMissing}
-use Rattle.emit.specs.Either.{missing-negates, missing-none, missing-some}
+use Rattle.expr_build.specs.Tests.{codesRest, joinCodes, acquiredOf, missingAnd, bothMissing}
+use Rattle.expr_build.specs.AcquiredLaws.{missing-none, missing-some}
 use Rattle.compiler.specs.declared.ItemContext.{ItemContext}
 use Rattle.compiler.specs.Parts.{isFive, enableOf, enableBy, uniqueBy, uniqueOf, limitBy, limitIn, soldOf, filledBy, filledOf, Stands, Listed}
 
@@ -52,8 +52,8 @@ enable-same x cs h v fifteen k n f a b e = rw (f, e)
 enable-same x cs h v five k n f a b e = rw (f, e, a, b, add-one n, plus2 n)
 
 module _ (x : ItemContext) (cs : List ℕ) (h : Model.Sheet) (z : ℤ) (rs : List Requirement) (s : Stands x h z) (d : Listed cs (x .len) rs) where
-  missing-is : missingOf (x .acquired) ≡ negate (acquiredExpr h (x .item .0))
-  missing-is = sym (missing-negates (x .acquired)) ∙ ap negate (s .acquired)
+  missing-is : negate (acquiredOf (x .acquired)) ≡ negate (acquiredExpr h (x .item .0))
+  missing-is = ap negate (s .acquired)
 
   -- no requirements
   module _ (none : x .len ≡ 0) where

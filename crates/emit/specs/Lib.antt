@@ -1,8 +1,3 @@
 pub mod Put
-pub mod Tests
-pub mod Laws
-pub mod Codes
-pub mod Joined
-pub mod Either
 pub mod Values
 pub mod BlockLaws

@@ -4,9 +4,8 @@ use mathlib.Core.List.{List}
 use Prim.Native.Nat.{ℕ, _+_}
 use lib.IntN.{ℤ}
 use lib.ListN.{length}
-use Rattle.model.specs.Expr.{imm}
 use Rattle.model.specs.Script.{Command, Block, commandsNodes, blockCommands, blockNodes, sumOf}
-use Rattle.model.specs.Memory.{Nodes, Coded, Memory, codedIn, memoryIn, putExpr, putCommands, putBlocks}
+use Rattle.model.specs.Memory.{Coded, Memory, codedIn, memoryIn, putCommands, putBlocks}
 use Rattle.memory.specs.declared.Counts.{Counts}
 
 -- the record behind the lent arrays, with its kept counts
@@ -15,11 +14,6 @@ codedOf ws vs cw k = codedIn ws vs cw (k .nodes) (k .commands)
 
 abbrev pub memoryOf : List ℕ → List ℤ → List ℕ → List ℕ → Counts → Memory
 memoryOf ws vs cw bw k = memoryIn ws vs cw bw (k .nodes) (k .commands) (k .blocks)
-
--- Imm16 or Imm32, as the number wants
-pub record PutImm (s : Nodes) (z : ℤ) (t : Nodes) : Type 0 where
-  pub is : t ≡ putExpr s (imm z)
-  pub counted : t .count ≡ s .count + 1
 
 pub record PutCommands (s : Coded) (cs : List Command) (t : Coded) : Type 0 where
   pub is : t ≡ putCommands s cs

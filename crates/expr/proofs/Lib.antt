@@ -1,5 +1,4 @@
 mod Signed
 mod Eval
-mod Put
-mod Parse
+mod Numbers
 mod Packing

@@ -1,4 +1,3 @@
 pub mod Tree
 pub mod Value
-pub mod Negate
 pub mod Requirement

@@ -1,13 +1,11 @@
 // Builds the largest shapes of expressions, evaluates and negates them, and writes for each its last node and what that is worth.
-ghost use mathlib.Core.Path.{_≡_};
-ghost use Prim.Native.Nat.{ℕ, _+_, _*_, _≤_, _<_};
+ghost use Prim.Native.Nat.{_+_, _*_, _≤_, _<_};
 ghost use Rattle.model.specs.Memory.{nodesIn};
 ghost use Rattle.memory.specs.Pushed.{PutExpr};
-ghost use Rattle.expr.specs.Tree.{Long};
-ghost use Rattle.expr_cases.specs.Chain.{chain};
+ghost use Rattle.expr_cases.specs.Chain.{yes, chain};
 use expr::Value;
 use expr::evaluate;
-use expr::negate;
+use expr_negate::negate;
 use memory::push_node;
 
 fn main() {
@@ -20,32 +18,32 @@ fn main() {
 
 // ---- depth 64
 
+// 1 == 1
+fn push_yes(ws: &mut [u16; 98304], val: &mut [i32; 32768], n: u16) -> u16
+    requires { ⌜ n + 3 ≤ 32768 ⌝ }
+    ensures { λ m. ⌜ PutExpr (nodesIn (now (ws .entry)) (now (val .entry)) n) yes (nodesIn (now (ws .exit)) (now (val .exit)) m) ⌝ }
+{
+    let l = push_node(ws, val, n, 11, 0, 0, 1);
+    let r = push_node(ws, val, l, 11, 0, 0, 1);
+    push_node(ws, val, r, 0, l - 1, r - 1, 0)
+}
+
 fn push_chain(ws: &mut [u16; 98304], val: &mut [i32; 32768], n: u16, d: u16) -> u16
-    requires { ⌜ n + (2 * d + 1) ≤ 32768 ⌝ }
+    requires { ⌜ n + (4 * d + 3) ≤ 32768 ⌝ }
     ensures { λ m. ⌜ PutExpr (nodesIn (now (ws .entry)) (now (val .entry)) n) (chain d) (nodesIn (now (ws .exit)) (now (val .exit)) m) ⌝ }
 {
     if d == 0 {
-        return push_node(ws, val, n, 11, 0, 0, 1);
+        return push_yes(ws, val, n);
     }
     let l = push_chain(ws, val, n, d - 1);
-    let r = push_node(ws, val, l, 11, 0, 0, 1);
+    let r = push_yes(ws, val, l);
     push_node(ws, val, r, 9, l - 1, r - 1, 0)
 }
 
-// The arrays' lengths, which a reference to an array has in its type.
-fn long(ws: &[u16; 98304], val: &[i32; 32768]) -> usize
-    ensures { λ _. ⌜ ((n : ℕ) → Long 32768 (nodesIn (now (ws .entry)) (now (val .entry)) n)) ⌝ }
-{
-    let words: &[u16] = ws;
-    let values: &[i32] = val;
-    words.len() - values.len()
-}
-
 fn deepest(ws: &mut [u16; 98304], val: &mut [i32; 32768]) {
-    let _length = long(ws, val);
-    let m = push_chain(ws, val, 0, 63);
+    let m = push_chain(ws, val, 0, 62);
     show(ws, val, m - 1);
-    let k = negate(ws, val, m, m - 1);
+    let k = negate(ws, val, m);
     show(ws, val, k - 1);
 }
 

@@ -1,18 +1,18 @@
 -- How large sums and differences are, at any width, and the laws of the tests. Assumes nothing.
-use mathlib.Core.Path.{_≡_, refl, sym, ap, _∙_, subst}
+use mathlib.Core.Path.{_≡_, refl, sym, subst}
 use mathlib.Core.Bool.{Bool, true, false, cond}
 use Prim.Native.Nat.{ℕ, zero, suc, _+_, _-_, _^_, _≤_, _<_}
 use native.Mathlib.Nat.{not-suc-le-zero, lt-of-lt-of-le}
 use native.Mathlib.Omega.{arith}
-use lib.Dec.{T, leb, ltb, leb→le, leb·suc-suc, leb·suc-zero}
+use lib.Dec.{T, leb, ltb, leb→le, leb·suc-zero}
 use lib.IntN.{ℤ, pos, negsuc, subℕ, _+ℤ_, _-ℤ_}
-use lib.Pow.{pow-mono, pow-pos, suc-ones}
+use lib.Pow.{pow-mono, pow-pos}
 use lib.Signed.{mag, ltZ, leZ}
 use mir.Syntax.{Width}
 use mir.Val.{SFits, bits, hbits}
 use mir.ValLaws.{pow-bits}
-use borrow.Author.Tests.{ltb-true, lt-ltb}
-use Rattle.model.specs.Signed.{clamp, inRange}
+use borrow.Author.Tests.{ltb-true}
+use Rattle.model.specs.Signed.{clamp}
 
 -- a − b of two naturals is no larger than both
 sub-mag : (a b m : ℕ) → a ≤ m → b ≤ m → mag (subℕ a b) ≤ m
@@ -58,22 +58,3 @@ pub clamp-high : (z k : ℤ) → T (leZ (pos 0) k) → ltZ z k ≡ false → z �
 clamp-high (pos n) k u t = refl
 clamp-high (negsuc n) (pos k) u t = absurd (subst T t tt)
 clamp-high (negsuc n) (negsuc k) u t = absurd u
-
--- a number is in the range where it is neither below the least number of it nor above the largest
-ones : (k n : ℕ) → leb n (2 ^ k - 1) ≡ ltb n (2 ^ k)
-ones k n = sym (leb·suc-suc n (2 ^ k - 1)) ∙ ap (leb (suc n)) (suc-ones k)
-
-pub range-high : (w : Width) (z : ℤ) → leZ (negsuc (2 ^ hbits w - 1)) z ≡ true → leZ z (pos (2 ^ hbits w - 1)) ≡ inRange w z
-range-high w (pos n) t = ones (hbits w) n
-range-high w (negsuc n) t = sym t ∙ ones (hbits w) n
-
-pub range-low : (w : Width) (z : ℤ) → leZ (negsuc (2 ^ hbits w - 1)) z ≡ false → leZ (negsuc (2 ^ hbits w - 1)) z ≡ inRange w z
-range-low w (pos n) t = absurd (subst T t tt)
-range-low w (negsuc n) t = ones (hbits w) n
-
--- to be in the range is to fit
-pub range-fits : (w : Width) (z : ℤ) → inRange w z ≡ true → SFits w z
-range-fits w z t = record { sfits = ltb-true (mag z) (2 ^ hbits w) t }
-
-pub fits-range : (w : Width) (z : ℤ) → SFits w z → inRange w z ≡ true
-fits-range w z f = lt-ltb (mag z) (2 ^ hbits w) (f .sfits)

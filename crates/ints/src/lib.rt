@@ -5,7 +5,7 @@ ghost use lib.IntN.{_+ℤ_, _-ℤ_};
 ghost use lib.Signed.{mag};
 ghost use mir.Syntax.{w16, w32};
 ghost use mir.Val.{toZ, ofZ};
-ghost use Rattle.model.specs.Signed.{wrap32, cut16, inRange, b2z, clamp};
+ghost use Rattle.model.specs.Signed.{wrap32, cut16, b2z, clamp};
 
 // ---- sums that wrap
 
@@ -80,13 +80,6 @@ pub fn widen16(x: i16) -> i32
     ensures { λ r. ⌜ r ≡ x ⌝ }
 {
     x as i32
-}
-
-// Whether x is a number of 16 bits.
-pub fn fits16(x: i32) -> bool
-    ensures { λ r. ⌜ r ≡ inRange w16 x ⌝ }
-{
-    -32768 <= x && x <= 32767
 }
 
 // What is left of a limit: the larger of 0 and limit - held. An i32, since 32767 - (-32768) is no i16.

@@ -7,7 +7,6 @@ fn main() {
     bits();
     bits_of_16();
     cuts();
-    ranges();
     limits();
     truths();
 }
@@ -78,18 +77,6 @@ fn cuts() {
     cut(-2147483648);
 }
 
-fn ranges() {
-    fits(0);
-    fits(32767);
-    fits(32768);
-    fits(65536);
-    fits(2147483647);
-    fits(-1);
-    fits(-32768);
-    fits(-32769);
-    fits(-2147483648);
-}
-
 fn limits() {
     left(0, 0);
     left(1, 0);
@@ -151,12 +138,6 @@ fn cut(x: i32) {
     put(b"cut_i16 ");
     number(x);
     answer(ints::widen16(ints::cut_i16(x)));
-}
-
-fn fits(x: i32) {
-    put(b"fits16 ");
-    number(x);
-    answer(ints::bit(ints::fits16(x)));
 }
 
 fn left(limit: i16, held: i16) {

@@ -19,7 +19,7 @@ use Rattle.model.specs.Shop.{Slot, Timer, plain, five, ten, fifteen, timerOf, l
 use Rattle.model.specs.Compile.{test, joinTests, acquiredExpr, enableBlocks, uniqueBlocks, limitBlocks, filledBlocks, blocksFor, slotBlocks, slotsBlocks, shopBlocks, rootOf, returnBlock, hasRoom}
 use Rattle.model.specs.Laws.Sound.{sum-append}
 use Rattle.memory.specs.declared.Counts.{Counts}
-use Rattle.emit.specs.Laws.{size-imm}
+use Rattle.expr_build.specs.Laws.{size-imm}
 use Rattle.sizes.specs.declared.Size.{Size}
 use Rattle.sizes.specs.Sizes.{SizeOf, testsNodes, acquiredNodes, enableSize, uniqueSize, limitSize, filledSize, sizeFor, slotSize, shopSize}
 use Rattle.sizes.specs.Tests.{test-size, joined-size, acquired-size, missing-size}

@@ -1,7 +1,7 @@
 use mir.Syntax.{w32}
 use mir.Facts.{toZ-ofZ}
 use Rattle.model.specs.Expr.{size}
-use Rattle.emit.specs.Laws.{imm-put}
+use Rattle.expr_build.specs.Laws.{imm-put}
 use Rattle.emit.specs.BlockLaws.{set-put}
 use borrow.Author.Needs.{needs}
 use Rattle.emit.proofs.emit_number.Statement.{statement}

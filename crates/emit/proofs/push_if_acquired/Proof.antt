@@ -1,8 +1,6 @@
-use Rattle.emit.specs.Tests.{acquiredOf, missingAnd, bothMissing, joinCodes}
-use Rattle.emit.specs.Laws.{size-pos}
-use Rattle.emit.specs.Either.{size-both}
+use Rattle.expr_build.specs.Tests.{acquiredOf}
+use Rattle.expr_build.specs.Laws.{put-more}
 use Rattle.emit.specs.BlockLaws.{if-room, if-block}
-use native.Mathlib.Omega.{arith}
 use Rattle.emit.proofs.push_if_acquired.Statement.{statement}
 use Rattle.emit.proofs.push_if_acquired.Tie as tie
 
@@ -10,7 +8,7 @@ push-acquired-requires : tie.Need-push-acquired-requires
 push-acquired-requires c κs = let r = if-room _ (c .before .before .args .next .0) (c .before .before .args .other .0) (acquiredOf (c .before .before .args .a)) (c .before .before .pre .0) in (r .nodes, c .before .before .pre .1 .0)
 
 push-if-requires : tie.Need-push-if-requires
-push-if-requires c κs = let r = if-room _ (c .before .before .before .before .before .args .next .0) (c .before .before .before .before .before .args .other .0) (acquiredOf (c .before .before .before .before .before .args .a)) (c .before .before .before .before .before .pre .0) in (omega (arith, c .before .before .push-acquired .ensures .counted, size-pos (acquiredOf (c .before .before .before .before .before .args .a))), r .commands, r .blocks, c .before .before .before .before .before .pre .1 .1, c .before .before .before .before .before .pre .1 .2)
+push-if-requires c κs = let r = if-room _ (c .before .before .before .before .before .args .next .0) (c .before .before .before .before .before .args .other .0) (acquiredOf (c .before .before .before .before .before .args .a)) (c .before .before .before .before .before .pre .0) in (put-more (c .before .before .push-acquired .ensures), r .commands, r .blocks, c .before .before .before .before .before .pre .1 .1, c .before .before .before .before .before .pre .1 .2)
 
 returns : tie.Need-returns
 returns c = if-block (c .before .before .before .push-acquired .ensures) (c .push-if .ensures)

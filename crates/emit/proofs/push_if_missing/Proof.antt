@@ -1,8 +1,6 @@
-use Rattle.emit.specs.Tests.{acquiredOf, missingAnd, bothMissing, joinCodes}
-use Rattle.emit.specs.Laws.{size-pos}
-use Rattle.emit.specs.Either.{size-both}
+use Rattle.expr_build.specs.Tests.{missingAnd}
+use Rattle.expr_build.specs.Laws.{put-more}
 use Rattle.emit.specs.BlockLaws.{if-room, if-block}
-use native.Mathlib.Omega.{arith}
 use Rattle.emit.proofs.push_if_missing.Statement.{statement}
 use Rattle.emit.proofs.push_if_missing.Tie as tie
 
@@ -10,7 +8,7 @@ push-missing-and-requires : tie.Need-push-missing-and-requires
 push-missing-and-requires c κs = let r = if-room _ (c .before .before .args .next .0) (c .before .before .args .other .0) (missingAnd (c .before .before .args .a) (c .before .before .args .codes .now) (c .before .before .args .len)) (c .before .before .pre .0) in (r .nodes, c .before .before .pre .1 .0, c .before .before .pre .1 .1)
 
 push-if-requires : tie.Need-push-if-requires
-push-if-requires c κs = let r = if-room _ (c .before .before .before .before .before .args .next .0) (c .before .before .before .before .before .args .other .0) (missingAnd (c .before .before .before .before .before .args .a) (c .before .before .before .before .before .args .codes .now) (c .before .before .before .before .before .args .len)) (c .before .before .before .before .before .pre .0) in (omega (arith, c .before .before .push-missing-and .ensures .counted, size-pos (missingAnd (c .before .before .before .before .before .args .a) (c .before .before .before .before .before .args .codes .now) (c .before .before .before .before .before .args .len))), r .commands, r .blocks, c .before .before .before .before .before .pre .1 .2, c .before .before .before .before .before .pre .1 .3)
+push-if-requires c κs = let r = if-room _ (c .before .before .before .before .before .args .next .0) (c .before .before .before .before .before .args .other .0) (missingAnd (c .before .before .before .before .before .args .a) (c .before .before .before .before .before .args .codes .now) (c .before .before .before .before .before .args .len)) (c .before .before .before .before .before .pre .0) in (put-more (c .before .before .push-missing-and .ensures), r .commands, r .blocks, c .before .before .before .before .before .pre .1 .2, c .before .before .before .before .before .pre .1 .3)
 
 returns : tie.Need-returns
 returns c = if-block (c .before .before .before .push-missing-and .ensures) (c .push-if .ensures)

@@ -2,7 +2,7 @@ use mir.Syntax.{w32}
 use mir.Facts.{toZ-ofZ}
 use Rattle.model.specs.Expr.{size, imm}
 use Rattle.model.specs.Script.{commandNodes}
-use Rattle.emit.specs.Laws.{size-imm}
+use Rattle.expr_build.specs.Laws.{size-imm}
 use Rattle.emit.specs.BlockLaws.{slot-room, slot-block}
 use native.Mathlib.Omega.{arith}
 use borrow.Author.Needs.{needs}

@@ -2,7 +2,7 @@
 use mir.Syntax.{w32}
 use mir.Facts.{toZ-ofZ}
 use Rattle.model.specs.Memory.{nodesIn}
-use Rattle.expr.proofs.Parse.{no-number, number-two, number-one, number-imm16, number-imm32, number-other}
+use Rattle.expr.proofs.Numbers.{no-number, number-two, number-one, number-imm16, number-imm32, number-other}
 use borrow.Author.Needs.{needs}
 use Rattle.expr.proofs.number_below.Statement.{statement}
 use Rattle.expr.proofs.number_below.Tie as tie

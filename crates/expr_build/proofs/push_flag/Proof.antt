@@ -1,0 +1,23 @@
+use mir.Syntax.{w32}
+use mir.Facts.{toZ-ofZ}
+use Rattle.expr_negate.specs.InPlace.{one-put}
+use Rattle.expr_build.specs.Laws.{imm-put}
+use native.Mathlib.Omega.{arith}
+use borrow.Author.Needs.{needs}
+use Rattle.expr_build.proofs.push_flag.Statement.{statement}
+use Rattle.expr_build.proofs.push_flag.Tie as tie
+
+push-imm-requires : tie.Need-push-imm-requires
+push-imm-requires c κs = search needs
+
+sub-push-one : tie.Need-sub-push-one
+sub-push-one c = search needs
+
+push-one-requires : tie.Need-push-one-requires
+push-one-requires c κs = search needs
+
+returns : tie.Need-returns
+returns c = one-put (imm-put (rw (toZ-ofZ {w = w32} (c .before .before .before .before .before .before .fits .z)) at (c .before .before .before .push-imm .ensures))) (c .push-one .ensures)
+
+pub push-flag-spec : {M : Type 1} → statement M
+push-flag-spec = tie.close (tie.spec push-imm-requires sub-push-one push-one-requires returns)
