@@ -10,9 +10,9 @@ ghost use Rattle.checks.specs.Calls.{saveOf};
 ghost use Rattle.model.specs.Preview.{previewCall};
 ghost use Rattle.model.specs.RecordCalls.{parseIn};
 ghost use Rattle.shop.specs.Shapes.{slotsOf};
-ghost use Rattle.shop_arrays.specs.Arrays.{arraysIn, shopFrom, arraysOf};
+ghost use Rattle.shop_arrays.specs.Arrays.{arraysIn, shopFrom};
 ghost use Rattle.compile.specs.Answer.{callOf, CompiledAs};
-ghost use Rattle.parse.specs.Answer.{answerOf};
+ghost use Rattle.parse.specs.Answer.{ParsedInto};
 ghost use Rattle.preview.specs.Shown.{previewedOf};
 ghost use Rattle.capi.specs.Answers.{sheetBy, readAs, ranAs, previewedAs};
 use compile::compile_arrays;
@@ -251,7 +251,7 @@ pub extern "C" fn lk_parse(
     codes: &mut [u64; 640],
     lens: &mut [u8; 20],
 ) -> u8
-    ensures { λ r. ⌜ (r ≡ answerOf (parseIn (sheetOf (now (attached .entry)) (sheetBy atcs timer5 timer10 timer15)) (memoryIn (now (ws .entry)) (now (val .entry)) (now (cw .entry)) (now (bw .entry)) nodes commands blocks) setup) .refusal) × (arraysIn (now (items .exit)) (now (limits .exit)) (now (codes .exit)) (now (lens .exit)) ≡ arraysOf (answerOf (parseIn (sheetOf (now (attached .entry)) (sheetBy atcs timer5 timer10 timer15)) (memoryIn (now (ws .entry)) (now (val .entry)) (now (cw .entry)) (now (bw .entry)) nodes commands blocks) setup) .shop)) ⌝ }
+    ensures { λ r. ⌜ ParsedInto (parseIn (sheetOf (now (attached .entry)) (sheetBy atcs timer5 timer10 timer15)) (memoryIn (now (ws .entry)) (now (val .entry)) (now (cw .entry)) (now (bw .entry)) nodes commands blocks) setup) r (arraysIn (now (items .exit)) (now (limits .exit)) (now (codes .exit)) (now (lens .exit))) ⌝ }
 {
     let sheet = sheet_by(atcs, timer5, timer10, timer15);
     let counts = Counts {
