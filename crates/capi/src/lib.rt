@@ -14,6 +14,7 @@ ghost use Rattle.shop_arrays.specs.Arrays.{arraysIn, shopFrom};
 ghost use Rattle.compile.specs.Answer.{callOf, CompiledAs};
 ghost use Rattle.parse.specs.Answer.{ParsedInto};
 ghost use Rattle.preview.specs.Shown.{previewedOf};
+ghost use Rattle.with_slots.specs.Twenty.{twenty};
 ghost use Rattle.capi.specs.Answers.{sheetBy, readAs, ranAs, previewedAs};
 use compile::compile_arrays;
 use image_read::Image;
@@ -27,6 +28,7 @@ use preview::preview;
 use runner::run;
 use shop::Sheet;
 use shop_arrays::shop_from;
+use with_slots::with_slots;
 
 // The refusal or 0, and the kept counts of the script; all are 0 where a read is refused.
 #[repr(C)]
@@ -228,6 +230,33 @@ pub extern "C" fn lk_compile(
         commands: k.commands,
         blocks: k.blocks,
     }
+}
+
+// The arrays of a shop from any number of slots, each with 32 codes. As many slots are given as there are items; what another slice
+// lacks of them is 0. Slots past the twentieth are dropped unchecked, missing ones are empty.
+#[no_mangle]
+pub extern "C" fn lk_with_slots(
+    items: &[i32],
+    limits: &[i16],
+    codes: &[u64],
+    lens: &[u8],
+    to_items: &mut [i32; 20],
+    to_limits: &mut [i16; 20],
+    to_codes: &mut [u64; 640],
+    to_lens: &mut [u8; 20],
+)
+    ensures { λ _. ⌜ arraysIn (now («to_items» .exit)) (now («to_limits» .exit)) (now («to_codes» .exit)) (now («to_lens» .exit)) ≡ twenty (arraysIn (now (items .entry)) (now (limits .entry)) (now (codes .entry)) (now (lens .entry))) ⌝ }
+{
+    with_slots(
+        items,
+        limits,
+        codes,
+        lens,
+        to_items,
+        to_limits,
+        to_codes,
+        to_lens,
+    );
 }
 
 // The shop that starts at block setup, into the arrays; refused, those of an empty shop.
