@@ -86,6 +86,13 @@ lk_kept lk_compile(const uint8_t *attached, size_t attached_len, uint16_t atcs, 
                    const int32_t items[LK_SLOTS], const int16_t limits[LK_SLOTS],
                    const uint64_t codes[LK_SLOTS * LK_ENTRIES], const uint8_t lens[LK_SLOTS]);
 
+/* The arrays of a shop from any number of slots, each with LK_ENTRIES codes. As many slots are given as there are items;
+ * what another slice lacks of them is 0. Slots past LK_SLOTS are dropped unchecked, missing ones are empty. */
+void lk_with_slots(const int32_t *items, size_t items_len, const int16_t *limits, size_t limits_len,
+                   const uint64_t *codes, size_t codes_len, const uint8_t *lens, size_t lens_len,
+                   int32_t to_items[LK_SLOTS], int16_t to_limits[LK_SLOTS], uint64_t to_codes[LK_SLOTS * LK_ENTRIES],
+                   uint8_t to_lens[LK_SLOTS]);
+
 /* The shop that starts at block setup, its requirements sorted, each once. Refused (1 to 7, 10, 11), an empty shop. */
 uint8_t lk_parse(const uint8_t *attached, size_t attached_len, uint16_t atcs, uint16_t timer5, uint16_t timer10,
                  uint16_t timer15, const uint16_t ws[LK_NODE_WORDS], const int32_t val[LK_VALUES],

@@ -10,10 +10,11 @@ ghost use Rattle.checks.specs.Calls.{saveOf};
 ghost use Rattle.model.specs.Preview.{previewCall};
 ghost use Rattle.model.specs.RecordCalls.{parseIn};
 ghost use Rattle.shop.specs.Shapes.{slotsOf};
-ghost use Rattle.shop_arrays.specs.Arrays.{arraysIn, shopFrom, arraysOf};
+ghost use Rattle.shop_arrays.specs.Arrays.{arraysIn, shopFrom};
 ghost use Rattle.compile.specs.Answer.{callOf, CompiledAs};
-ghost use Rattle.parse.specs.Answer.{answerOf};
+ghost use Rattle.parse.specs.Answer.{ParsedInto};
 ghost use Rattle.preview.specs.Shown.{previewedOf};
+ghost use Rattle.with_slots.specs.Twenty.{twenty};
 ghost use Rattle.capi.specs.Answers.{sheetBy, readAs, ranAs, previewedAs};
 use compile::compile_arrays;
 use image_read::Image;
@@ -26,6 +27,7 @@ use parse::parse_arrays;
 use preview::preview_arrays;
 use runner::run;
 use shop::Sheet;
+use with_slots::with_slots;
 
 // The refusal or 0, and the kept counts of the script; all are 0 where a read is refused.
 #[repr(C)]
@@ -229,6 +231,33 @@ pub extern "C" fn lk_compile(
     }
 }
 
+// The arrays of a shop from any number of slots, each with 32 codes. As many slots are given as there are items; what another slice
+// lacks of them is 0. Slots past the twentieth are dropped unchecked, missing ones are empty.
+#[no_mangle]
+pub extern "C" fn lk_with_slots(
+    items: &[i32],
+    limits: &[i16],
+    codes: &[u64],
+    lens: &[u8],
+    to_items: &mut [i32; 20],
+    to_limits: &mut [i16; 20],
+    to_codes: &mut [u64; 640],
+    to_lens: &mut [u8; 20],
+)
+    ensures { λ _. ⌜ arraysIn (now («to_items» .exit)) (now («to_limits» .exit)) (now («to_codes» .exit)) (now («to_lens» .exit)) ≡ twenty (arraysIn (now (items .entry)) (now (limits .entry)) (now (codes .entry)) (now (lens .entry))) ⌝ }
+{
+    with_slots(
+        items,
+        limits,
+        codes,
+        lens,
+        to_items,
+        to_limits,
+        to_codes,
+        to_lens,
+    );
+}
+
 // The shop that starts at block setup, into the arrays; refused, those of an empty shop.
 #[no_mangle]
 pub extern "C" fn lk_parse(
@@ -250,7 +279,7 @@ pub extern "C" fn lk_parse(
     codes: &mut [u64; 640],
     lens: &mut [u8; 20],
 ) -> u8
-    ensures { λ r. ⌜ (r ≡ answerOf (parseIn (sheetOf (now (attached .entry)) (sheetBy atcs timer5 timer10 timer15)) (memoryIn (now (ws .entry)) (now (val .entry)) (now (cw .entry)) (now (bw .entry)) nodes commands blocks) setup) .refusal) × (arraysIn (now (items .exit)) (now (limits .exit)) (now (codes .exit)) (now (lens .exit)) ≡ arraysOf (answerOf (parseIn (sheetOf (now (attached .entry)) (sheetBy atcs timer5 timer10 timer15)) (memoryIn (now (ws .entry)) (now (val .entry)) (now (cw .entry)) (now (bw .entry)) nodes commands blocks) setup) .shop)) ⌝ }
+    ensures { λ r. ⌜ ParsedInto (parseIn (sheetOf (now (attached .entry)) (sheetBy atcs timer5 timer10 timer15)) (memoryIn (now (ws .entry)) (now (val .entry)) (now (cw .entry)) (now (bw .entry)) nodes commands blocks) setup) r (arraysIn (now (items .exit)) (now (limits .exit)) (now (codes .exit)) (now (lens .exit))) ⌝ }
 {
     let sheet = sheet_by(atcs, timer5, timer10, timer15);
     let counts = Counts {

@@ -54,7 +54,7 @@ module _ (m : Memory) (e : Empty m) (long : Long m) (s : List ℕ) (bs : List Bl
       (record { few = rw same (k .few); sound = rw same (k .sound); commands = rw same (omega (arith, t .commands-counted)); nodes = rw same (omega (arith, t .nodes-counted)) }) in
       accepted-record (putBlocks m bs) (t .sound) ok ∙ ap (λ (xs : List Block). got xs []) same
 
-  read-blocks : scriptOf (putBlocks m bs) .blocks ≡ bs
+  pub read-blocks : scriptOf (putBlocks m bs) .blocks ≡ bs
   read-blocks = judged-sound (putBlocks m bs) bs [] read-judged .blocks-are
 
   -- an accepted image, read and written again, is the same bytes; what stood past it stays

@@ -176,7 +176,7 @@ module _ (h : Sheet) where
     }
 
 -- the judgement never refuses with 0
-proper-record : (m : Memory) → Proper (judgedRecord m)
+pub proper-record : (m : Memory) → Proper (judgedRecord m)
 unfolding judgedRecord
 proper-record m = proper-cond (keptOk m) _ (refused overLimit) (proper-within (m .coded .count) (m .coded .nodes .count) (recordImage m)) (omega arith)
 

@@ -1,31 +1,22 @@
 -- The preview by the answers of its three checks. Assumes nothing.
 use mathlib.Core.Path.{_≡_, sym, ap, _∙_}
 use mathlib.Core.Bool.{Bool}
-use mathlib.Core.List.{List, [], _∷_, map}
-use lib.IntN.{pos}
-use lib.ListN.{length, getD, length-map}
+use lib.ListN.{length, length-map}
 use Rattle.model.specs.Limits.{slotCount}
 use Rattle.model.specs.Save.{Save}
 use Rattle.model.specs.Sheet as Model
 use Rattle.model.specs.Sheet.{sheetOk, saveOk, all}
-use Rattle.model.specs.Refusal.{firstOf, check}
 use Rattle.model.specs.Shop as Shops
 use Rattle.model.specs.Shop.{withSlots, slotOk}
-use Rattle.model.specs.Meaning.{meaningOf, tempAfter}
-use Rattle.model.specs.Preview.{Preview, previewOf, previewCall}
+use Rattle.model.specs.Preview.{previewCall}
 use Rattle.shop.specs.Shapes.{slotOf, slotsOf}
 use Rattle.shop.specs.declared.Sheet.{Sheet}
 use Rattle.shop.specs.declared.Slot.{Slot}
 use Rattle.shop.specs.declared.Shop.{Shop}
 use Rattle.preview.specs.Accepted.{with-all}
+use Rattle.preview.specs.Checked.{checked}
 use Rattle.preview.specs.Shown.{previewedOf}
 use Rattle.preview.specs.declared.Previewed.{Previewed}
-
--- its answer, given those of the checks
-abbrev pub checked : Model.Sheet → List Shops.Slot → Save → Bool → Bool → Bool → Preview
-checked h xs s a b d =
-    previewOf (firstOf (check a 1 ∷ check b 8 ∷ check d 12 ∷ []))
-    (map (meaningOf h s) xs) (tempAfter h s xs (getD (s .variables) 0 (pos 0))) (getD (s .variables) 0 (pos 0))
 
 module _ (h : Model.Sheet) (s : Save) (shop : Shop) (long : length (shop .slots) ≡ slotCount) where
   -- a shop's slots are twenty already

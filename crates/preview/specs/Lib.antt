@@ -3,3 +3,4 @@ pub mod Tests
 pub mod Shown
 pub mod Accepted
 pub mod Agree
+pub mod Checked

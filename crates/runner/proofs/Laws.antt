@@ -20,6 +20,7 @@ use Rattle.model.specs.Expr.{Expr, ok, stop, eval}
 use Rattle.model.specs.Script.{Command, return, goto, setVariable, setOther, ifElse, endIf, otherCommand, placeholder, code, dataBlock, blockAt}
 use Rattle.model.specs.Run.{Outcome, next, done, halt, follow, store, orHalt, execute, enter, step}
 use Rattle.model.specs.Memory.{Coded, codedIn, Memory, tree, commandWord, setIn, commandBy, commandIn, commandsIn, blockWord, linkIn, blockBy, blockIn, scriptOf}
+use Rattle.model.specs.declared.BlockNo.{BlockNo}
 use Rattle.memory.specs.RecordLaws.{length-blocksIn, block-at}
 use Rattle.expr.specs.Value.{valueOf}
 use Rattle.expr.specs.declared.Value.{Value}
@@ -62,9 +63,9 @@ pub link-none : (n : ℕ) → n ≡ 0 → (v : List ℤ) → follow (linkIn n) v
 link-none zero e v = refl
 link-none (suc n) e v = absurd (omega arith)
 
-pub link-some : (n : ℕ) → (n ≡ 0 → ⊥) → (v : List ℤ) → follow (linkIn n) v ≡ next (n - 1) v
-link-some zero e v = absurd (e refl)
-link-some (suc n) e v = let z : n ≡ suc n - 1 = omega arith in ap (λ k. next k v) z
+pub link-some : (n : ℕ) (w : BlockNo) → (n ≡ 0 → ⊥) → w ≡ record { 0 = n - 1 } → (v : List ℤ) → follow (linkIn n) v ≡ next (w .0) v
+link-some zero w e p v = absurd (e refl)
+link-some (suc n) w e p v = let z : n ≡ suc n - 1 = omega arith in ap (λ k. next k v) z ∙ ap (λ (x : BlockNo). next (x .0) v) (sym p)
 
 -- ---- Set and If
 
@@ -100,7 +101,7 @@ module _ {s : Save} {nx : Option ℕ} {v : List ℤ} {t : Expr} {r : Value} (p :
       record { is = λ cs. ap (λ a. orHalt a v (λ x. cond (isZero x) (next b v) (follow nx v))) z }
 
   module _ {b : ℕ} {x : ℤ} (q : r ≡ Is x) where
-    pub if-zero : isZero x ≡ true → Flows s nx (ifElse t b) v (Out (Next b)) v
+    pub if-zero : isZero x ≡ true → Flows s nx (ifElse t b) v (Out (Next (record { 0 = b }))) v
     if-zero z = record { is = λ cs. tested s nx v t b x r p q cs ∙ ap (λ a. cond a (next b v) (follow nx v)) z }
 
     pub if-next : {o : Step} → isZero x ≡ false → ((v : List ℤ) → follow nx v ≡ outcomeOf o v) → Flows s nx (ifElse t b) v (Out o) v
@@ -117,10 +118,6 @@ module _ (co : Coded) (c : ℕ) where
   unfolding commandBy
   is-return e = coded 0 e
 
-  pub is-goto : getD (co .words) (4 * c) 0 ≡ 1 → commandIn co c ≡ goto (commandWord co c 3)
-  unfolding commandBy
-  is-goto e = coded 1 e
-
   pub is-set : getD (co .words) (4 * c) 0 ≡ 2 → commandWord co c 3 ≡ 0 → commandIn co c ≡ setVariable (tree (co .nodes) (commandWord co c 1)) (tree (co .nodes) (commandWord co c 2))
   unfolding commandBy setIn
   is-set e z = coded 2 e ∙ ap (setIn co c) z
@@ -134,14 +131,6 @@ module _ (co : Coded) (c : ℕ) where
   unfolding commandBy
   is-set-other e z = coded 2 e ∙ set-other (commandWord co c 3) z
 
-  pub is-if : getD (co .words) (4 * c) 0 ≡ 3 → commandIn co c ≡ ifElse (tree (co .nodes) (commandWord co c 1)) (commandWord co c 3)
-  unfolding commandBy
-  is-if e = coded 3 e
-
-  pub is-end : getD (co .words) (4 * c) 0 ≡ 4 → commandIn co c ≡ endIf (commandWord co c 3)
-  unfolding commandBy
-  is-end e = coded 4 e
-
   by-other : (k : ℕ) → 4 < k → commandBy co c k ≡ otherCommand
   unfolding commandBy
   by-other zero h = absurd (omega arith)
@@ -153,6 +142,20 @@ module _ (co : Coded) (c : ℕ) where
 
   pub is-other : 4 < getD (co .words) (4 * c) 0 → commandIn co c ≡ otherCommand
   is-other h = coded (getD (co .words) (4 * c) 0) refl ∙ by-other (getD (co .words) (4 * c) 0) h
+
+  -- the block that the fourth word names
+  module _ (w : BlockNo) (p : w ≡ record { 0 = commandWord co c 3 }) where
+    pub is-goto : getD (co .words) (4 * c) 0 ≡ 1 → commandIn co c ≡ goto (w .0)
+    unfolding commandBy
+    is-goto e = coded 1 e ∙ ap (λ (x : BlockNo). goto (x .0)) (sym p)
+
+    pub is-if : getD (co .words) (4 * c) 0 ≡ 3 → commandIn co c ≡ ifElse (tree (co .nodes) (commandWord co c 1)) (w .0)
+    unfolding commandBy
+    is-if e = coded 3 e ∙ ap (λ (x : BlockNo). ifElse (tree (co .nodes) (commandWord co c 1)) (x .0)) (sym p)
+
+    pub is-end : getD (co .words) (4 * c) 0 ≡ 4 → commandIn co c ≡ endIf (w .0)
+    unfolding commandBy
+    is-end e = coded 4 e ∙ ap (λ (x : BlockNo). endIf (x .0)) (sym p)
 
 pub flows-as : {s : Save} {nx : Option ℕ} {v v′ : List ℤ} {r : Flow} (x y : Command) → x ≡ y → Flows s nx y v r v′ → Flows s nx x v r v′
 flows-as {s} {nx} {v} {v′} {r} x y e f = subst (λ z. Flows s nx z v r v′) (sym e) f

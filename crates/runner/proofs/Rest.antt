@@ -12,6 +12,7 @@ use Rattle.model.specs.Expr.{Value, ok, stop, eval}
 use Rattle.model.specs.Script.{Command, return, goto, setVariable, setOther, ifElse, endIf, otherCommand, Block, placeholder, code, dataBlock, blockAt}
 use Rattle.model.specs.Run.{Outcome, next, done, halt, follow, store, orHalt, execute, enter, step, Ran, oneMore, run}
 use Rattle.expr.specs.Value.{reads, eval-rest}
+use Rattle.model.specs.declared.BlockNo.{BlockNo}
 use Rattle.runner.specs.Steps.{outcomeOf}
 use Rattle.runner.specs.declared.Step.{Step}
 use Rattle.runner.specs.declared.Step.the-variants.{Next, Done, Halt}
@@ -106,8 +107,9 @@ module _ (bs : List Block) (s : Save) (budget b₀ : ℕ) (v₀ : List ℤ) wher
       left : budget - n ≡ suc (budget - (n + 1))
       left = omega arith
 
-      pub one-entered : (r : Step) (b′ : ℕ) (v′ : List ℤ) → r ≡ Next b′ → outcomeOf r v′ ≡ step bs s b v → Entered bs s budget b₀ v₀ (n + 1) b′ v′
-      one-entered r b′ v′ q e =
+      pub one-entered : (r : Step) (w : BlockNo) (v′ : List ℤ) → r ≡ Next w → outcomeOf r v′ ≡ step bs s b v → Entered bs s budget b₀ v₀ (n + 1) (w .0) v′
+      one-entered r w v′ q e =
+          let b′ = w .0 in
           let z : n + suc (run bs s (budget - (n + 1)) b′ v′ .entered) ≡ n + 1 + run bs s (budget - (n + 1)) b′ v′ .entered = omega arith in
           record {
             low = omega arith;

@@ -17,7 +17,7 @@ use Rattle.runner.specs.declared.Flow.the-variants.{On, Out}
 
 -- the definition's outcome for each case, with the variables of that moment
 abbrev pub outcomeOf : Step → List ℤ → Outcome
-outcomeOf (Next k) v = next k v
+outcomeOf (Next k) v = next (k .0) v
 outcomeOf Done v = done v
 outcomeOf (Halt n) v = halt n v
 

@@ -25,10 +25,13 @@ use shop::Sheet;
 
 // Where a block leads: to a block, to Return, to a refusal.
 enum Step {
-    Next(u16),
+    Next(BlockNo),
     Done,
     Halt(u8),
 }
+
+// A block's next as its word has it: 0 for none, k + 1 for block k.
+struct Link(u16);
 
 // Where a command leads: to the command after it, or out of the block.
 enum Flow {
@@ -57,14 +60,21 @@ fn store_at(vars: &mut [i32], k: i32, x: i32)
     }
 }
 
-// A link is 0 for none, k + 1 for block k.
-fn follow_link(link: u16) -> Step
-    ensures { λ r. ⌜ ((v : List ℤ) → follow (linkIn link) v ≡ outcomeOf r v) ⌝ }
+// The block that a word names.
+fn block_no(word: u16) -> BlockNo
+    ensures { λ r. ⌜ r ≡ record { 0 = word } ⌝ }
 {
-    if link == 0 {
+    BlockNo(word as u32)
+}
+
+fn follow_link(link: Link) -> Step
+    ensures { λ r. ⌜ ((v : List ℤ) → follow (linkIn (link .0)) v ≡ outcomeOf r v) ⌝ }
+{
+    let word = link.0;
+    if word == 0 {
         return Step::Halt(14);
     }
-    Step::Next(link - 1)
+    Step::Next(block_no(word - 1))
 }
 
 // The write of a Set whose target and value are worth t and e, the target's refusal first. Both are matched here: matched
@@ -110,8 +120,8 @@ fn if_else(
     ws: &[u16; 98304],
     val: &[i32; 32768],
     condition: u16,
-    other: u16,
-    link: u16,
+    other: BlockNo,
+    link: Link,
     items: &[i16],
     atcs: &[u8],
     flags: &[u8],
@@ -119,7 +129,7 @@ fn if_else(
     vars: &[i32; 1024],
 ) -> Step
     requires { ⌜ condition < nodeLimit ⌝ }
-    ensures { λ r. ⌜ ((n : ℕ) → Flows (reads (now (items .entry)) (now (atcs .entry)) (now (flags .entry)) (now (times .entry))) (linkIn link) (ifElse (tree (nodesIn (now (ws .entry)) (now (val .entry)) n) condition) other) (now (vars .entry)) (Flow.Out r) (now (vars .entry))) ⌝ }
+    ensures { λ r. ⌜ ((n : ℕ) → Flows (reads (now (items .entry)) (now (atcs .entry)) (now (flags .entry)) (now (times .entry))) (linkIn (link .0)) (ifElse (tree (nodesIn (now (ws .entry)) (now (val .entry)) n) condition) (other .0)) (now (vars .entry)) (Flow.Out r) (now (vars .entry))) ⌝ }
 {
     let t = evaluate(
         ws,
@@ -149,7 +159,7 @@ fn command(
     val: &[i32; 32768],
     cw: &[u16; 65536],
     c: u16,
-    link: u16,
+    link: Link,
     items: &[i16],
     atcs: &[u8],
     flags: &[u8],
@@ -157,24 +167,36 @@ fn command(
     vars: &mut [i32; 1024],
 ) -> Flow
     requires { ⌜ Readable (now cw) c ⌝ }
-    ensures { λ r. ⌜ ((n m : ℕ) → Flows (reads (now (items .entry)) (now (atcs .entry)) (now (flags .entry)) (now (times .entry))) (linkIn link) (commandIn (codedIn (now (ws .entry)) (now (val .entry)) (now (cw .entry)) n m) c) (now (vars .entry)) r (now (vars .exit))) ⌝ }
+    ensures { λ r. ⌜ ((n m : ℕ) → Flows (reads (now (items .entry)) (now (atcs .entry)) (now (flags .entry)) (now (times .entry))) (linkIn (link .0)) (commandIn (codedIn (now (ws .entry)) (now (val .entry)) (now (cw .entry)) n m) c) (now (vars .entry)) r (now (vars .exit))) ⌝ }
 {
     let at = c as usize;
     let kind = cw[4 * at];
     let first = cw[4 * at + 1];
     let second = cw[4 * at + 2];
     let block = cw[4 * at + 3];
+    let target = block_no(block);
     match kind {
         0 => Flow::Out(Step::Done),
-        1 => Flow::Out(Step::Next(block)),
+        1 => Flow::Out(Step::Next(target)),
         2 => {
             if block != 0 {
                 return Flow::Out(Step::Halt(13));
             }
             set_variable(ws, val, first, second, items, atcs, flags, times, vars)
         }
-        3 => Flow::Out(if_else(ws, val, first, block, link, items, atcs, flags, times, vars)),
-        4 => Flow::Out(Step::Next(block)),
+        3 => Flow::Out(if_else(
+            ws,
+            val,
+            first,
+            target,
+            link,
+            items,
+            atcs,
+            flags,
+            times,
+            vars,
+        )),
+        4 => Flow::Out(Step::Next(target)),
         _ => Flow::Out(Step::Halt(13)),
     }
 }
@@ -188,7 +210,7 @@ fn execute_block(
     cw: &[u16; 65536],
     first: u16,
     many: u16,
-    link: u16,
+    link: Link,
     items: &[i16],
     atcs: &[u8],
     flags: &[u8],
@@ -196,7 +218,7 @@ fn execute_block(
     vars: &mut [i32; 1024],
 ) -> Step
     requires { ⌜ Readables (now cw) first many ⌝ }
-    ensures { λ r. ⌜ ((n m : ℕ) → outcomeOf r (now (vars .exit)) ≡ execute (reads (now (items .entry)) (now (atcs .entry)) (now (flags .entry)) (now (times .entry))) (linkIn link) (commandsIn (codedIn (now (ws .entry)) (now (val .entry)) (now (cw .entry)) n m) many first) (now (vars .entry))) ⌝ }
+    ensures { λ r. ⌜ ((n m : ℕ) → outcomeOf r (now (vars .exit)) ≡ execute (reads (now (items .entry)) (now (atcs .entry)) (now (flags .entry)) (now (times .entry))) (linkIn (link .0)) (commandsIn (codedIn (now (ws .entry)) (now (val .entry)) (now (cw .entry)) n m) many first) (now (vars .entry))) ⌝ }
 {
     let mut i = 0;
     while i < many {
@@ -231,7 +253,7 @@ fn step_block(
     cw: &[u16; 65536],
     bw: &[u16; 20480],
     counts: Counts,
-    b: u32,
+    b: BlockNo,
     items: &[i16],
     atcs: &[u8],
     flags: &[u8],
@@ -239,12 +261,13 @@ fn step_block(
     vars: &mut [i32; 1024],
 ) -> Step
     requires { ⌜ Ready (now cw) (now bw) (counts .blocks) ⌝ }
-    ensures { λ r. ⌜ outcomeOf r (now (vars .exit)) ≡ step (scriptOf (memoryIn (now (ws .entry)) (now (val .entry)) (now (cw .entry)) (now (bw .entry)) (counts .nodes) (counts .commands) (counts .blocks)) .blocks) (reads (now (items .entry)) (now (atcs .entry)) (now (flags .entry)) (now (times .entry))) b (now (vars .entry)) ⌝ }
+    ensures { λ r. ⌜ outcomeOf r (now (vars .exit)) ≡ step (scriptOf (memoryIn (now (ws .entry)) (now (val .entry)) (now (cw .entry)) (now (bw .entry)) (counts .nodes) (counts .commands) (counts .blocks)) .blocks) (reads (now (items .entry)) (now (atcs .entry)) (now (flags .entry)) (now (times .entry))) (b .0) (now (vars .entry)) ⌝ }
 {
-    if b >= counts.blocks as u32 {
+    let n = b.0;
+    if n >= counts.blocks as u32 {
         return Step::Halt(13);
     }
-    let at = b as usize;
+    let at = n as usize;
     let kind = bw[5 * at];
     if kind != 1 {
         return Step::Halt(13);
@@ -258,7 +281,7 @@ fn step_block(
         cw,
         first,
         many,
-        link,
+        Link(link),
         items,
         atcs,
         flags,
@@ -285,14 +308,14 @@ fn run_blocks(
     requires { ⌜ Ready (now cw) (now bw) (counts .blocks) ⌝ }
     ensures { λ r. ⌜ ranOf r (now (vars .exit)) ≡ run (scriptOf (memoryIn (now (ws .entry)) (now (val .entry)) (now (cw .entry)) (now (bw .entry)) (counts .nodes) (counts .commands) (counts .blocks)) .blocks) (reads (now (items .entry)) (now (atcs .entry)) (now (flags .entry)) (now (times .entry))) budget (start .0) (now (vars .entry)) ⌝ }
 {
-    let mut b = start.0;
+    let mut b = start;
     let mut entered = 0;
     while entered < budget {
         let s = step_block(ws, val, cw, bw, counts, b, items, atcs, flags, times, vars);
         entered += 1;
         match s {
             Step::Next(k) => {
-                b = k as u32;
+                b = k;
             }
             Step::Done => {
                 return Ran {

@@ -120,6 +120,21 @@ mod shops {
             lens: *const [u8; NUM_SLOTS],
         ) -> Kept;
 
+        pub fn lk_with_slots(
+            items: *const i32,
+            items_len: usize,
+            limits: *const i16,
+            limits_len: usize,
+            codes: *const u64,
+            codes_len: usize,
+            lens: *const u8,
+            lens_len: usize,
+            to_items: *mut [i32; NUM_SLOTS],
+            to_limits: *mut [i16; NUM_SLOTS],
+            to_codes: *mut Codes,
+            to_lens: *mut [u8; NUM_SLOTS],
+        );
+
         pub fn lk_parse(
             attached: *const u8,
             attached_len: usize,

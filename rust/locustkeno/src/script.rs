@@ -185,8 +185,7 @@ mod shops {
         pub fn compile(&mut self, sheet: &Sheet, setup: u32, shop: &Shop) -> Result<(), Refused> {
             let a = &mut self.arrays;
             let [timer5, timer10, timer15] = sheet.timers.map(|item| item.0);
-            let mut arrays = ShopArrays::new();
-            arrays.fill(shop);
+            let arrays = shop.arrays();
             // SAFETY: the slice and the arrays are as the library takes them, and none overlaps.
             let kept = unsafe {
                 ffi::lk_compile(
@@ -218,7 +217,7 @@ mod shops {
         pub fn parse(&self, sheet: &Sheet, setup: u32) -> Result<Shop, Refused> {
             let a = &self.arrays;
             let [timer5, timer10, timer15] = sheet.timers.map(|item| item.0);
-            let mut shop = ShopArrays::new();
+            let mut shop = Box::new(ShopArrays::new());
             // SAFETY: as in `compile`.
             let refusal = unsafe {
                 ffi::lk_parse(
@@ -242,7 +241,7 @@ mod shops {
                     &mut shop.lens,
                 )
             };
-            Refused::check(refusal).map(|()| shop.shop())
+            Refused::check(refusal).map(|()| Shop::from_arrays(shop))
         }
     }
 
@@ -257,8 +256,7 @@ mod shops {
         /// What the shop means for a save, with refusals 1, 8 and 12.
         pub fn preview(&self, sheet: &Sheet, save: &Save) -> Result<Preview, Refused> {
             let [timer5, timer10, timer15] = sheet.timers.map(|item| item.0);
-            let mut shop = ShopArrays::new();
-            shop.fill(self);
+            let shop = self.arrays();
             // SAFETY: nothing is written.
             let seen = unsafe {
                 ffi::lk_preview(

@@ -1,6 +1,7 @@
 //! Requirements, slots and shops.
 
 use crate::{Atc, Item};
+use std::fmt;
 
 /// The number of slots in a shop.
 pub const NUM_SLOTS: usize = 20;
@@ -36,7 +37,7 @@ pub struct Slot {
     pub requirements: Vec<Requirement>,
 }
 
-/// A shop: twenty slots.
+/// A shop: twenty slots, held as the four arrays that the library takes.
 ///
 /// ```
 /// use locustkeno::{Item, Shop, Slot};
@@ -46,42 +47,73 @@ pub struct Slot {
 /// assert_eq!(shop.slots()[0], slot);
 /// assert_eq!(shop.slots()[19], Slot::default());
 /// ```
-#[derive(Debug, Clone, PartialEq, Eq)]
+#[derive(Clone, PartialEq, Eq)]
 pub struct Shop {
-    slots: Vec<Slot>,
+    arrays: Box<ShopArrays>,
 }
 
 impl Shop {
-    /// A shop with these slots: those past the twentieth are dropped unchecked, missing ones are
-    /// empty.
+    /// A shop with these slots, however many: the library drops those past the twentieth unchecked and
+    /// makes missing ones empty.
     pub fn with_slots(slots: impl IntoIterator<Item = Slot>) -> Self {
-        let mut slots: Vec<Slot> = slots.into_iter().take(NUM_SLOTS).collect();
-        slots.resize(NUM_SLOTS, Slot::default());
-        Self { slots }
+        let mut given = Given::default();
+        // One past the twentieth is enough to be dropped: slots may come without end, as in the source.
+        let slots = slots.into_iter().take(NUM_SLOTS + 1);
+        slots.for_each(|slot| given.push(&slot));
+        let mut arrays = Box::new(ShopArrays::new());
+        given.put(&mut arrays);
+        Self { arrays }
     }
 
-    /// The twenty slots.
-    pub fn slots(&self) -> &[Slot] {
-        &self.slots
+    /// The twenty slots. A slot that was given over 32 entries, with which every call refuses the shop
+    /// (8), shows the first 32.
+    pub fn slots(&self) -> Vec<Slot> {
+        (0..NUM_SLOTS).map(|i| self.arrays.slot(i)).collect()
+    }
+
+    /// The shop that the library left in the arrays.
+    pub(crate) fn from_arrays(arrays: Box<ShopArrays>) -> Self {
+        Self { arrays }
+    }
+
+    pub(crate) fn arrays(&self) -> &ShopArrays {
+        &self.arrays
     }
 }
 
+impl fmt::Debug for Shop {
+    fn fmt(&self, f: &mut fmt::Formatter<'_>) -> fmt::Result {
+        f.debug_list().entries(self.slots()).finish()
+    }
+}
+
+use crossing::Given;
 pub(crate) use crossing::{Codes, ShopArrays};
 
-/// A shop as the library's arrays, there and back.
+/// Slots as the library takes them, there and back.
 mod crossing {
-    use super::{ENTRIES, NUM_SLOTS, Requirement, Shop, Slot};
-    use crate::{Atc, Item};
+    use super::{ENTRIES, NUM_SLOTS, Requirement, Slot};
+    use crate::{Atc, Item, ffi};
 
     /// The codes of the requirements, 32 for each slot.
     pub type Codes = [u64; NUM_SLOTS * ENTRIES];
 
     /// A shop as four arrays: no item is -1, and a length over 32 counts as that many entries.
+    #[derive(Clone, PartialEq, Eq)]
     pub struct ShopArrays {
         pub items: [i32; NUM_SLOTS],
         pub limits: [i16; NUM_SLOTS],
         pub codes: Codes,
         pub lens: [u8; NUM_SLOTS],
+    }
+
+    /// Any number of slots, each with 32 codes.
+    #[derive(Default)]
+    pub struct Given {
+        items: Vec<i32>,
+        limits: Vec<i16>,
+        codes: Vec<u64>,
+        lens: Vec<u8>,
     }
 
     /// The kind times 2^32, plus the number, plus 2^31.
@@ -122,31 +154,51 @@ mod crossing {
             }
         }
 
-        /// Puts a shop into the arrays of an empty one, where they lie: five kilobytes handed back would be copied.
-        pub fn fill(&mut self, shop: &Shop) {
-            for (i, slot) in shop.slots.iter().enumerate() {
-                self.items[i] = slot.item.map_or(-1, |item| item.0.into());
-                self.limits[i] = slot.limit;
-                self.lens[i] = u8::try_from(slot.requirements.len()).unwrap_or(u8::MAX);
-                let row = &mut self.codes[ENTRIES * i..][..ENTRIES];
-                for (place, entry) in row.iter_mut().zip(&slot.requirements) {
-                    *place = code(*entry);
-                }
-            }
-        }
-
-        /// The shop that the library left in the arrays.
-        pub fn shop(&self) -> Shop {
-            let slot = |i: usize| Slot {
+        /// Slot i.
+        pub fn slot(&self, i: usize) -> Slot {
+            let len = ENTRIES.min(self.lens[i].into());
+            Slot {
                 item: u16::try_from(self.items[i]).ok().map(Item),
                 limit: self.limits[i],
-                requirements: self.codes[ENTRIES * i..][..self.lens[i].into()]
+                requirements: self.codes[ENTRIES * i..][..len]
                     .iter()
                     .map(|code| requirement(*code))
                     .collect(),
-            };
-            Shop {
-                slots: (0..NUM_SLOTS).map(slot).collect(),
+            }
+        }
+    }
+
+    impl Given {
+        /// One slot more. Entries past the 32nd have no place among the codes, but count.
+        pub fn push(&mut self, slot: &Slot) {
+            self.items.push(slot.item.map_or(-1, |item| item.0.into()));
+            self.limits.push(slot.limit);
+            self.lens
+                .push(u8::try_from(slot.requirements.len()).unwrap_or(u8::MAX));
+            let end = self.codes.len() + ENTRIES;
+            let entries = slot.requirements.iter().take(ENTRIES);
+            self.codes.extend(entries.map(|entry| code(*entry)));
+            self.codes.resize(end, 0);
+        }
+
+        /// The twenty slots of a shop into its arrays.
+        pub fn put(&self, to: &mut ShopArrays) {
+            // SAFETY: the slices and the arrays are as the library takes them, and none overlaps.
+            unsafe {
+                ffi::lk_with_slots(
+                    self.items.as_ptr(),
+                    self.items.len(),
+                    self.limits.as_ptr(),
+                    self.limits.len(),
+                    self.codes.as_ptr(),
+                    self.codes.len(),
+                    self.lens.as_ptr(),
+                    self.lens.len(),
+                    &mut to.items,
+                    &mut to.limits,
+                    &mut to.codes,
+                    &mut to.lens,
+                );
             }
         }
     }

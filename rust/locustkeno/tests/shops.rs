@@ -165,3 +165,26 @@ fn too_many_entries() {
     let unknown = Shop::with_slots([slot(65_535, 3, &[])]);
     assert_eq!(script.compile(&sheet(), 0, &unknown), Err(Refused(8)));
 }
+
+/// Further slots are dropped unchecked, missing ones are empty.
+#[test]
+fn any_number_of_slots() {
+    let given = slot(7, 3, &[Requirement::HaveFlag(1)]);
+    for count in [0, 19, 20, 21] {
+        let shop = Shop::with_slots(vec![given.clone(); count]);
+        let kept = count.min(20);
+        assert_eq!(shop.slots()[..kept], vec![given.clone(); kept]);
+        assert_eq!(shop.slots()[kept..], vec![Slot::default(); 20 - kept]);
+        assert_eq!(one_return().compile(&sheet(), 0, &shop), Ok(()));
+    }
+    // An item on no sheet and over 32 entries, as the 21st and as the 20th.
+    let bad = slot(65_535, 3, &[Requirement::HaveFlag(1); 33]);
+    let mut slots = vec![given.clone(); 21];
+    slots[20] = bad.clone();
+    let dropped = Shop::with_slots(slots.clone());
+    assert_eq!(dropped, Shop::with_slots(vec![given; 20]));
+    assert_eq!(one_return().compile(&sheet(), 0, &dropped), Ok(()));
+    slots[19] = bad;
+    let kept = Shop::with_slots(slots);
+    assert_eq!(one_return().compile(&sheet(), 0, &kept), Err(Refused(8)));
+}

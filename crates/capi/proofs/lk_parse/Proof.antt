@@ -10,7 +10,7 @@ parse-arrays-requires : tie.Need-parse-arrays-requires
 parse-arrays-requires c κs = search needs
 
 returns : tie.Need-returns
-returns c = let p = rw (c .before .before .before .before .before .sheet-by .ensures) at (c .parse-arrays .ensures) in (p .refusal, p .arrays)
+returns c = rw (c .before .before .before .before .before .sheet-by .ensures) at (c .parse-arrays .ensures)
 
 pub lk-parse-spec : {M : Type 1} → statement M
 lk-parse-spec = tie.close (tie.spec sheet-by-requires parse-arrays-requires returns)

@@ -52,44 +52,47 @@ mul-block-2 c = search needs
 element-copy-out-block : tie.Need-element-copy-out-block
 element-copy-out-block c = search needs
 
+block-no-requires : tie.Need-block-no-requires
+block-no-requires c κs = search needs
+
 returns : tie.Need-returns
 returns c =
-    let s = c .before .before .before .before .before .before .before .before in
+    let s = c .before .before .before .before .before .before .before .before .before in
     λ n m. flows-as _ _ (is-set-other (codedIn (s .args .ws .now) (s .args .val .now) (s .args .cw .now) n m) (s .args .c) (c .before .match .keys3) (c .if1 .taken)) (flows-out (λ cs. refl))
 
 set-variable-requires : tie.Need-set-variable-requires
 set-variable-requires c κs =
     let a = c .before .before in
-    let b = a .before .before .before .before .before .before .before in
+    let b = a .before .before .before .before .before .before .before .before in
     (b .pre .target (a .match .keys3) (c .before .if1 .left), b .pre .value (a .match .keys3))
 
 if-else-requires : tie.Need-if-else-requires
-if-else-requires c κs = c .before .before .before .before .before .before .before .before .pre .condition (c .before .match .keys4)
+if-else-requires c κs = c .before .before .before .before .before .before .before .before .before .pre .condition (c .before .match .keys4)
 
 returns-2 : tie.Need-returns-2
-returns-2 c = let s = c .before .before .before .before .before .before .before in λ n m. flows-as _ _ (is-return (codedIn (s .args .ws .now) (s .args .val .now) (s .args .cw .now) n m) (s .args .c) (c .match .keys1)) (flows-out (λ cs. refl))
+returns-2 c = let s = c .before .before .before .before .before .before .before .before in λ n m. flows-as _ _ (is-return (codedIn (s .args .ws .now) (s .args .val .now) (s .args .cw .now) n m) (s .args .c) (c .match .keys1)) (flows-out (λ cs. refl))
 
 returns-3 : tie.Need-returns-3
-returns-3 c = let s = c .before .before .before .before .before .before .before in λ n m. flows-as _ _ (is-goto (codedIn (s .args .ws .now) (s .args .val .now) (s .args .cw .now) n m) (s .args .c) (c .match .keys2)) (flows-out (λ cs. refl))
+returns-3 c = let s = c .before .before .before .before .before .before .before .before in λ n m. flows-as _ _ (is-goto (codedIn (s .args .ws .now) (s .args .val .now) (s .args .cw .now) n m) (s .args .c) (c .before .block-no .result) (c .before .block-no .ensures) (c .match .keys2)) (flows-out (λ cs. refl))
 
 returns-4 : tie.Need-returns-4
 returns-4 c =
     let a = c .before .before in
     let b = a .before in
-    let s = b .before .before .before .before .before .before .before in
-    λ n m. flows-as _ _ (is-set (codedIn (s .args .ws .now) (s .args .val .now) (s .args .cw .now) n m) (s .args .c) (b .match .keys3) (a .if1 .left)) (c .set-variable .ensures n (linkIn (s .args .link)))
+    let s = b .before .before .before .before .before .before .before .before in
+    λ n m. flows-as _ _ (is-set (codedIn (s .args .ws .now) (s .args .val .now) (s .args .cw .now) n m) (s .args .c) (b .match .keys3) (a .if1 .left)) (c .set-variable .ensures n (linkIn (s .args .link .0)))
 
 returns-5 : tie.Need-returns-5
 returns-5 c =
     let a = c .before .before in
-    let s = a .before .before .before .before .before .before .before in
-    λ n m. flows-as _ _ (is-if (codedIn (s .args .ws .now) (s .args .val .now) (s .args .cw .now) n m) (s .args .c) (a .match .keys4)) (c .if-else .ensures n)
+    let s = a .before .before .before .before .before .before .before .before in
+    λ n m. flows-as _ _ (is-if (codedIn (s .args .ws .now) (s .args .val .now) (s .args .cw .now) n m) (s .args .c) (a .before .block-no .result) (a .before .block-no .ensures) (a .match .keys4)) (c .if-else .ensures n)
 
 returns-6 : tie.Need-returns-6
-returns-6 c = let s = c .before .before .before .before .before .before .before in λ n m. flows-as _ _ (is-end (codedIn (s .args .ws .now) (s .args .val .now) (s .args .cw .now) n m) (s .args .c) (c .match .keys5)) (flows-out (λ cs. refl))
+returns-6 c = let s = c .before .before .before .before .before .before .before .before in λ n m. flows-as _ _ (is-end (codedIn (s .args .ws .now) (s .args .val .now) (s .args .cw .now) n m) (s .args .c) (c .before .block-no .result) (c .before .block-no .ensures) (c .match .keys5)) (flows-out (λ cs. refl))
 
 returns-7 : tie.Need-returns-7
-returns-7 c = let s = c .before .before .before .before .before .before .before in λ n m. flows-as _ _ (is-other (codedIn (s .args .ws .now) (s .args .val .now) (s .args .cw .now) n m) (s .args .c) (omega (arith, c .match .rest))) (flows-out (λ cs. refl))
+returns-7 c = let s = c .before .before .before .before .before .before .before .before in λ n m. flows-as _ _ (is-other (codedIn (s .args .ws .now) (s .args .val .now) (s .args .cw .now) n m) (s .args .c) (omega (arith, c .match .rest))) (flows-out (λ cs. refl))
 
 pub command-spec : {M : Type 1} → statement M
 command-spec =
@@ -110,6 +113,7 @@ command-spec =
     add-block
     mul-block-2
     element-copy-out-block
+    block-no-requires
     returns
     set-variable-requires
     if-else-requires

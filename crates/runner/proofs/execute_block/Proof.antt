@@ -9,7 +9,7 @@ use Rattle.runner.proofs.execute_block.Statement.{statement}
 use Rattle.runner.proofs.execute_block.Tie as tie
 
 abbrev Inv-loop : tie.InvT-loop
-Inv-loop ws val cw first many link items atcs flags times vars₀ i₀ vars i = Passed (reads items atcs flags times) (linkIn link) ws val cw first many vars₀ vars i
+Inv-loop ws val cw first many link items atcs flags times vars₀ i₀ vars i = Passed (reads items atcs flags times) (linkIn (link .0)) ws val cw first many vars₀ vars i
 
 abbrev μ-loop : tie.MeasureT-loop
 μ-loop ws val cw first many link items atcs flags times vars₀ i₀ vars i = many - i

@@ -5,13 +5,16 @@ use Rattle.runner.proofs.follow_link.Statement.{statement}
 use Rattle.runner.proofs.follow_link.Tie as tie
 
 returns : tie.Need-returns
-returns c = link-none (c .before .args .link) (c .if1 .taken)
+returns c = link-none (c .before .args .link .0) (c .if1 .taken)
 
-sub-t3 : tie.Need-sub-t3
-sub-t3 c = search needs
+sub-block-no : tie.Need-sub-block-no
+sub-block-no c = search needs
+
+block-no-requires : tie.Need-block-no-requires
+block-no-requires c κs = search needs
 
 returns-2 : tie.Need-returns-2
-returns-2 c = link-some (c .before .args .link) (c .if1 .left)
+returns-2 c = link-some (c .before .before .args .link .0) (c .block-no .result) (c .before .if1 .left) (c .block-no .ensures)
 
 pub follow-link-spec : {M : Type 1} → statement M
-follow-link-spec = tie.close (tie.spec returns sub-t3 returns-2)
+follow-link-spec = tie.close (tie.spec returns sub-block-no block-no-requires returns-2)

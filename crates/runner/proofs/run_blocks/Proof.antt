@@ -9,7 +9,7 @@ use Rattle.runner.proofs.run_blocks.Statement.{statement}
 use Rattle.runner.proofs.run_blocks.Tie as tie
 
 abbrev Inv-loop : tie.InvT-loop
-Inv-loop ws val cw bw counts items atcs flags times vars₀ budget b₀ entered₀ vars b entered = Entered (scriptOf (memoryIn ws val cw bw (counts .nodes) (counts .commands) (counts .blocks)) .blocks) (reads items atcs flags times) budget b₀ vars₀ entered b vars
+Inv-loop ws val cw bw counts items atcs flags times vars₀ budget b₀ entered₀ vars b entered = Entered (scriptOf (memoryIn ws val cw bw (counts .nodes) (counts .commands) (counts .blocks)) .blocks) (reads items atcs flags times) budget (b₀ .0) vars₀ entered (b .0) vars
 
 abbrev μ-loop : tie.MeasureT-loop
 μ-loop ws val cw bw counts items atcs flags times vars₀ budget b₀ entered₀ vars b entered = budget - entered
@@ -25,9 +25,6 @@ add-entered c = search needs
 
 enum-known-s : tie.Need-enum-known-s Inv-loop μ-loop
 enum-known-s c = search needs
-
-cast-b : tie.Need-cast-b Inv-loop μ-loop
-cast-b c = search needs
 
 loop-less : tie.Need-loop-less Inv-loop μ-loop
 loop-less c = omega arith
@@ -72,7 +69,6 @@ run-blocks-spec =
     step-block-requires
     add-entered
     enum-known-s
-    cast-b
     loop-less
     loop-again
     enum-told

@@ -12,7 +12,10 @@ cast-if1 c = search needs
 returns : tie.Need-returns
 returns c =
     let s = c .before .before .before .before in
-    step-none (memoryIn (s .args .ws .now) (s .args .val .now) (s .args .cw .now) (s .args .bw .now) (s .args .counts .nodes) (s .args .counts .commands) (s .args .counts .blocks)) (reads (s .args .items .now) (s .args .atcs .now) (s .args .flags .now) (s .args .times .now)) (s .args .b) (s .args .vars .now) (c .if1 .taken)
+    step-none (memoryIn (s .args .ws .now) (s .args .val .now) (s .args .cw .now) (s .args .bw .now) (s .args .counts .nodes) (s .args .counts .commands) (s .args .counts .blocks)) (reads (s .args .items .now) (s .args .atcs .now) (s .args .flags .now) (s .args .times .now)) (s .args .b .0) (s .args .vars .now) (c .if1 .taken)
+
+cast-at : tie.Need-cast-at
+cast-at c = search needs
 
 mul-kind : tie.Need-mul-kind
 mul-kind c = search needs
@@ -27,7 +30,7 @@ returns-2 : tie.Need-returns-2
 returns-2 c =
     let a = c .before .before in
     let s = a .before .before .before .before in
-    step-not-code (memoryIn (s .args .ws .now) (s .args .val .now) (s .args .cw .now) (s .args .bw .now) (s .args .counts .nodes) (s .args .counts .commands) (s .args .counts .blocks)) (reads (s .args .items .now) (s .args .atcs .now) (s .args .flags .now) (s .args .times .now)) (s .args .b) (s .args .vars .now) (a .if1 .left) (c .if2 .taken)
+    step-not-code (memoryIn (s .args .ws .now) (s .args .val .now) (s .args .cw .now) (s .args .bw .now) (s .args .counts .nodes) (s .args .counts .commands) (s .args .counts .blocks)) (reads (s .args .items .now) (s .args .atcs .now) (s .args .flags .now) (s .args .times .now)) (s .args .b .0) (s .args .vars .now) (a .if1 .left) (c .if2 .taken)
 
 mul-first : tie.Need-mul-first
 mul-first c = search needs
@@ -70,14 +73,14 @@ execute-block-requires c κs =
     let a = c .before .before .before .before in
     let d = a .before .before in
     let e = d .before .before .before .before in
-    e .pre .commands (e .args .b) (d .if1 .left) (a .if2 .left)
+    e .pre .commands (e .args .b .0) (d .if1 .left) (a .if2 .left)
 
 returns-3 : tie.Need-returns-3
 returns-3 c =
     let a = c .before .before .before .before .before in
     let d = a .before .before in
     let s = d .before .before .before .before in
-    step-code (memoryIn (s .args .ws .now) (s .args .val .now) (s .args .cw .now) (s .args .bw .now) (s .args .counts .nodes) (s .args .counts .commands) (s .args .counts .blocks)) (reads (s .args .items .now) (s .args .atcs .now) (s .args .flags .now) (s .args .times .now)) (s .args .b) (s .args .vars .now) (d .if1 .left) (a .if2 .left) (c .execute-block .ensures (s .args .counts .nodes) (s .args .counts .commands))
+    step-code (memoryIn (s .args .ws .now) (s .args .val .now) (s .args .cw .now) (s .args .bw .now) (s .args .counts .nodes) (s .args .counts .commands) (s .args .counts .blocks)) (reads (s .args .items .now) (s .args .atcs .now) (s .args .flags .now) (s .args .times .now)) (s .args .b .0) (s .args .vars .now) (d .if1 .left) (a .if2 .left) (c .execute-block .ensures (s .args .counts .nodes) (s .args .counts .commands))
 
 pub step-block-spec : {M : Type 1} → statement M
 step-block-spec =
@@ -85,6 +88,7 @@ step-block-spec =
     (tie.spec
     cast-if1
     returns
+    cast-at
     mul-kind
     mul-kind-2
     element-copy-out-kind

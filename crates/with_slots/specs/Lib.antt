@@ -1,0 +1,2 @@
+pub mod Twenty
+pub mod Slots
