@@ -63,7 +63,9 @@ fn check(tally: &mut Tally, random: &mut Random, sheet: &Sheet, setup: u32, a: &
     let answers = [
         script.run(&sheet_of, setup, &mut save, 9).refusal,
         script.parse(&sheet_of, setup).err(),
-        script.compile(&sheet_of, setup, &Shop::with_slots([])).err(),
+        script
+            .compile(&sheet_of, setup, &Shop::with_slots([]))
+            .err(),
     ]
     .map(|refused| refused.map(|refused| refused.0));
     tally.same("calls on a recounted record", &answers, &[judged; 3], case);
@@ -85,7 +87,9 @@ pub fn random(tally: &mut Tally, random: &mut Random, count: usize) {
         let over = a.nodes > 32_768 || a.commands > 16_384;
         let refused = judge::judge(&a).err().map(|refusal| refusal.0);
         let expected = (under || over).then_some(3);
-        tally.same("a count that is off", &refused, &expected, || format!("input {input:?}"));
+        tally.same("a count that is off", &refused, &expected, || {
+            format!("input {input:?}")
+        });
         check(tally, random, &input.sheet, input.setup, &a);
     }
 }
