@@ -29,14 +29,7 @@ pub struct Acquired {
 }
 
 // A node over two operands.
-fn push_two(
-    ws: &mut [u16; 98304],
-    val: &mut [i32; 32768],
-    n: u16,
-    o: Op2,
-    a: u16,
-    b: u16,
-) -> u16
+fn push_two(ws: &mut [u16; 98304], val: &mut [i32; 32768], n: u16, o: Op2, a: u16, b: u16) -> u16
     requires { ⌜ n < 32768 ⌝ }
     ensures { λ m. ⌜ PushedNode (nodesIn (now (ws .entry)) (now (val .entry)) n) (code2 o) a b (pos 0) (nodesIn (now (ws .exit)) (now (val .exit)) m) ⌝ }
 {
@@ -297,4 +290,3 @@ pub fn push_below(ws: &mut [u16; 98304], val: &mut [i32; 32768], n: u16) -> u16
     let n2 = push_imm16(ws, val, n1, 0);
     push_two(ws, val, n2, Op2::Less, n1 - 1, n2 - 1)
 }
-
