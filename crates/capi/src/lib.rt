@@ -222,12 +222,12 @@ pub extern "C" fn lk_compile(
         codes,
         lens,
     );
-    let k = r.counts;
+    let kept = r.counts;
     Kept {
         refusal: r.refusal,
-        nodes: k.nodes,
-        commands: k.commands,
-        blocks: k.blocks,
+        nodes: kept.nodes,
+        commands: kept.commands,
+        blocks: kept.blocks,
     }
 }
 
