@@ -1,1 +1,5 @@
 pub mod LastIf
+pub mod Entries
+pub mod Chains
+pub mod State
+pub mod Joins

@@ -1,0 +1,5 @@
+pub mod Chains
+pub mod Filter
+pub mod Marks
+pub mod Members
+pub mod ChainLaws

@@ -1,0 +1,6 @@
+pub mod Entries
+pub mod Turns
+pub mod Search
+pub mod Reads
+pub mod Tables
+pub mod Growth
