@@ -40,6 +40,7 @@ Finds = Sheet → Expr → List Requirement
 pub record Added (ws : List ℕ) (vs : List ℤ) (k : Known) (b i : ℕ) (g : Finds) (r : ℕ) (ks ls ks' kd' cs' ls' : List ℕ) (s : ℕ) : Type 0 where
   pub place : Place ks' kd' cs' ls' s
   pub grown : Grown ks (keysOf r) ks' (keysOf s)
+  pub long : length ls' ≡ length ls
   pub up : usedOf r ≤ usedOf s
   pub few : keysOf s + usedOf r ≤ keysOf r + usedOf s
   pub same : (j : ℕ) → j < usedOf r → getD ls' j 0 ≡ getD ls j 0

@@ -1,17 +1,13 @@
 -- The chain of a condition link by link, and that it stays where tables grow. Assumes nothing.
 use mathlib.Core.Path.{_≡_, refl, sym, ap, _∙_}
 use mathlib.Core.Bool.{Bool, true, false, cond}
-use mathlib.Core.List.{List, [], _∷_, _++_, map, append-assoc}
+use mathlib.Core.List.{List, [], _++_, append-assoc, append-nil}
 use Prim.Native.Nat.{ℕ, zero, suc, _+_, _*_, _-_, _/_, _%_, _≤_, _<_}
 use native.Mathlib.Omega.{arith}
 use lib.Dec.{leb, eqb}
 use lib.ListN.{getD, length}
 use borrow.Author.Tests.{leb-true, leb-false, le-leb, lt-leb, ne-eqb}
 use Rattle.parse_filter.specs.Chains.{cellOf, joinedTo, partOf, entriesTo, entriesAbove, entriesIn, reachedTo, reached, topOf, toOf, CellAt}
-
-append-nil : (l : List ℕ) → l ++ [] ≡ l
-append-nil [] = refl
-append-nil (x ∷ l) = rw (append-nil l)
 
 module _ (cs cells list : List ℕ) (b : ℕ) where
   -- the number is depth enough

@@ -149,7 +149,7 @@ unfolding sortedCodes sorted
 item-sorted [] = refl
 item-sorted (c ∷ cs) = item-insert c (sortedCodes cs) ∙ ap (insert (haveItem c)) (item-sorted cs)
 
-member-sorted : (q : Requirement) (rs : List Requirement) → member q (sorted rs) ≡ member q rs
+pub member-sorted : (q : Requirement) (rs : List Requirement) → member q (sorted rs) ≡ member q rs
 unfolding sorted member
 member-sorted q [] = refl
 member-sorted q (r ∷ rs) = member-insert q r (sorted rs) ∙ rw (member-sorted q rs)

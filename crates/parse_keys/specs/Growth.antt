@@ -41,17 +41,21 @@ zero-at n p = by (ltb p n) refl
     by true e = getD-replicate n p 0 0 (ltb-true p n e)
     by false e = List·getD-eq-default (replicate {A = ℕ} n 0) 0 {n = p} (rw (length-replicate {A = ℕ} n 0) (ltb-false p n e))
 
-pub no-keys : (ks : List ℕ) (n : ℕ) (cs : List ℕ) → 0 < length ks → length ks ≤ 32767 → 2 * length ks ≤ n → 2 * length ks ≤ length cs → Tables ks (replicate n 0) cs 0
-no-keys ks n cs o s p q = record {
-  table = record {
-    keys = record { long = omega arith; subject = λ i p q. absurd (omega arith); once = λ i j p q. absurd (omega arith) };
-    up = λ p o. absurd (omega (arith, zero-at n p));
-    low = λ p. omega (arith, zero-at n p);
-    reached = λ i p q. absurd (omega arith);
-  };
-  companions = λ k v. absurd (omega (arith, v .low, v .high));
-  room = o;
-  small = s;
-  kids = rw (length-replicate {A = ℕ} n 0) p;
-  others = q;
-}
+pub tables-start : (n a c : ℕ) → 0 < n → n ≤ 32767 → 2 * n ≤ a → 2 * n ≤ c → Tables (replicate n 0) (replicate a 0) (replicate c 0) 0
+tables-start n a c o s p q =
+    let ln = length-replicate {A = ℕ} n 0 in
+    let la = length-replicate {A = ℕ} a 0 in
+    let lc = length-replicate {A = ℕ} c 0 in
+    record {
+      table = record {
+        keys = record { long = omega arith; subject = λ i p q. absurd (omega arith); once = λ i j p q. absurd (omega arith) };
+        up = λ p o. absurd (omega (arith, zero-at a p));
+        low = λ p. omega (arith, zero-at a p);
+        reached = λ i p q. absurd (omega arith);
+      };
+      companions = λ k v. absurd (omega (arith, v .low, v .high));
+      room = omega arith;
+      small = omega arith;
+      kids = omega arith;
+      others = omega arith;
+    }

@@ -8,12 +8,13 @@ use lib.IntN.{ℤ}
 use Rattle.model.specs.Limits.{wide}
 use Rattle.model.specs.Signed.{isZero}
 use Rattle.model.specs.Requirement.{Requirement}
-use Rattle.model.specs.Parse.{signed}
+use Rattle.model.specs.Sheet.{Sheet}
+use Rattle.model.specs.Parse.{readReq, signed}
 use Rattle.model.specs.declared.Op2.{Op2}
 use Rattle.model.specs.declared.Op2.the-variants.{Equal, NotEqual, Less, LessEqual, Greater, GreaterEqual, Add, Subtract, BitAnd, BitOr}
 use Rattle.model.specs.declared.Op1.{Op1}
-use Rattle.model.specs.declared.Op1.the-variants.{Not, Flag, Variable, Item, Atc, Time}
 use Rattle.shop.specs.Shapes.{shift, requirementOf}
+use Rattle.expr.specs.Requirement.{Has}
 use Rattle.parse_keys.specs.Entries.{InRange, odd, Subject}
 
 -- the number of an Imm, moved up by 2 ^ 31; 2 ^ 32 where there is none
@@ -30,15 +31,6 @@ idCode base n s = cond (ltb s half) 0 (cond (ltb (s - half) n) (base + s) 0)
 
 abbrev pub flagCode : ℕ → ℕ
 flagCode s = cond (ltb s wide) (4 * wide + s) 0
-
--- the code of what an operator reads, n items and a atcs being known; 0 for nothing
-abbrev pub readCode : ℕ → ℕ → Op1 → ℕ → ℕ
-readCode n a Not s = 0
-readCode n a Flag s = flagCode s
-readCode n a Variable s = 0
-readCode n a Item s = idCode 0 n s
-readCode n a Atc s = idCode (2 * wide) a s
-readCode n a Time s = 0
 
 -- the sign that a comparison with 0 gives to what it compares: 0 the same, 1 the other one, 2 where it tells nothing
 abbrev pub signOf : Op2 → ℕ
@@ -65,6 +57,21 @@ bitOf false = 0
 -- twice the code of a subject, and one more for Missing; 0 for no code
 abbrev pub signedCode : ℕ → Bool → ℕ
 signedCode c neg = cond (eqb c 0) 0 (2 * c + bitOf neg)
+
+pub record Codes (c : ℕ) (r : Requirement) : Type 0 where
+  pub some : 0 < c
+  pub subject : Subject c
+  pub is : requirementOf c ≡ r
+
+-- the code of a subject, or 0 for none
+abbrev pub Coded : ℕ → Option Requirement → Type 0
+Coded c none = c ≡ 0
+Coded c (some r) = Codes c r
+
+-- c is the code of what an operator reads by any sheet of n items and a atcs; it leaves room for a sign
+pub record ReadCode (n a : ℕ) (o : Op1) (s c : ℕ) : Type 0 where
+  pub is : (h : Sheet) (z : Option ℤ) → Has h n a → Numbered s z → Coded c (readReq h o z)
+  pub most : c < 8 * wide
 
 pub record Reads (x : ℕ) (r : Requirement) : Type 0 where
   pub some : 0 < x / 2

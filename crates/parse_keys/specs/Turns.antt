@@ -1,14 +1,15 @@
 -- Entries of the other sign. Assumes nothing.
-use mathlib.Core.Path.{_≡_, refl, sym}
-use mathlib.Core.Bool.{Bool, true, false}
+use mathlib.Core.Path.{_≡_, refl, sym, ap}
+use mathlib.Core.Bool.{Bool, true, false, not}
+use mathlib.Core.Option.{Option, none, some}
 use mathlib.Core.List.{List}
 use Prim.Native.Nat.{ℕ, _+_, _-_, _/_, _%_}
 use native.Mathlib.Omega.{arith}
 use lib.Dec.{eqb}
 use lib.ListN.{getD}
 use borrow.Author.Tests.{eq-eqb, ne-eqb, eqb-true, eqb-false}
-use Rattle.model.specs.Requirement.{negateReq}
-use Rattle.model.specs.Parse.{signed}
+use Rattle.model.specs.Requirement.{Requirement, negateReq}
+use Rattle.model.specs.Parse.{mapReq, signed}
 use Rattle.shop.specs.Shapes.{requirementOf}
 use Rattle.expr.specs.Requirement.{negate-twice}
 use Rattle.parse_keys.specs.Entries.{turned, entryReq, Valid}
@@ -54,3 +55,8 @@ turn-valid m k false v = rw (turn-plain k) v
 turn-valid m k true v = by-parity k
     (λ e. rw (turn-even k e) (record { low = omega (arith, v .low); high = omega (arith, v .high) }))
     (λ e. rw (turn-odd k e) (record { low = omega (arith, v .low); high = omega (arith, v .high) }))
+
+pub signs-meet : (n : Bool) (o : Option Requirement) → mapReq (signed n) (mapReq negateReq o) ≡ mapReq (signed (not n)) o
+signs-meet n none = refl
+signs-meet true (some r) = ap some (negate-twice r)
+signs-meet false (some r) = refl

@@ -1,21 +1,21 @@
 -- Entries of the tables read as requirements: they stay while tables grow, and the companions stand for the negations. Assumes nothing.
 use mathlib.Core.Path.{_≡_, refl, sym, ap, _∙_, subst}
-use mathlib.Core.Bool.{Bool, true, false, cond, _||_}
+use mathlib.Core.Bool.{Bool, true, false, cond}
 use mathlib.Core.Option.{Option, none, some}
 use mathlib.Core.List.{List, [], _∷_, _++_, map}
-use Prim.Native.Nat.{ℕ, zero, suc, _+_, _*_, _-_, _/_, _≤_, _<_}
+use Prim.Native.Nat.{ℕ, zero, suc, _+_, _*_, _≤_, _<_}
 use native.Mathlib.Omega.{arith}
 use native.Mathlib.Decide.{decLe}
 use lib.ListN.{getD, length}
-use lib.Dec.{eqb}
-use borrow.Author.Tests.{eqb-true}
 use lib.Seq.{slice, slice-empty, slice-cons}
 use Rattle.model.specs.Requirement.{Requirement, negateReq}
 use Rattle.parse_keys.specs.Entries.{entryReq, turned, Valid, Stand}
 use Rattle.parse_keys.specs.Tables.{Companions, Grown}
 use Rattle.parse_keys.specs.Turns.{turn-req, turn-valid}
+use Rattle.parse_keys.specs.Growth.{grown-stand}
 use Rattle.parse_conditions.specs.Listing.{Listing}
-use Rattle.parse_filter.specs.Chains.{companionOf, signedEntry, has}
+use Rattle.parse_conditions.specs.ListingLaws.{listing-length}
+use Rattle.parse_filter.specs.Chains.{companionOf, signedEntry}
 
 -- entries xs of m keys stand for the requirements qs, in their order
 abbrev pub Reads : List ℕ → ℕ → List ℕ → List Requirement → Type 0
@@ -30,23 +30,19 @@ reads-append ks m [] ys (q ∷ qs) rs p r = absurd p
 reads-append ks m (x ∷ xs) ys [] rs p r = absurd p
 reads-append ks m (x ∷ xs) ys (q ∷ qs) rs p r = (p .0, reads-append ks m xs ys qs rs (p .1) r)
 
+pub reads-map : (ks : List ℕ) (m : ℕ) (xs : List ℕ) (qs : List Requirement) → Reads ks m xs qs → map (entryReq ks) xs ≡ qs
+reads-map ks m [] [] p = refl
+reads-map ks m [] (q ∷ qs) p = absurd p
+reads-map ks m (x ∷ xs) [] p = absurd p
+reads-map ks m (x ∷ xs) (q ∷ qs) p = rw (p .0 .is, reads-map ks m xs qs (p .1))
+
 -- ---- keys grow
-
-same-req : (ks ks' : List ℕ) (m x : ℕ) → ((j : ℕ) → j ≤ m → getD ks' j 0 ≡ getD ks j 0) → Valid m x → entryReq ks' x ≡ entryReq ks x
-unfolding entryReq
-same-req ks ks' m x e v = rw (e (x / 2) (omega (arith, v .high)))
-
-pub stand-grown : (ks : List ℕ) (m : ℕ) (ks' : List ℕ) (n x : ℕ) (q : Requirement) → Grown ks m ks' n → Stand ks m x q → Stand ks' n x q
-stand-grown ks m ks' n x q g s = record {
-  valid = record { low = s .valid .low; high = omega (arith, s .valid .high, g .up) };
-  is = same-req ks ks' m x (g .same) (s .valid) ∙ s .is;
-}
 
 pub reads-grown : (ks : List ℕ) (m : ℕ) (ks' : List ℕ) (n : ℕ) → Grown ks m ks' n → (xs : List ℕ) (qs : List Requirement) → Reads ks m xs qs → Reads ks' n xs qs
 reads-grown ks m ks' n g [] [] p = tt
 reads-grown ks m ks' n g [] (q ∷ qs) p = absurd p
 reads-grown ks m ks' n g (x ∷ xs) [] p = absurd p
-reads-grown ks m ks' n g (x ∷ xs) (q ∷ qs) p = (stand-grown ks m ks' n x q g (p .0), reads-grown ks m ks' n g xs qs (p .1))
+reads-grown ks m ks' n g (x ∷ xs) (q ∷ qs) p = (grown-stand ks m ks' n x q g (p .0), reads-grown ks m ks' n g xs qs (p .1))
 
 -- ---- companions
 
@@ -64,27 +60,12 @@ reads-plain ks cs m [] (q ∷ qs) p = absurd p
 reads-plain ks cs m (x ∷ xs) [] p = absurd p
 reads-plain ks cs m (x ∷ xs) (q ∷ qs) p = (p .0, reads-plain ks cs m xs qs (p .1))
 
-pub reads-valid : (ks : List ℕ) (m : ℕ) (xs : List ℕ) (qs : List Requirement) → Reads ks m xs qs → (e : ℕ) → has e xs ≡ true → Valid m e
-unfolding has
-reads-valid ks m [] [] p e q = let z : _≡_ {A = ℕ} 0 1 = cc in absurd (omega arith)
-reads-valid ks m [] (r ∷ qs) p e q = absurd p
-reads-valid ks m (x ∷ xs) [] p e q = absurd p
-reads-valid ks m (x ∷ xs) (r ∷ qs) p e q = by (eqb e x) refl q (reads-valid ks m xs qs (p .1) e)
-  where
-    by : (t : Bool) → eqb e x ≡ t → t || has e xs ≡ true → (has e xs ≡ true → Valid m e) → Valid m e
-    by true z q ih = rw (eqb-true e x z) (p .0 .valid)
-    by false z q ih = ih q
-
 -- ---- a part of the list
-
-pub listing-up : (ks : List ℕ) (m : ℕ) (ls : List ℕ) (at : ℕ) (qs : List Requirement) (to : ℕ) → Listing ks m ls at qs to → at + length qs ≡ to
-listing-up ks m ls at [] to p = omega (arith, p)
-listing-up ks m ls at (q ∷ qs) to p = omega (arith, listing-up ks m ls (suc at) qs to (p .1))
 
 pub listing-reads : (ks : List ℕ) (m : ℕ) (ls : List ℕ) (at : ℕ) (qs : List Requirement) (to : ℕ) → to ≤ length ls → Listing ks m ls at qs to → Reads ks m (slice at to ls) qs
 listing-reads ks m ls at [] to h p = rw (p, slice-empty to ls) tt
 listing-reads ks m ls at (q ∷ qs) to h p =
-    let u = listing-up ks m ls (suc at) qs to (p .1) in
+    let u = listing-length ks m ls (suc at) qs to (p .1) in
     rw (slice-cons at to ls 0 (omega arith) h) (p .0, listing-reads ks m ls (suc at) qs to h (p .1))
 
 -- each of its entries is valid

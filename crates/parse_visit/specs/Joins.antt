@@ -23,21 +23,16 @@ use Rattle.parse_keys.specs.Tables.{Tables, Companions, Grown}
 use Rattle.parse_keys.specs.Turns.{turn-valid}
 use Rattle.parse_keys.specs.declared.Known.{Known}
 use Rattle.parse_conditions.specs.Gathered.{gathered}
-use Rattle.parse_conditions.specs.Listing.{Listing, keysOf, usedOf, Added}
+use Rattle.parse_conditions.specs.Gathers.{gathered-negated}
+use Rattle.parse_conditions.specs.Listing.{Listing}
 use Rattle.parse_filter.specs.Chains.{companionOf, has, cellOf, joinedTo, fromOf, toOf, isElse, signedPart, partOf, topOf, entriesIn, CellAt, Chains}
+use Rattle.parse_filter.specs.ChainLaws.{entries-at}
+use Rattle.parse_filter.specs.Frames.{Kept, entries-frame, marked-frame}
 use Rattle.parse_filter.specs.Marks.{MarkedAs}
 use Rattle.parse_filter.specs.declared.Marked.{Marked}
-use Rattle.parse_visit.specs.Entries.{Reads, reads-append, reads-grown, reads-other, reads-plain, reads-valid, listing-up, listing-reads, listing-valid}
-use Rattle.parse_visit.specs.Chains.{Same, entries-at, entries-same}
-use Rattle.parse_visit.specs.State.{Stored, storedIn, Sized, gatheredOf, Holding}
+use Rattle.parse_visit.specs.Entries.{Reads, reads-append, reads-grown, reads-other, reads-plain, listing-reads, listing-valid}
+use Rattle.parse_visit.specs.State.{knownSheet, knows, Stored, storedIn, Sized, gatheredOf, Holding}
 use Rattle.parse_visit.specs.declared.Walk.{Walk}
-
--- a sheet of so many items and atcs
-abbrev knownSheet : (k : Known) → Sheet
-knownSheet k = record { atcOf = replicate (k .items) none; atcCount = k .atcs; timer5 = 0; timer10 = 0; timer15 = 0 }
-
-knows : (k : Known) → Has (knownSheet k) (k .items) (k .atcs)
-knows k = record { items = length-replicate (k .items) none; atcs = refl }
 
 -- cell n holds condition p and where the If's entries begin and end
 abbrev pub withCell : List ℕ → ℕ → ℕ → ℕ → ℕ → List ℕ
@@ -104,8 +99,7 @@ pub record IfRead (known : Known) (t : Stored) (w : Walk) (e : Expr) (ks' kd' cs
   pub long : length ls' ≡ length (t .list)
   pub entries : (h : Sheet) → Has h (known .items) (known .atcs) → Listing ks' m' ls' (w .used) (gathered h e false) u'
 
-module _ (negated : (h : Sheet) (e : Expr) → gathered h (negate e) false ≡ map negateReq (gathered h e false))
-    (known : Known) (t : Stored) (w : Walk) (f : ℕ → Option Expr) (hold : Holding known t w f) (e : Expr) (ks' kd' cs' ls' : List ℕ) (m' u' : ℕ) (a : IfRead known t w e ks' kd' cs' ls' m' u')
+module _ (known : Known) (t : Stored) (w : Walk) (f : ℕ → Option Expr) (hold : Holding known t w f) (e : Expr) (ks' kd' cs' ls' : List ℕ) (m' u' : ℕ) (a : IfRead known t w e ks' kd' cs' ls' m' u')
     (c : ℕ) (low : c ≤ 2 * w .cells) (long : 3 * w .cells + 3 ≤ length (t .cells)) where
   abbrev n : ℕ
   n = w .cells
@@ -122,24 +116,26 @@ module _ (negated : (h : Sheet) (e : Expr) → gathered h (negate e) false ≡ m
   valid-up : (x : ℕ) → Valid (w .keyed) x → Valid m' x
   valid-up x v = record { low = v .low; high = omega (arith, v .high, a .grown .up) }
 
-  stays : Same (t .companions) (t .cells) (t .list) n (w .keyed) (w .used) cs' cw ls'
-  stays = record {
-    rows = row-below (t .cells) n c (w .used) u' long;
-    words = a .same;
-    long = omega (arith, a .up, a .fits);
-    others = λ x v. a .tables .companions x (valid-up x v) ∙ sym (hold .tables .companions x v);
-  }
-
-  entries-stay : (d : ℕ) → d ≤ 2 * n → entriesIn cs' cw ls' d ≡ entriesIn (t .companions) (t .cells) (t .list) d
-  entries-stay d l = entries-same (t .companions) (t .cells) (t .list) (length (t .seen)) n (w .keyed) (w .used) (hold .chains) cs' cw ls' stays 0 d l
-
-  -- ---- the cells
-
   row-same : (j d : ℕ) → j < 3 → 0 < d → d ≤ 2 * n → getD cw (3 * cellOf d + j) 0 ≡ getD (t .cells) (3 * cellOf d + j) 0
   row-same j d k p l = row-below (t .cells) n c (w .used) u' long (3 * cellOf d + j) (omega arith)
 
   joined-same : (d : ℕ) → 0 < d → d ≤ 2 * n → joinedTo cw d ≡ joinedTo (t .cells) d
   joined-same d p l = row-below (t .cells) n c (w .used) u' long (3 * cellOf d) (omega arith)
+
+  stays : Kept (t .companions) (t .cells) (t .list) cs' cw ls' (2 * n) (w .keyed) (w .used)
+  stays = record {
+    companions = λ x v. a .tables .companions x (valid-up x v) ∙ sym (hold .tables .companions x v);
+    joined = joined-same;
+    froms = λ d p l. row-same 1 d (omega arith) p l;
+    tos = λ d p l. row-same 2 d (omega arith) p l;
+    words = a .same;
+    long = omega (arith, a .up, a .fits);
+  }
+
+  entries-stay : (d : ℕ) → d ≤ 2 * n → entriesIn cs' cw ls' d ≡ entriesIn (t .companions) (t .cells) (t .list) d
+  entries-stay = entries-frame (t .companions) (t .cells) (t .list) (length (t .seen)) (2 * n) (w .keyed) (w .used) (hold .chains) cs' cw ls' stays
+
+  -- ---- the cells
 
   top-same : (d : ℕ) → d ≤ 2 * n → topOf cw d ≡ topOf (t .cells) d
   top-same d l = by (eqb d 0) refl
@@ -203,26 +199,8 @@ module _ (negated : (h : Sheet) (e : Expr) → gathered h (negate e) false ≡ m
     marks = omega (arith, a .tables .room, a .grown .long, hold .sized .marks);
   }
 
-  -- ---- the marks
-
-  abbrev old : List ℕ
-  old = entriesIn (t .companions) (t .cells) (t .list) (w .marked .first)
-
   marked-after : MarkedAs cs' cw ls' (t .seen) (t .alive) (w .marked)
-  marked-after =
-      let k = hold .marked in
-      let q = entries-stay (w .marked .first) (hold .below) in
-      record {
-        marks = λ x. rw q (k .marks x);
-        some = λ x p. rw q (k .some x p);
-        all = λ x p r. by x (rw q at p) (rw q at r);
-        few = rw (top-same (w .marked .first) (hold .below)) (k .few);
-      }
-    where
-      by : (x : ℕ) → has x old ≡ true → has (companionOf cs' x) old ≡ false → has x (take (w .marked .alive) (t .alive)) ≡ true
-      by x p r =
-          let v = reads-valid (t .keys) (w .keyed) old (gatheredOf (knownSheet known) (f (w .marked .first))) (hold .reads (knownSheet known) (knows known) (w .marked .first) (hold .below)) x p in
-          hold .marked .all x p (rw (stays .others x v) at r)
+  marked-after = marked-frame (t .companions) (t .cells) (t .list) (length (t .seen)) (2 * n) (w .keyed) (w .used) (hold .chains) cs' cw ls' stays (t .seen) (t .alive) (w .marked) (hold .below) (hold .marked)
 
   -- ---- what is read
 
@@ -235,7 +213,7 @@ module _ (negated : (h : Sheet) (e : Expr) → gathered h (negate e) false ≡ m
   new-entries : (d : ℕ) → cellOf d ≡ n → 2 * n < d → entriesIn cs' cw ls' d ≡ entriesIn cs' cw ls' c ++ signedPart cs' ls' (isElse d) (w .used) u'
   new-entries d q o =
       let x = cell-new d q o .lower in
-      entries-at cs' cw ls' 0 d (omega arith) x
+      entries-at cs' cw ls' d (omega arith) x
       ∙ rw (q, row-joined (t .cells) n c (w .used) u' long, row-from (t .cells) n c (w .used) u' long, row-to (t .cells) n c (w .used) u' long)
 
   next-read : (h : Sheet) → Has h (known .items) (known .atcs) → Reads ks' m' (entriesIn cs' cw ls' (2 * n + 1)) (gatheredOf h (withIf f n c e (2 * n + 1)))
@@ -245,7 +223,7 @@ module _ (negated : (h : Sheet) (e : Expr) → gathered h (negate e) false ≡ m
 
   else-read : (h : Sheet) → Has h (known .items) (known .atcs) → Reads ks' m' (entriesIn cs' cw ls' (2 * n + 2)) (gatheredOf h (withIf f n c e (2 * n + 2)))
   else-read h k =
-      rw (new-entries (2 * n + 2) (omega arith) (omega arith), eq-eqb ((2 * n + 2 - 1) % 2) 1 (omega arith), if-else f n c e, gathered-join h (f c) (negate e), negated h e)
+      rw (new-entries (2 * n + 2) (omega arith) (omega arith), eq-eqb ((2 * n + 2 - 1) % 2) 1 (omega arith), if-else f n c e, gathered-join h (f c) (negate e), gathered-negated h e)
       (reads-append ks' m' (entriesIn cs' cw ls' c) _ (gatheredOf h (f c)) (map negateReq (gathered h e false)) (base-read h k c low) (reads-other ks' cs' m' (a .tables .companions) (slice (w .used) u' ls') (gathered h e false) (part-read h k)))
 
   all-read : (h : Sheet) → Has h (known .items) (known .atcs) → (d : ℕ) → d ≤ 2 * (n + 1) → Reads ks' m' (entriesIn cs' cw ls' d) (gatheredOf h (withIf f n c e d))
@@ -268,5 +246,6 @@ module _ (negated : (h : Sheet) (e : Expr) → gathered h (negate e) false ≡ m
       room = omega (arith, a .long, hold .sized .room);
       small = omega (arith, a .long, hold .sized .small);
     };
+    nothing = if-same f n c e 0 (omega arith) ∙ hold .nothing;
     reads = all-read;
   }

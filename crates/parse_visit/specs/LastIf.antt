@@ -19,7 +19,7 @@ use Rattle.memory.specs.Sound.{Root, SoundBy, SoundCommand, SoundCommands, Soun
 use Rattle.model.specs.Laws.Judged.{accepted-held}
 use Rattle.memory.specs.RecordLaws.{block-at, judged-sound}
 use Rattle.memory.specs.Transfer.{accepted-script}
-use Rattle.scan.specs.LastIf.{lastIf}
+use Rattle.parse_scan.specs.LastIf.{lastIf}
 
 -- the roots of the Ifs among h commands from command f on lie below n
 pub record Rooted (n : ℕ) (cw : List ℕ) (h f : ℕ) : Type 0 where

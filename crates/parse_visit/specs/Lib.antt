@@ -1,5 +1,6 @@
 pub mod LastIf
 pub mod Entries
-pub mod Chains
 pub mod State
 pub mod Joins
+pub mod Ways
+pub mod Slots

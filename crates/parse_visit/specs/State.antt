@@ -1,10 +1,10 @@
--- What a parse has so far as the code keeps it, and what a visit of one block leaves of it. Assumes nothing: these are definitions.
-use mathlib.Core.Path.{_≡_}
+-- What a parse has so far as the code keeps it, and what a visit of one block leaves of it. Assumes nothing.
+use mathlib.Core.Path.{_≡_, refl}
 use mathlib.Core.Bool.{Bool, true, false}
 use mathlib.Core.Option.{Option, none, some}
 use mathlib.Core.List.{List, []}
 use Prim.Native.Nat.{ℕ, _+_, _*_, _≤_, _<_}
-use lib.ListN.{length, set, take}
+use lib.ListN.{length, set, take, replicate, length-replicate}
 use Rattle.model.specs.Expr.{Expr}
 use Rattle.model.specs.Sheet.{Sheet}
 use Rattle.model.specs.Requirement.{Requirement}
@@ -16,7 +16,7 @@ use Rattle.model.specs.Parse.{State, Scan, scanned, visited}
 use Rattle.expr.specs.Requirement.{Has}
 use Rattle.shop.specs.Shapes.{slotsOf}
 use Rattle.shop.specs.declared.Shop.{Shop}
-use Rattle.scan.specs.Slots.{GoodShop}
+use Rattle.shop.specs.Good.{GoodShop}
 use Rattle.parse_keys.specs.Tables.{Tables}
 use Rattle.parse_keys.specs.declared.Known.{Known}
 use Rattle.parse_conditions.specs.Gathered.{gathered}
@@ -35,6 +35,16 @@ pub record Accepted (m : Memory) : Type 0 where
 -- the answer for: no room in the tables
 abbrev pub noRoom : ℕ
 noRoom = 255
+
+abbrev pub withAnswer : Walk → ℕ → Walk
+withAnswer w n = record { limit = w .limit; cells = w .cells; answer = n; used = w .used; keyed = w .keyed; marked = w .marked }
+
+-- a sheet of so many items and atcs
+abbrev pub knownSheet : (k : Known) → Sheet
+knownSheet k = record { atcOf = replicate (k .items) none; atcCount = k .atcs; timer5 = 0; timer10 = 0; timer15 = 0 }
+
+pub knows : (k : Known) → Has (knownSheet k) (k .items) (k .atcs)
+knows k = record { items = length-replicate (k .items) none; atcs = refl }
 
 -- ---- the tables
 
@@ -69,6 +79,7 @@ pub record Holding (known : Known) (t : Stored) (w : Walk) (f : ℕ → Option E
   pub below : w .marked .first ≤ 2 * w .cells
   pub few : w .keyed ≤ w .used
   pub sized : Sized t
+  pub nothing : f 0 ≡ none
   pub reads : (h : Sheet) → Has h (known .items) (known .atcs) → (c : ℕ) → c ≤ 2 * w .cells
       → Reads (t .keys) (w .keyed) (entriesIn (t .companions) (t .cells) (t .list) c) (gatheredOf h (f c))
 
