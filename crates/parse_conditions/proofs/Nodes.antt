@@ -1,11 +1,10 @@
 -- What is gathered at a node, by its kind. Assumes nothing.
-use mathlib.Core.Path.{_≡_, refl, sym, ap, _∙_}
+use mathlib.Core.Path.{_≡_, refl, ap, _∙_}
 use mathlib.Core.Bool.{Bool, true, false, not}
-use mathlib.Core.List.{List, [], _++_}
+use mathlib.Core.List.{[], _++_}
 use Prim.Native.Nat.{ℕ, _<_, _≤_}
 use native.Mathlib.Omega.{arith}
 use Rattle.model.specs.Expr.{Expr, two, one, imm16, imm32, other}
-use Rattle.model.specs.Requirement.{Requirement}
 use Rattle.model.specs.Sheet.{Sheet}
 use Rattle.model.specs.Image.{kindOf}
 use Rattle.model.specs.Memory.{Nodes, codeAt, leftAt, rightAt, valueAt}

@@ -1,9 +1,9 @@
 -- Reading a condition: what each step adds to the list, or that there was no room for it. Assumes nothing.
-use mathlib.Core.Path.{_≡_, refl, sym, ap, _∙_}
+use mathlib.Core.Path.{_≡_, refl, ap, _∙_}
 use mathlib.Core.Bool.{Bool, true, false, not}
 use mathlib.Core.Option.{Option, none, some}
-use mathlib.Core.List.{List, [], _∷_, _++_}
-use Prim.Native.Nat.{ℕ, suc, _+_, _*_, _/_, _%_, _≤_, _<_}
+use mathlib.Core.List.{List, [], _++_}
+use Prim.Native.Nat.{ℕ, suc, _+_, _*_, _≤_, _<_}
 use native.Mathlib.Omega.{arith}
 use lib.IntN.{ℤ}
 use lib.ListN.{getD, set, length, length-set, length-append}
@@ -15,14 +15,13 @@ use Rattle.model.specs.Memory.{nodesIn, codeAt}
 use Rattle.model.specs.Parse.{mapReq, signed, parseRequirement}
 use Rattle.model.specs.declared.Kind.{Kind}
 use Rattle.expr.specs.Tree.{treeBelow}
-use Rattle.expr.specs.Requirement.{Has}
-use Rattle.parse_keys.specs.Entries.{Leaf, Stand}
-use Rattle.parse_keys.specs.Tables.{Tables, Grown, noRoom, OfNode, ReadEntry}
+use Rattle.parse_keys.specs.Entries.{Leaf}
+use Rattle.parse_keys.specs.Tables.{Grown, noRoom, OfNode, ReadEntry}
 use Rattle.parse_keys.specs.Growth.{grown-same, grown-on}
 use Rattle.parse_keys.specs.declared.Known.{Known}
 use Rattle.parse_keys.specs.declared.Word.{Word}
 use Rattle.parse_conditions.specs.Gathered.{joins, toggles, single, alone, gathered}
-use Rattle.parse_conditions.specs.Listing.{Listing, keysOf, usedOf, full, Place, Finds, Added, NoRoom, ReadCondition}
+use Rattle.parse_conditions.specs.Listing.{Listing, keysOf, usedOf, full, Place, Finds, Added, ReadCondition}
 use Rattle.parse_conditions.specs.ListingLaws.{listing-length, listing-append, listing-stays}
 use Rattle.parse_conditions.proofs.Nodes.{gathered-out, gathered-join, gathered-not, gathered-leaf}
 

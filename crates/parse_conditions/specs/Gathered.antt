@@ -1,5 +1,5 @@
 -- The requirements of a condition in the order in which they are met, repeats kept (01, Parser: And/Or both join, Not toggles). Assumes nothing: these are definitions.
-use mathlib.Core.Bool.{Bool, true, false, not, cond}
+use mathlib.Core.Bool.{Bool, false, not, cond}
 use mathlib.Core.Option.{Option, none, some}
 use mathlib.Core.List.{List, [], _∷_, _++_}
 use Rattle.model.specs.Expr.{Expr, two, one, imm16, imm32, other}

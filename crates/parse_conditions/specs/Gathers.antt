@@ -3,7 +3,7 @@ use mathlib.Core.Path.{_≡_, refl, sym, ap, _∙_}
 use mathlib.Core.Bool.{Bool, true, false, not, cond}
 use mathlib.Core.Option.{Option, none, some}
 use mathlib.Core.List.{List, [], _∷_, _++_, map, map-append}
-use Prim.Native.Nat.{ℕ, suc, _+_, _*_, _≤_, _<_}
+use Prim.Native.Nat.{suc, _+_, _*_, _≤_}
 use native.Mathlib.Omega.{arith}
 use lib.ListN.{length, length-append}
 use lib.IntN.{ℤ}
@@ -19,7 +19,7 @@ use Rattle.expr.specs.Requirement.{negate-twice}
 use Rattle.parse_keys.specs.Turns.{signs-meet}
 use Rattle.parse_conditions.specs.Gathered.{single, alone, gathered, inserted}
 
-pub inserted-append : (xs ys rs : List Requirement) → inserted (xs ++ ys) rs ≡ inserted ys (inserted xs rs)
+inserted-append : (xs ys rs : List Requirement) → inserted (xs ++ ys) rs ≡ inserted ys (inserted xs rs)
 inserted-append [] ys rs = refl
 inserted-append (x ∷ xs) ys rs = inserted-append xs ys (insert x rs)
 

@@ -118,50 +118,17 @@ pub fn read_condition(
     }
     let k = kind_of(ws[3 * i]);
     if is_join(k) {
-        let mid = read_condition(
-            ws,
-            val,
-            keys,
-            kids,
-            companions,
-            list,
-            known,
-            i,
-            index_of(ws[3 * i + 1]),
-            neg,
-            r,
-        );
+        let l = index_of(ws[3 * i + 1]);
+        let mid = read_condition(ws, val, keys, kids, companions, list, known, i, l, neg, r);
         if mid == FULL {
             return FULL;
         }
-        return read_condition(
-            ws,
-            val,
-            keys,
-            kids,
-            companions,
-            list,
-            known,
-            i,
-            index_of(ws[3 * i + 2]),
-            neg,
-            mid,
-        );
+        let q = index_of(ws[3 * i + 2]);
+        return read_condition(ws, val, keys, kids, companions, list, known, i, q, neg, mid);
     }
     if is_not(k) {
-        return read_condition(
-            ws,
-            val,
-            keys,
-            kids,
-            companions,
-            list,
-            known,
-            i,
-            index_of(ws[3 * i + 1]),
-            !neg,
-            r,
-        );
+        let l = index_of(ws[3 * i + 1]);
+        return read_condition(ws, val, keys, kids, companions, list, known, i, l, !neg, r);
     }
     read_leaf(ws, val, keys, kids, companions, list, known, b, i, neg, r)
 }

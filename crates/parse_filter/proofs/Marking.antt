@@ -1,15 +1,15 @@
 -- Marking entries one after the other, and taking marks away. Assumes nothing.
-use mathlib.Core.Path.{_≡_, refl, sym, ap, _∙_}
-use mathlib.Core.Bool.{Bool, true, false, not, cond, _&&_, _||_}
-use mathlib.Core.List.{List, [], _∷_, _++_, map, map-append}
-use Prim.Native.Nat.{ℕ, zero, suc, _+_, _*_, _-_, _≤_, _<_}
+use mathlib.Core.Path.{_≡_, refl, ap, _∙_}
+use mathlib.Core.Bool.{Bool, true, false, not, _&&_, _||_}
+use mathlib.Core.List.{List, [], _∷_, _++_, map-append}
+use Prim.Native.Nat.{ℕ, _+_, _-_, _≤_, _<_}
 use native.Mathlib.Omega.{arith}
 use native.Mathlib.Numerals.{add-one}
 use lib.Dec.{eqb}
 use lib.ListN.{getD, length, set, take, length-append, length-map}
 use lib.Seq.{slice, slice-empty, length-slice, take-suc, take-suc-set, drop-append-le, length-take-le, getD-set-same, getD-set-other}
 use borrow.Author.Tests.{eqb-true, eqb-false}
-use Rattle.parse_filter.specs.Chains.{companionOf, signedEntry, signedPart, has}
+use Rattle.parse_filter.specs.Chains.{signedEntry, signedPart, has}
 use Rattle.parse_filter.specs.Members.{has-append, or-comm}
 use Rattle.parse_filter.specs.Marks.{Part, Marks, Unmarks}
 
@@ -35,11 +35,11 @@ marks-none s al a = record { marks = λ e. refl; looked = λ e. refl; up = omega
 pub marks-join : (s t u : List Bool) (al bl cl : List ℕ) (a b c : ℕ) (xs ys zs : List ℕ)
     → ((e : ℕ) → has e zs ≡ has e xs || has e ys) → length zs ≡ length xs + length ys → Marks s al a xs t bl b → Marks t bl b ys u cl c → Marks s al a zs u cl c
 marks-join s t u al bl cl a b c xs ys zs f l p q = record {
-    marks = λ e. q .marks e ∙ rw (p .marks e, f e) (one (has e xs) (has e ys) (getD s e false));
-    looked = λ e. q .looked e ∙ rw (p .looked e, p .marks e, f e) (two (has e xs) (has e ys) (getD s e false) (has e (take a al)));
-    up = omega (arith, p .up, q .up);
-    most = omega (arith, p .most, q .most)
-    }
+  marks = λ e. q .marks e ∙ rw (p .marks e, f e) (one (has e xs) (has e ys) (getD s e false));
+  looked = λ e. q .looked e ∙ rw (p .looked e, p .marks e, f e) (two (has e xs) (has e ys) (getD s e false) (has e (take a al)));
+  up = omega (arith, p .up, q .up);
+  most = omega (arith, p .most, q .most);
+}
   where
     one : (x y m : Bool) → y || (x || m) ≡ (x || y) || m
     one true true m = refl
@@ -78,11 +78,11 @@ module _ (s : List Bool) (al : List ℕ) (a e : ℕ) where
   pub entry-new : getD s e false ≡ false → e < length s → a < length al → Marks s al a (e ∷ []) (set s e true) (set al a e) (a + 1)
   unfolding has
   entry-new h l k = record {
-      marks = λ x. one (eqb x e) x refl;
-      looked = λ x. rw (add-one a, take-suc-set al a e k, has-append x (take a al) (e ∷ [])) (two (eqb x e) x refl);
-      up = omega arith;
-      most = omega arith
-      }
+    marks = λ x. one (eqb x e) x refl;
+    looked = λ x. rw (add-one a, take-suc-set al a e k, has-append x (take a al) (e ∷ [])) (two (eqb x e) x refl);
+    up = omega arith;
+    most = omega arith;
+  }
     where
       one : (t : Bool) (x : ℕ) → eqb x e ≡ t → getD (set s e true) x false ≡ (t || false) || getD s x false
       one true x q = ap (λ y. getD (set s e true) y false) (eqb-true x e q) ∙ getD-set-same s e true false l

@@ -1,17 +1,15 @@
 -- The steps of parse_requirements put together: the marks of the condition, what of it is alive, and the set of what stays. Assumes nothing.
 use mathlib.Core.Path.{_≡_, refl, sym, ap, _∙_}
-use mathlib.Core.Bool.{Bool, true, false, not, cond, _&&_, _||_}
-use mathlib.Core.List.{List, [], _∷_, _++_, map}
-use Prim.Native.Nat.{ℕ, zero, suc, _+_, _*_, _-_, _/_, _≤_, _<_, min, max}
+use mathlib.Core.Bool.{Bool, true, false, not, _&&_, _||_}
+use mathlib.Core.List.{List, _++_, map}
+use Prim.Native.Nat.{ℕ, zero, suc, _/_, _≤_, _<_}
 use native.Mathlib.Omega.{arith}
-use lib.Dec.{eqb}
 use lib.ListN.{getD, length, take}
 use lib.Seq.{getD-take, length-take-le}
-use Rattle.model.specs.Limits.{entryLimit, wide}
 use Rattle.model.specs.Laws.Checks.{and-left, and-right}
 use Rattle.shop.specs.Sets.{sortedCodes}
 use Rattle.parse_keys.specs.Entries.{Valid, entryCode}
-use Rattle.parse_filter.specs.Chains.{companionOf, has, joinedTo, toOf, entriesAbove, entriesIn, reached, topOf, Falls, CellAt, Chains, Walkable, Bounds}
+use Rattle.parse_filter.specs.Chains.{companionOf, has, entriesAbove, entriesIn, reached, topOf, Falls, Chains, Walkable, Bounds}
 use Rattle.parse_filter.specs.ChainLaws.{down, reached-end, reached-step, entries-none, entries-split, top-to}
 use Rattle.parse_filter.specs.Filter.{stay, filtered, unmet, Met, Sifted, companionCodes, negatedCodes, Coded, Holds}
 use Rattle.parse_filter.specs.Frames.{entries-valid}
@@ -24,10 +22,10 @@ use Rattle.parse_filter.specs.declared.Marked.{Marked}
 module _ (cs cells list : List ℕ) (size top m used : ℕ) (ch : Chains cs cells list size top m used) (t : ℕ) (l : t ≤ top) where
   abbrev pub walk-under : Walkable cs cells list size t
   walk-under = record {
-      keys = m;
-      used = used;
-      chains = record { cell = λ c o k. ch .cell c o (omega arith); held = ch .held; entry = ch .entry; back = ch .back; others = ch .others; marks = ch .marks }
-      }
+    keys = m;
+    used = used;
+    chains = record { cell = λ c o k. ch .cell c o (omega arith); held = ch .held; entry = ch .entry; back = ch .back; others = ch .others; marks = ch .marks };
+  }
 
   pub falls-under : Falls cells t
   falls-under = record { row = λ c o k. omega (arith, ch .cell c o (omega arith) .row); lower = λ c o k. ch .cell c o (omega arith) .lower }
@@ -52,11 +50,11 @@ served-none : (cs cells list : List ℕ) (s t : List Bool) (al : List ℕ) (old 
     → MarkedAs cs cells list t al (record { first = 0; alive = 0 })
 unfolding has
 served-none cs cells list s t al old ms u = record {
-    marks = λ e. u .marks e ∙ (rw (ms .marks e, entries-none cs cells list) (by (has e (entriesIn cs cells list (old .first)))));
-    some = λ e h. absurd (true≢false (sym h));
-    all = λ e h g. absurd (true≢false (sym h ∙ rw (entries-none cs cells list)));
-    few = omega arith
-    }
+  marks = λ e. u .marks e ∙ (rw (ms .marks e, entries-none cs cells list) (by (has e (entriesIn cs cells list (old .first)))));
+  some = λ e h. absurd (true≢false (sym h));
+  all = λ e h g. absurd (true≢false (sym h ∙ rw (entries-none cs cells list)));
+  few = omega arith;
+}
   where
     by : (b : Bool) → not b && b ≡ false
     by true = refl
@@ -107,11 +105,11 @@ module _ (cs cells list : List ℕ) (s t : List Bool) (al bl : List ℕ) (k : Ma
 
   pub more-marks : MarkedAs cs cells list t bl (record { first = first; alive = r })
   more-marks = record {
-      marks = λ e. m .marks e ∙ ap (λ b. new e || b) (ms .marks e) ∙ or-comm (new e) (was e) ∙ sym (whole e);
-      some = more-some;
-      all = more-all;
-      few = few
-      }
+    marks = λ e. m .marks e ∙ ap (λ b. new e || b) (ms .marks e) ∙ or-comm (new e) (was e) ∙ sym (whole e);
+    some = more-some;
+    all = more-all;
+    few = few;
+  }
 
 -- ---- the filter
 
@@ -125,11 +123,11 @@ module _ (cs cells list : List ℕ) (s : List Bool) (al : List ℕ) (first a : �
 
   pub sifted-marks : MarkedAs cs cells list s bl (record { first = first; alive = r })
   sifted-marks = record {
-      marks = ms .marks;
-      some = λ e h. ms .some e (and-right (not (gone e)) (has e (take a al)) (sym (left e) ∙ h));
-      all = λ e h g. left e ∙ (rw g (ms .all e h g));
-      few = omega (arith, ms .few, f .most)
-      }
+    marks = ms .marks;
+    some = λ e h. ms .some e (and-right (not (gone e)) (has e (take a al)) (sym (left e) ∙ h));
+    all = λ e h g. left e ∙ (rw g (ms .all e h g));
+    few = omega (arith, ms .few, f .most);
+  }
 
   pub sifted-same : (e : ℕ) → has e (take r bl) ≡ has e (filtered (entriesIn cs cells list first) (companionOf cs))
   unfolding filtered
@@ -162,19 +160,19 @@ module _ (ks cs cells list : List ℕ) (size room old first : ℕ) (b : Bounds k
   alive-met p q =
       let l : n ≤ length al = omega (arith, alive-few, b .space) in
       record {
-          held = l;
-          entry = λ i h. omega (arith, alive-valid l i h .high, b .chains .others);
-          other = λ i h. omega (arith, b .chains .back (getD al i 0) (alive-valid l i h) .high, b .chains .marks)
+        held = l;
+        entry = λ i h. omega (arith, alive-valid l i h .high, b .chains .others);
+        other = λ i h. omega (arith, b .chains .back (getD al i 0) (alive-valid l i h) .high, b .chains .marks);
       }
 
   pub alive-coded : length al ≡ room → Coded ks cs al n
   alive-coded q =
       let l : n ≤ length al = omega (arith, alive-few, b .space) in
       record {
-          held = l;
-          entry = λ i h. omega (arith, alive-valid l i h .high, b .chains .others);
-          key = λ i h. let v = b .chains .back (getD al i 0) (alive-valid l i h) in omega (arith, v .high, b .subjects);
-          small = λ i h. let v = b .chains .back (getD al i 0) (alive-valid l i h) in b .small (companionOf cs (getD al i 0) / 2) (omega (arith, v .low)) (omega (arith, v .high))
+        held = l;
+        entry = λ i h. omega (arith, alive-valid l i h .high, b .chains .others);
+        key = λ i h. let v = b .chains .back (getD al i 0) (alive-valid l i h) in omega (arith, v .high, b .subjects);
+        small = λ i h. let v = b .chains .back (getD al i 0) (alive-valid l i h) in b .small (companionOf cs (getD al i 0) / 2) (omega (arith, v .low)) (omega (arith, v .high));
       }
 
 -- ---- a block under no condition
@@ -182,10 +180,10 @@ module _ (ks cs cells list : List ℕ) (size room old first : ℕ) (b : Bounds k
 pub parsed-none : (ks cs cells list : List ℕ) (old : Marked) (s : List Bool) (al codes : List ℕ) → MarkedAs cs cells list s al old → Parsed ks cs cells list old 0 s al codes (record { len = 0; marked = old })
 unfolding negatedCodes companionCodes filtered stay sortedCodes
 parsed-none ks cs cells list old s al codes ms = record {
-    holds = record { count = rw (entries-none cs cells list) (omega arith); is = λ l. rw (entries-none cs cells list) refl };
-    marked = ms;
-    most = omega arith
-    }
+  holds = record { count = rw (entries-none cs cells list) (omega arith); is = λ l. rw (entries-none cs cells list) refl };
+  marked = ms;
+  most = omega arith;
+}
 
 -- ---- the steps, one after the other
 
@@ -205,11 +203,11 @@ module _ (ks cs cells list : List ℕ) (s₀ : List Bool) (al₀ : List ℕ) (ol
 
     pub asks-chain : Onward cs cells list (length s₁) (length al₀) first k
     asks-chain = rw p (record {
-        walk = walk-under cs cells list (length s₀) (b .top) (b .keys) (b .used) (b .chains) first (b .asked);
-        space = b .space;
-        stands = stands;
-        few = kept .few
-        })
+      walk = walk-under cs cells list (length s₀) (b .top) (b .keys) (b .used) (b .chains) first (b .asked);
+      space = b .space;
+      stands = stands;
+      few = kept .few;
+    })
 
     module _ (s₂ : List Bool) (al₂ : List ℕ) (a : ℕ) (q : length s₂ ≡ length s₁) (r : length al₂ ≡ length al₀)
         (m : Marks s₁ al₀ (k .alive) (entriesAbove cs cells list (k .first) first) s₂ al₂ a × (a ≤ topOf cells first)) where

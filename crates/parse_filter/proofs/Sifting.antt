@@ -1,12 +1,11 @@
 -- The filter over the words alive, and the set of codes of what stays. Assumes nothing.
 use mathlib.Core.Path.{_≡_, refl, sym, ap, _∙_}
-use mathlib.Core.Bool.{Bool, true, false, not, cond}
+use mathlib.Core.Bool.{Bool, true, false, not}
 use mathlib.Core.List.{List, [], _∷_, _++_, map, map-append, append-nil}
-use Prim.Native.Nat.{ℕ, zero, suc, _+_, _*_, _-_, _/_, _%_, _≤_, _<_, min}
+use Prim.Native.Nat.{ℕ, _+_, _≤_, _<_}
 use native.Mathlib.Omega.{arith}
 use native.Mathlib.Numerals.{add-one}
-use lib.Dec.{leb}
-use lib.ListN.{getD, length, set, take, drop, length-append, length-set, length-take, take-append-drop}
+use lib.ListN.{getD, length, set, take, drop, length-set, take-append-drop}
 use lib.Seq.{take-suc, take-suc-set, take-set-le, take-at, take-take, getD-set-other}
 use borrow.Author.Tests.{le-leb}
 use Rattle.model.specs.Limits.{entryLimit}
@@ -48,26 +47,26 @@ module _ (cs : List ℕ) (seen : List Bool) (al₀ : List ℕ) (n : ℕ) (held :
     pub sifting-in : not (getD seen (companionOf cs e) false) ≡ true → Sifting cs seen al₀ n (set al kept e) (kept + 1) (j + 1)
     unfolding unmet stay
     sifting-in f = record {
-        is =
-            rw (add-one kept, take-suc-set al kept e (omega (arith, s .low, s .long)), grown, stay-append (λ x. not (getD seen (companionOf cs x) false)) (take j al₀) (e ∷ []), f)
-            (ap (λ t. t ++ e ∷ []) (s .is));
-        low = omega (arith, s .low);
-        high = omega arith;
-        rest = rest-on;
-        long = length-set al kept e ∙ s .long
-        }
+      is =
+          rw (add-one kept, take-suc-set al kept e (omega (arith, s .low, s .long)), grown, stay-append (λ x. not (getD seen (companionOf cs x) false)) (take j al₀) (e ∷ []), f)
+          (ap (λ t. t ++ e ∷ []) (s .is));
+      low = omega (arith, s .low);
+      high = omega arith;
+      rest = rest-on;
+      long = length-set al kept e ∙ s .long;
+    }
 
     pub sifting-out : not (getD seen (companionOf cs e) false) ≡ false → Sifting cs seen al₀ n (set al kept e) kept (j + 1)
     unfolding unmet stay
     sifting-out f = record {
-        is =
-            rw (take-set-le kept al kept e (omega arith), grown, stay-append (λ x. not (getD seen (companionOf cs x) false)) (take j al₀) (e ∷ []), f, append-nil)
-            (s .is);
-        low = omega (arith, s .low);
-        high = omega arith;
-        rest = rest-on;
-        long = length-set al kept e ∙ s .long
-        }
+      is =
+          rw (take-set-le kept al kept e (omega arith), grown, stay-append (λ x. not (getD seen (companionOf cs x) false)) (take j al₀) (e ∷ []), f, append-nil)
+          (s .is);
+      low = omega (arith, s .low);
+      high = omega arith;
+      rest = rest-on;
+      long = length-set al kept e ∙ s .long;
+    }
 
 -- ---- the set of codes
 
@@ -98,11 +97,11 @@ module _ (ks cs al : List ℕ) (n : ℕ) (held : n ≤ length al) where
 
     pub coding-on : r ≤ entryLimit → Coding ks cs al out n r (j + 1)
     coding-on h = record {
-        few = h;
-        high = omega arith;
-        count = rw more (i .count);
-        is = rw (more, i .is, le-leb r entryLimit h) (take-at (insertCode x (take len codes)) (drop r codes) r (sym (i .count)))
-        }
+      few = h;
+      high = omega arith;
+      count = rw more (i .count);
+      is = rw (more, i .is, le-leb r entryLimit h) (take-at (insertCode x (take len codes)) (drop r codes) r (sym (i .count)));
+    }
 
     pub coding-full : entryLimit < r → Holds (companionCodes ks cs (take n al)) out r
     unfolding companionCodes
@@ -115,6 +114,6 @@ module _ (ks cs al : List ℕ) (n : ℕ) (held : n ≤ length al) where
         let q : map f (take (j + 1) al) ++ map f (drop (j + 1) (take n al)) ≡ map f (take n al) = sym (map-append f (take (j + 1) al) (drop (j + 1) (take n al))) ∙ ap (map f) (rw a at b) in
         let few : length (take len codes) ≤ entryLimit = rw (s .is, ← s .count) (s .few) in
         record {
-            count = omega (arith, insert-more x (take len codes) .1, i .count, rw q at g);
-            is = λ z. absurd (omega arith)
+          count = omega (arith, insert-more x (take len codes) .1, i .count, rw q at g);
+          is = λ z. absurd (omega arith);
         }

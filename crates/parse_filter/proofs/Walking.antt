@@ -1,13 +1,12 @@
 -- The loops down a chain: what is marked, or cleared, from here on completes what was from the start on. Assumes nothing.
 use mathlib.Core.Path.{_≡_, refl, sym, ap, _∙_}
 use mathlib.Core.Bool.{Bool}
-use mathlib.Core.List.{List, []}
-use Prim.Native.Nat.{ℕ, _+_, _*_, _-_, _/_, _≤_, _<_}
+use mathlib.Core.List.{List}
+use Prim.Native.Nat.{ℕ, _+_, _-_, _≤_, _<_}
 use native.Mathlib.Omega.{arith}
 use lib.ListN.{getD, length}
-use Rattle.parse_keys.specs.Entries.{Valid}
-use Rattle.parse_filter.specs.Chains.{cellOf, joinedTo, fromOf, toOf, isElse, signedPart, partOf, entriesAbove, entriesIn, reached, topOf, CellAt, Chains, Walkable}
-use Rattle.parse_filter.specs.ChainLaws.{above-end, above-step, reached-end, reached-step, entries-at, entries-none, top-to, reached-top}
+use Rattle.parse_filter.specs.Chains.{joinedTo, fromOf, toOf, isElse, signedPart, entriesAbove, entriesIn, reached, topOf, CellAt, Walkable}
+use Rattle.parse_filter.specs.ChainLaws.{above-end, above-step, reached-end, reached-step, entries-at, top-to, reached-top}
 use Rattle.parse_filter.specs.Marks.{Part, Marks, Unmarks}
 use Rattle.parse_filter.proofs.Marking.{part-length, marks-none, marks-before, unmarks-none, unmarks-before}
 
@@ -20,11 +19,11 @@ module _ (cs cells list : List ℕ) (size top : ℕ) (w : Walkable cs cells list
       let x = cell-at in
       let ch = w .chains in
       record {
-          low = x .low;
-          high = omega (arith, x .high, ch .held);
-          other = λ i a b. omega (arith, ch .entry i (omega (arith, x .high)) .high, ch .others);
-          place = λ i a b. omega (arith, ch .entry i (omega (arith, x .high)) .high, ch .marks);
-          companion = λ i a b. omega (arith, ch .back (getD list i 0) (ch .entry i (omega (arith, x .high))) .high, ch .marks)
+        low = x .low;
+        high = omega (arith, x .high, ch .held);
+        other = λ i a b. omega (arith, ch .entry i (omega (arith, x .high)) .high, ch .others);
+        place = λ i a b. omega (arith, ch .entry i (omega (arith, x .high)) .high, ch .marks);
+        companion = λ i a b. omega (arith, ch .back (getD list i 0) (ch .entry i (omega (arith, x .high))) .high, ch .marks);
       }
 
 -- ---- marks taken away
@@ -47,12 +46,12 @@ module _ (cs cells list : List ℕ) (s₀ : List Bool) (first : ℕ) (w : Walkab
   clearing-on s c g o f t p a b d u k m =
       let x = cell-at cs cells list (length s₀) first w c o (g .low) in
       record {
-          low = rw d (omega (arith, x .lower, g .low));
-          size = k ∙ g .size;
-          rest = λ v y.
-              g .rest v
-              (rw (entries-at cs cells list c o (x .lower), ← a, ← b, ← d)
-              (unmarks-before s u v (signedPart cs list (isElse c) f t) (entriesIn cs cells list p) m y))
+        low = rw d (omega (arith, x .lower, g .low));
+        size = k ∙ g .size;
+        rest = λ v y.
+            g .rest v
+            (rw (entries-at cs cells list c o (x .lower), ← a, ← b, ← d)
+            (unmarks-before s u v (signedPart cs list (isElse c) f t) (entriesIn cs cells list p) m y));
       }
 
 -- ---- marks
@@ -100,13 +99,13 @@ module _ (cs cells list : List ℕ) (s₀ : List Bool) (al₀ : List ℕ) (first
       walking-on f t p i j d u bl b k q m =
           let n : length (signedPart cs list (isElse c) f t) ≡ toOf cells c - fromOf cells c = rw (i, j) (part-length cs list (isElse c) (fromOf cells c) (toOf cells c) (omega (arith, cell .high, w .chains .held))) in
           record {
-              low = rw d (omega (arith, cell .lower, g .low));
-              stands = rw d on;
-              room = rw d (omega (arith, n, m .most, g .room, own, cell .after, cell .low));
-              size = k ∙ g .size;
-              long = q ∙ g .long;
-              rest = λ v cl r y.
-                  g .rest v cl r
-                  (rw (above-step cs cells list below c o (cell .lower), ← i, ← j, ← d)
-                  (marks-before s u v al bl cl a b r (signedPart cs list (isElse c) f t) (entriesAbove cs cells list below p) m y))
+            low = rw d (omega (arith, cell .lower, g .low));
+            stands = rw d on;
+            room = rw d (omega (arith, n, m .most, g .room, own, cell .after, cell .low));
+            size = k ∙ g .size;
+            long = q ∙ g .long;
+            rest = λ v cl r y.
+                g .rest v cl r
+                (rw (above-step cs cells list below c o (cell .lower), ← i, ← j, ← d)
+                (marks-before s u v al bl cl a b r (signedPart cs list (isElse c) f t) (entriesAbove cs cells list below p) m y));
           }

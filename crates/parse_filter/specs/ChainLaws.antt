@@ -2,12 +2,11 @@
 use mathlib.Core.Path.{_≡_, refl, sym, ap, _∙_}
 use mathlib.Core.Bool.{Bool, true, false, cond}
 use mathlib.Core.List.{List, [], _++_, append-assoc, append-nil}
-use Prim.Native.Nat.{ℕ, zero, suc, _+_, _*_, _-_, _/_, _%_, _≤_, _<_}
+use Prim.Native.Nat.{ℕ, zero, suc, _+_, _-_, _≤_, _<_}
 use native.Mathlib.Omega.{arith}
-use lib.Dec.{leb, eqb}
-use lib.ListN.{getD, length}
+use lib.Dec.{leb}
 use borrow.Author.Tests.{leb-true, leb-false, le-leb, lt-leb, ne-eqb}
-use Rattle.parse_filter.specs.Chains.{cellOf, joinedTo, partOf, entriesTo, entriesAbove, entriesIn, reachedTo, reached, topOf, toOf, CellAt}
+use Rattle.parse_filter.specs.Chains.{joinedTo, partOf, entriesTo, entriesAbove, entriesIn, reachedTo, reached, topOf, toOf, CellAt}
 
 module _ (cs cells list : List ℕ) (b : ℕ) where
   -- the number is depth enough

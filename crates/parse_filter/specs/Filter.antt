@@ -1,6 +1,6 @@
 -- The contradiction filter for any companions at all, and what it leaves as a set of codes (01, Parser: contradicting pairs drop). Assumes nothing: these are definitions.
 use mathlib.Core.Path.{_≡_}
-use mathlib.Core.Bool.{Bool, true, false, not, cond}
+use mathlib.Core.Bool.{Bool, false, not, cond}
 use mathlib.Core.List.{List, [], _∷_, map}
 use Prim.Native.Nat.{ℕ, suc, _+_, _/_, _≤_, _<_, min}
 use lib.ListN.{getD, length, take}

@@ -1,11 +1,11 @@
 -- The entries of a condition are entries of keys, and they and the marks stay where the tables grow. Assumes nothing.
 use mathlib.Core.Path.{_≡_, refl, sym, ap, _∙_}
 use mathlib.Core.Bool.{Bool, true, false}
-use mathlib.Core.List.{List, [], _∷_, _++_, map}
-use Prim.Native.Nat.{ℕ, zero, suc, _+_, _*_, _-_, _≤_, _<_}
+use mathlib.Core.List.{List, [], _∷_, map}
+use Prim.Native.Nat.{ℕ, zero, suc, _+_, _-_, _≤_, _<_}
 use native.Mathlib.Omega.{arith}
 use lib.ListN.{getD, length, take}
-use lib.Seq.{slice, length-slice, length-take-le, getD-take, getD-drop, ext-getD}
+use lib.Seq.{slice, length-slice, getD-take, getD-drop, ext-getD}
 use borrow.Author.Tests.{ne-eqb}
 use Rattle.parse_keys.specs.Entries.{Valid}
 use Rattle.parse_filter.specs.Chains.{companionOf, signedEntry, has, joinedTo, fromOf, toOf, isElse, signedPart, partOf, entriesIn, topOf, Chains}
@@ -96,10 +96,10 @@ module _ (cs cells list : List ℕ) (size top m used : ℕ) (ch : Chains cs cell
     marked-frame seen alive k l s =
         let f = entries-frame (k .first) l in
         record {
-            marks = λ e. s .marks e ∙ ap (has e) (sym f);
-            some = λ e h. ap (has e) f ∙ s .some e h;
-            all = λ e h g.
-                let a : has e (entriesIn cs cells list (k .first)) ≡ true = ap (has e) (sym f) ∙ h in
-                s .all e a (ap (λ x. has x (entriesIn cs cells list (k .first))) (sym (kept .companions e (entries-valid (k .first) l e a))) ∙ ap (has (companionOf cs' e)) (sym f) ∙ g);
-            few = rw (same-top (k .first) l) (s .few)
+          marks = λ e. s .marks e ∙ ap (has e) (sym f);
+          some = λ e h. ap (has e) f ∙ s .some e h;
+          all = λ e h g.
+              let a : has e (entriesIn cs cells list (k .first)) ≡ true = ap (has e) (sym f) ∙ h in
+              s .all e a (ap (λ x. has x (entriesIn cs cells list (k .first))) (sym (kept .companions e (entries-valid (k .first) l e a))) ∙ ap (has (companionOf cs' e)) (sym f) ∙ g);
+          few = rw (same-top (k .first) l) (s .few);
         }

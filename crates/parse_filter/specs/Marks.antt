@@ -2,7 +2,7 @@
 use mathlib.Core.Path.{_≡_}
 use mathlib.Core.Bool.{Bool, true, false, not, _&&_, _||_}
 use mathlib.Core.List.{List}
-use Prim.Native.Nat.{ℕ, _+_, _-_, _≤_, _<_, max}
+use Prim.Native.Nat.{ℕ, _+_, _≤_, _<_, max}
 use lib.ListN.{getD, length, take}
 use Rattle.parse_filter.specs.Chains.{companionOf, has, entriesIn, reached, topOf, Walkable}
 use Rattle.parse_filter.specs.Filter.{negatedCodes, Holds}

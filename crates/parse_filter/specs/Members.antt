@@ -1,6 +1,6 @@
 -- Membership in lists of entries, and that a set of codes does not depend on the order in which they came. Assumes nothing.
 use mathlib.Core.Path.{_≡_, refl, sym, ap, _∙_}
-use mathlib.Core.Bool.{Bool, true, false, not, cond, _&&_, _||_}
+use mathlib.Core.Bool.{Bool, true, false, cond, _&&_, _||_}
 use mathlib.Core.List.{List, [], _∷_, _++_, map}
 use Prim.Native.Nat.{ℕ, zero, suc, _≤_, _<_}
 use native.Mathlib.Omega.{arith}
@@ -8,7 +8,7 @@ use lib.Dec.{eqb, ltb}
 use lib.ListN.{getD, length}
 use borrow.Author.Tests.{eqb-true, eq-eqb}
 use Rattle.model.specs.Requirement.{Requirement, haveItem, missingItem, haveAtc, missingAtc, haveFlag, missingFlag, insert, sorted, member, sameReq}
-use Rattle.model.specs.Laws.Sets.{Sorted, sorted-sorted, member-insert, ext}
+use Rattle.model.specs.Laws.Sets.{sorted-sorted, member-insert, ext}
 use Rattle.shop.specs.Sets.{insertCode, sortedCodes}
 use Rattle.shop.specs.SetLaws.{insert-more}
 use Rattle.parse_filter.specs.Chains.{has}
@@ -78,11 +78,6 @@ stay-append p (x ∷ xs) ys = by (p x) (stay-append p xs ys)
     by : (t : Bool) → stay p (xs ++ ys) ≡ stay p xs ++ stay p ys → cond t (x ∷ stay p (xs ++ ys)) (stay p (xs ++ ys)) ≡ cond t (x ∷ stay p xs) (stay p xs) ++ stay p ys
     by true e = rw e
     by false e = e
-
-pub stay-same : (p q : ℕ → Bool) (xs : List ℕ) → ((e : ℕ) → p e ≡ q e) → stay p xs ≡ stay q xs
-unfolding stay
-stay-same p q [] f = refl
-stay-same p q (x ∷ xs) f = rw (f x, stay-same p q xs f)
 
 -- an entry of xs that f takes to y
 pub record From (f : ℕ → ℕ) (xs : List ℕ) (y : ℕ) : Type 0 where

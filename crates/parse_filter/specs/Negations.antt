@@ -2,15 +2,15 @@
 use mathlib.Core.Path.{_≡_, refl, sym, ap, _∙_}
 use mathlib.Core.Bool.{Bool, true, false, not, cond, _&&_, _||_}
 use mathlib.Core.List.{List, [], _∷_, map}
-use Prim.Native.Nat.{ℕ, zero, suc, _+_, _*_, _/_, _≤_, _<_}
+use Prim.Native.Nat.{ℕ, _+_, _/_, _≤_, _<_}
 use native.Mathlib.Omega.{arith}
 use lib.Dec.{eqb}
 use lib.ListN.{getD}
-use borrow.Author.Tests.{eqb-true, eqb-false}
+use borrow.Author.Tests.{eqb-true}
 use Rattle.model.specs.Limits.{wide}
 use Rattle.model.specs.Requirement.{Requirement, haveItem, missingItem, haveAtc, missingAtc, haveFlag, missingFlag, sameReq, negateReq, insert, sorted, member, keep, settled, extend}
-use Rattle.model.specs.Laws.Checks.{and-left, and-right}
-use Rattle.model.specs.Laws.Sets.{same-refl, Sorted, insert-sorted, sorted-sorted, keep-sorted, member-insert, member-keep, ext}
+use Rattle.model.specs.Laws.Checks.{and-right}
+use Rattle.model.specs.Laws.Sets.{same-refl, Sorted, insert-sorted, sorted-sorted, member-insert, member-keep, ext}
 use Rattle.model.specs.Laws.Runs.{sameReq-true}
 use Rattle.shop.specs.Shapes.{codeOf, requirementOf}
 use Rattle.shop.specs.Sets.{sortedCodes}
@@ -20,7 +20,7 @@ use Rattle.parse_keys.specs.Entries.{isHave, turned, entryCode, entryReq, Valid
 use Rattle.parse_keys.specs.Turns.{by-parity, req-even, req-odd, turn-req, turn-valid}
 use Rattle.parse_keys.specs.Tables.{Companions}
 use Rattle.parse_filter.specs.Chains.{companionOf, has}
-use Rattle.parse_filter.specs.Filter.{stay, filtered, companionCodes, negatedCodes}
+use Rattle.parse_filter.specs.Filter.{filtered, companionCodes, negatedCodes}
 use Rattle.parse_filter.specs.Members.{true≢false, both-ways, or-cases, or-left, or-right, or-assoc, or-comm, has-stay, has-self, has-later, member-sorted}
 
 -- ---- negated requirements

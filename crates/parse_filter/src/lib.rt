@@ -104,7 +104,16 @@ fn mark_chain(
     while below < c {
         let j = (c - 1) / 2;
         let neg = (c - 1) % 2 == 1;
-        a = mark_part(list, companions, seen, alive, index_of(cells[3 * j + 1]), index_of(cells[3 * j + 2]), neg, a);
+        a = mark_part(
+            list,
+            companions,
+            seen,
+            alive,
+            index_of(cells[3 * j + 1]),
+            index_of(cells[3 * j + 2]),
+            neg,
+            a,
+        );
         c = index_of(cells[3 * j]);
     }
     a
@@ -112,7 +121,14 @@ fn mark_chain(
 
 // ---- marks taken away
 
-fn clear_part(list: &[u16], companions: &[u16], seen: &mut [bool], from: usize, to: usize, neg: bool)
+fn clear_part(
+    list: &[u16],
+    companions: &[u16],
+    seen: &mut [bool],
+    from: usize,
+    to: usize,
+    neg: bool,
+)
     requires { ⌜ Part (now companions) (now list) (length (now seen)) from to ⌝ }
     ensures { λ _. ⌜ Unmarks (now (seen .entry)) (signedPart (now (companions .entry)) (now (list .entry)) neg from to) (now (seen .exit)) ⌝ }
 {
@@ -131,13 +147,27 @@ fn clear(cells: &[u16], list: &[u16], companions: &[u16], seen: &mut [bool], fir
     let mut c = first;
     while 0 < c {
         let j = (c - 1) / 2;
-        clear_part(list, companions, seen, index_of(cells[3 * j + 1]), index_of(cells[3 * j + 2]), (c - 1) % 2 == 1);
+        clear_part(
+            list,
+            companions,
+            seen,
+            index_of(cells[3 * j + 1]),
+            index_of(cells[3 * j + 2]),
+            (c - 1) % 2 == 1,
+        );
         c = index_of(cells[3 * j]);
     }
 }
 
 // The marks that serve the condition first: those that there are where it stands on the condition that is marked, and else none.
-fn marks_for(cells: &[u16], list: &[u16], companions: &[u16], seen: &mut [bool], old: Marked, first: usize) -> Marked
+fn marks_for(
+    cells: &[u16],
+    list: &[u16],
+    companions: &[u16],
+    seen: &mut [bool],
+    old: Marked,
+    first: usize,
+) -> Marked
     requires { ⌜ Walkable (now companions) (now cells) (now list) (length (now seen)) (old .first) × Falls (now cells) first ⌝ }
     ensures { λ r. ⌜ Served (now (companions .entry)) (now (cells .entry)) (now (list .entry)) (now (seen .entry)) old first (now (seen .exit)) r ⌝ }
 {
@@ -146,10 +176,7 @@ fn marks_for(cells: &[u16], list: &[u16], companions: &[u16], seen: &mut [bool],
         return old;
     }
     clear(cells, list, companions, seen, below);
-    Marked {
-        first: 0,
-        alive: 0,
-    }
+    Marked { first: 0, alive: 0 }
 }
 
 // ---- the contradiction filter
@@ -184,18 +211,24 @@ fn entry_code(keys: &[u64], k: u16) -> u64
 }
 
 // The codes of the companions of n entries, as a set: how many they are, 33 where there are more than 32.
-fn companion_codes(keys: &[u64], companions: &[u16], alive: &[u16], n: usize, codes: &mut [u64; 32]) -> usize
+fn companion_codes(
+    keys: &[u64],
+    companions: &[u16],
+    alive: &[u16],
+    n: usize,
+    codes: &mut [u64; 32],
+) -> usize
     requires { ⌜ Coded (now keys) (now companions) (now alive) n ⌝ }
     ensures { λ r. ⌜ Holds (companionCodes (now (keys .entry)) (now (companions .entry)) (take n (now (alive .entry)))) (now (codes .exit)) r ⌝ }
 {
     let mut len = 0;
-    let mut j = 0;
-    while j < n {
-        len = insert_in(codes, len, entry_code(keys, companions[index_of(alive[j])]));
+    let mut i = 0;
+    while i < n {
+        len = insert_in(codes, len, entry_code(keys, companions[index_of(alive[i])]));
         if 32 < len {
             return len;
         }
-        j += 1;
+        i += 1;
     }
     len
 }

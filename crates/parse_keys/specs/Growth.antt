@@ -2,14 +2,13 @@
 use mathlib.Core.Path.{_≡_, refl, _∙_}
 use mathlib.Core.Bool.{Bool, true, false}
 use mathlib.Core.List.{List}
-use Prim.Native.Nat.{ℕ, _+_, _*_, _/_, _≤_, _<_}
+use Prim.Native.Nat.{ℕ, _*_, _/_, _≤_, _<_}
 use native.Mathlib.Omega.{arith}
 use lib.Dec.{ltb}
-use lib.ListN.{getD, length, replicate, length-replicate, getD-replicate, List·getD-eq-default}
+use lib.ListN.{getD, replicate, length-replicate, getD-replicate, List·getD-eq-default}
 use borrow.Author.Tests.{ltb-true, ltb-false}
 use Rattle.model.specs.Requirement.{Requirement}
 use Rattle.parse_keys.specs.Entries.{entryReq, Valid, Stand}
-use Rattle.parse_keys.specs.Search.{Table}
 use Rattle.parse_keys.specs.Tables.{Tables, Grown}
 
 pub grown-same : (ks : List ℕ) (m : ℕ) → Grown ks m ks m

@@ -90,7 +90,7 @@ module _ (ks kd : List ℕ) (m c : ℕ) (t : Table ks kd m) where
     pub seek-low : d ≤ m
     seek-low = rw e (t .low (link at y))
 
--- ---- a key more
+-- ---- links that stay
 
 kept : (kd : List ℕ) (p v : ℕ) → getD kd p 0 ≡ 0 → Keeps kd (set kd p v)
 kept kd p v z q h = getD-set-other kd p q v 0 (λ e. let f : getD kd q 0 ≡ getD kd p 0 = ap (λ i. getD kd i 0) e in omega arith)
@@ -110,16 +110,13 @@ free-answer ks kd m c p f = (λ e. absurd (true≢false (sym e)), λ e. f)
 pub there-answer : (ks kd : List ℕ) (m c i : ℕ) → Is ks m c i → Search ks kd m c (record { at = i; there = true })
 there-answer ks kd m c i s = (λ e. s, λ e. absurd (true≢false e))
 
--- .. and after them key i has the code c; the keys that there were stay
+-- ---- one key more
+
+-- of n keys, key i has the code c; the m keys that there were stay
 pub record Placed (ks : List ℕ) (m c : ℕ) (ks' kd' : List ℕ) (i n : ℕ) : Type 0 where
   pub table : Table ks' kd' n
   pub is : Is ks' n c i
   pub stay : (j : ℕ) → j ≤ m → getD ks' j 0 ≡ getD ks j 0
-  pub more : m ≤ n
-  pub few : n ≤ m + 1
-
-pub placed-there : (ks kd : List ℕ) (m c i : ℕ) → Table ks kd m → Is ks m c i → Placed ks m c ks kd i m
-placed-there ks kd m c i t s = record { table = t; is = s; stay = λ i h. refl; more = omega arith; few = omega arith }
 
 module _ (ks kd : List ℕ) (m c p : ℕ) (t : Table ks kd m) (f : Free ks kd m c p) (s : Subject c) (x : Room ks kd m) where
   abbrev ks' : List ℕ
@@ -185,6 +182,4 @@ module _ (ks kd : List ℕ) (m c p : ℕ) (t : Table ks kd m) (f : Free ks kd m 
     };
     is = record { some = omega arith; most = omega arith; code = new };
     stay = old;
-    more = omega arith;
-    few = omega arith;
   }

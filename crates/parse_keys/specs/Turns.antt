@@ -46,10 +46,6 @@ turn-req ks k = by-parity k
     (λ e. let h : (k + 1) / 2 ≡ k / 2 = omega arith in rw (turn-even k e, req-odd ks (k + 1) (omega arith), req-even ks k e, h))
     (λ e. let h : (k - 1) / 2 ≡ k / 2 = omega arith in rw (turn-odd k e, req-even ks (k - 1) (omega arith), req-odd ks k e, h) (sym (negate-twice (requirementOf (getD ks (k / 2) 0)))))
 
-pub signed-req : (ks : List ℕ) (n : Bool) (k : ℕ) → entryReq ks (turned n k) ≡ signed n (entryReq ks k)
-signed-req ks true k = turn-req ks k
-signed-req ks false k = rw (turn-plain k)
-
 pub turn-valid : (m k : ℕ) (n : Bool) → Valid m k → Valid m (turned n k)
 turn-valid m k false v = rw (turn-plain k) v
 turn-valid m k true v = by-parity k

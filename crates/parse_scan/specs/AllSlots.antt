@@ -117,7 +117,11 @@ module _ (shop : Shop) (items : ℕ) (ms ns : List (Option ℤ)) (P : List Requi
 
   -- slot i became y
   module _ (out : Shop) (i : ℕ) (v : Halfway shop items ms ns P out i) (low : i < slotCount) (b : Bool) (y : Slot)
-      (read : (h : Sheet) (rs : List Requirement) → itemCount h ≡ items → P rs → Became h rs (getD ms i none) (getD ns i none) (getD (out .slots) i beyond) b y) where
+      (o n : Option ℤ) (x : Slot) (eo : o ≡ getD ms i none) (en : n ≡ getD ns i none) (ex : x ≡ getD (out .slots) i beyond)
+      (became : (h : Sheet) (rs : List Requirement) → itemCount h ≡ items → P rs → Became h rs o n x b y) where
+    read : (h : Sheet) (rs : List Requirement) → itemCount h ≡ items → P rs → Became h rs (getD ms i none) (getD ns i none) (getD (out .slots) i beyond) b y
+    read h rs e w = rw (eo, en, ex) at (became h rs e w)
+
     placed-next : b ≡ true → Halfway shop items ms ns P (placed out i y) (i + 1)
     placed-next o = record {
       low = omega arith;

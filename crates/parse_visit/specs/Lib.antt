@@ -4,3 +4,4 @@ pub mod State
 pub mod Joins
 pub mod Ways
 pub mod Slots
+pub mod Entering

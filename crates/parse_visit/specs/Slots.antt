@@ -23,7 +23,7 @@ use Rattle.parse_keys.specs.Small.{key-small}
 use Rattle.parse_keys.specs.declared.Known.{Known}
 use Rattle.parse_conditions.specs.Gathered.{gathered, inserted}
 use Rattle.parse_conditions.specs.Gathers.{gather-inserts}
-use Rattle.parse_filter.specs.Chains.{entriesIn, Bounds}
+use Rattle.parse_filter.specs.Chains.{has, entriesIn, Bounds}
 use Rattle.parse_filter.specs.Filter.{negatedCodes, Holds}
 use Rattle.parse_filter.specs.Frames.{entries-valid}
 use Rattle.parse_filter.specs.Marks.{MarkedAs}
@@ -47,6 +47,10 @@ pub moved-by : {h : Sheet} {rs : List Requirement} {shop : Shop} {ms ns : List (
 moved-by {u = true} v = record { answer = rw (sym (v .ok)); slots = λ q. v .is refl; good = λ q. v .good refl }
 moved-by {u = false} v = record { answer = rw (sym (v .ok)); slots = λ q. absurd (omega arith); good = λ q. absurd (omega arith) }
 
+pub refusal-low : (u : Bool) → cond u 0 parseTooMany ≤ parseTooMany
+refusal-low true = omega arith
+refusal-low false = omega arith
+
 -- whatever holds the codes of the condition's entries that stay stands for rs
 abbrev pub Means : List ℕ → List ℕ → List ℕ → List ℕ → ℕ → List Requirement → Type 0
 Means ks cs cells list c rs = (codes : List ℕ) (n : ℕ) → Holds (negatedCodes ks cs (entriesIn cs cells list c)) codes n → Stands codes n rs
@@ -62,6 +66,7 @@ pub record Under (ks cs cells list : List ℕ) (c first : ℕ) (ms : List (Optio
 pub record Slots (ks cs cells list : List ℕ) (c known first : ℕ) (ms ns : List (Option ℤ)) (shop : Shop) (seen : List Bool) (alive : List ℕ) (shop′ : Shop) (r : Slotted) : Type 0 where
   pub marked : MarkedAs cs cells list seen alive (r .marked)
   pub most : r .marked .first ≤ max first c
+  pub fine : r .answer ≤ parseTooMany
   pub moved : (h : Sheet) (rs : List Requirement) → itemCount h ≡ known → Means ks cs cells list c rs → Moved (slotsThen h rs ms ns shop) shop′ (r .answer)
 
 -- ---- the requirements of a condition
@@ -79,7 +84,7 @@ module _ (known : Known) (t : Stored) (w : Walk) (f : ℕ → Option Expr) (hold
     abbrev rs : List Requirement
     rs = settled (inserted (gatheredOf h (f c)) [])
 
-    es-valid : (e : ℕ) → _
+    es-valid : (e : ℕ) → has e es ≡ true → Valid (w .keyed) e
     es-valid = entries-valid (t .companions) (t .cells) (t .list) (length (t .seen)) (2 * w .cells) (w .keyed) (w .used) (hold .chains) c low
 
     codes-are : negatedCodes (t .keys) (t .companions) es ≡ map codeOf (extend [] rs)
@@ -103,11 +108,11 @@ module _ (known : Known) (t : Stored) (w : Walk) (f : ℕ → Option Expr) (hold
     used = w .used;
     top = 2 * w .cells;
     chains = hold .chains;
-    below = hold .below;
-    first = low;
+    marked = hold .below;
+    asked = low;
     most = omega arith;
     few = omega (arith, hold .chains .held, hold .sized .small);
-    room = omega (arith, hold .chains .held, hold .sized .room);
+    space = omega (arith, hold .chains .held, hold .sized .room);
     subjects = hold .tables .room;
     small = key-small (t .keys) (w .keyed) (hold .tables .table .keys);
   }

@@ -19,12 +19,14 @@ use Rattle.shop.specs.declared.Shop.{Shop}
 use Rattle.shop.specs.Good.{GoodShop}
 use Rattle.parse_keys.specs.Tables.{Tables}
 use Rattle.parse_keys.specs.declared.Known.{Known}
+use Rattle.parse_scan.specs.declared.Scanned.{Scanned}
 use Rattle.parse_conditions.specs.Gathered.{gathered}
 use Rattle.parse_filter.specs.Chains.{entriesIn, Chains}
 use Rattle.parse_filter.specs.Marks.{MarkedAs}
 use Rattle.parse_visit.specs.Entries.{Reads}
 use Rattle.parse_visit.specs.declared.Walk.{Walk}
 use Rattle.parse_visit.specs.declared.Visited.{Visited}
+use Rattle.parse_visit.specs.declared.Slotted.{Slotted}
 
 -- 2 to 5 do not refuse the record
 pub record Accepted (m : Memory) : Type 0 where
@@ -38,6 +40,14 @@ noRoom = 255
 
 abbrev pub withAnswer : Walk → ℕ → Walk
 withAnswer w n = record { limit = w .limit; cells = w .cells; answer = n; used = w .used; keyed = w .keyed; marked = w .marked }
+
+-- after an If was read: so many entries and keys
+abbrev pub oneCellMore : Walk → ℕ → ℕ → Walk
+oneCellMore w used keyed = record { limit = w .limit; cells = w .cells + 1; answer = w .answer; used = used; keyed = keyed; marked = w .marked }
+
+-- after the block's commands and slots
+abbrev pub scannedWalk : Walk → Scanned → Slotted → Walk
+scannedWalk w s a = record { limit = s .limit; cells = w .cells; answer = a .answer; used = w .used; keyed = w .keyed; marked = a .marked }
 
 -- a sheet of so many items and atcs
 abbrev pub knownSheet : (k : Known) → Sheet

@@ -20,7 +20,7 @@ use Rattle.parse_conditions.specs.Gathers.{gathered-size}
 use Rattle.parse_conditions.specs.Listing.{Listing, keysOf, usedOf, Place, Added, NoRoom}
 use Rattle.parse_conditions.specs.ListingLaws.{listing-length}
 use Rattle.parse_scan.specs.Block.{onNextOf, onElseOf}
-use Rattle.parse_visit.specs.State.{noRoom, knownSheet, knows, Stored, storedIn, Holding, Roomy}
+use Rattle.parse_visit.specs.State.{noRoom, oneCellMore, knownSheet, knows, Stored, storedIn, Holding, Roomy}
 use Rattle.parse_visit.specs.Joins.{withCell, withIf, if-next, if-else, if-same, IfRead, if-joined}
 use Rattle.parse_visit.specs.declared.Walk.{Walk}
 use Rattle.parse_visit.specs.declared.Visited.{Visited}
@@ -40,12 +40,17 @@ pub record IfAdded (ws : List ℕ) (vs : List ℤ) (known : Known) (b i c : ℕ)
   pub added : Added ws vs known b i (λ h e. gathered h e false) (placeOf w) ks ls ks' kd' cs' ls' place
   pub rows : 3 * w .cells + 3 ≤ length cells
   pub cell : cells' ≡ withCell cells (w .cells) c (w .used) (usedOf place)
-  pub walk : r ≡ record { limit = w .limit; cells = w .cells + 1; answer = w .answer; used = usedOf place; keyed = keysOf place; marked = w .marked }
+  pub walk : r ≡ oneCellMore w (usedOf place) (keysOf place)
 
 pub record Joined (ws : List ℕ) (vs : List ℤ) (known : Known) (b i c : ℕ) (w : Walk) (ks ls cells ks' kd' cs' ls' cells' : List ℕ) (r : Walk) : Type 0 where
   pub full : r .answer ≡ noRoom → 3 * w .cells + 3 ≤ length cells → NoRoom ws vs known b i (λ h e. gathered h e false) (placeOf w) ks ls
   pub read : (r .answer ≡ noRoom → ⊥) → IfAdded ws vs known b i c w ks ls cells ks' kd' cs' ls' cells' r
   pub limit : r .limit ≡ w .limit
+
+pub holds-place : {known : Known} {t : Stored} {w : Walk} {f : ℕ → Option Expr} → Holding known t w f → Place (t .keys) (t .kids) (t .companions) (t .list) (placeOf w)
+holds-place {t = t} {w = w} h =
+    let e : keysOf (placeOf w) ≡ w .keyed = omega (arith, h .chains .held, h .sized .small) in
+    record { tables = rw e (h .tables); used = omega (arith, h .chains .held, h .sized .small); small = h .sized .small }
 
 -- ---- what a block leaves beside its slots
 

@@ -12,7 +12,7 @@ ghost use Rattle.parse_conditions.specs.Listing.{Place};
 ghost use Rattle.parse_filter.specs.Chains.{entriesIn, Bounds};
 ghost use Rattle.parse_filter.specs.Marks.{MarkedAs};
 ghost use Rattle.parse_scan.specs.Table.{tableOf};
-ghost use Rattle.parse_visit.specs.State.{noRoom, withAnswer, storedIn, Held, Open, Visits};
+ghost use Rattle.parse_visit.specs.State.{noRoom, withAnswer, oneCellMore, scannedWalk, storedIn, Held, Open, Visits};
 ghost use Rattle.parse_visit.specs.Joins.{withCell};
 ghost use Rattle.parse_visit.specs.Slots.{Under, Slots};
 ghost use Rattle.parse_visit.specs.Ways.{placeOf, Joined, ReadsOn, GoesOn};
@@ -27,6 +27,7 @@ use parse_keys::Known;
 use parse_scan::Scanned;
 use parse_scan::hides;
 use parse_scan::scan_block;
+use parse_scan::size;
 use parse_scan::update_slots;
 
 // What is carried from block to block beside the arrays: the current limit, how many cells of conditions there are, the refusal or 0, how many entries of Ifs and keys there are, and the condition whose entries are marked.
@@ -117,6 +118,7 @@ fn slots_after(
     requires { ⌜ GoodShop (shopFrom (arraysIn (now items) (now limits) (now codes) (now lens))) ⌝ }
     ensures { λ r. ⌜ Slots (now (keys .entry)) (now (companions .entry)) (now (cells .entry)) (now (list .entry)) c known (old .first) (tableOf (s .«item_mask») (now (ids .entry))) (tableOf (s .«count_mask») (now (counts .entry))) (shopFrom (arraysIn (now (items .entry)) (now (limits .entry)) (now (codes .entry)) (now (lens .entry)))) (now (seen .exit)) (now (alive .exit)) (shopFrom (arraysIn (now (items .exit)) (now (limits .exit)) (now (codes .exit)) (now (lens .exit)))) r ⌝ }
 {
+    size(counts);
     if s.count_mask == 0 {
         return Slotted {
             answer: 0,
@@ -166,6 +168,22 @@ pub fn answered(w: Walk, answer: u8) -> Walk
     }
 }
 
+// After an If was read: one cell more, and so many entries and keys.
+fn one_cell_more(w: Walk, used: u16, keyed: u16) -> Walk
+    requires { ⌜ w .cells < blockLimit ⌝ }
+    ensures { λ r. ⌜ r ≡ oneCellMore w used keyed ⌝ }
+{
+    let marked = w.marked;
+    Walk {
+        limit: w.limit,
+        cells: w.cells + 1,
+        answer: w.answer,
+        used,
+        keyed,
+        marked,
+    }
+}
+
 // The If of root i, below n, read and joined to the condition c as a cell more.
 fn join(
     ws: &[u16; 98304],
@@ -194,15 +212,7 @@ fn join(
     }
     let used = (r % 65536) as u16;
     add_cell(cells, at, c, w.used, used);
-    let marked = w.marked;
-    Walk {
-        limit: w.limit,
-        cells: w.cells + 1,
-        answer: w.answer,
-        used,
-        keyed: (r / 65536) as u16,
-        marked,
-    }
+    one_cell_more(w, used, (r / 65536) as u16)
 }
 
 // Word j of block b.
@@ -222,7 +232,10 @@ fn reads_on(answer: u8, last: u16, next: u16) -> bool
     if last == 0 {
         return false;
     }
-    next != 0
+    if next == 0 {
+        return false;
+    }
+    true
 }
 
 // Where the walk goes on after block b: the condition c joined with its last If, negated for the else. It is read where the block has an If and a next, and nothing was refused.
@@ -268,6 +281,21 @@ fn go_on(
 
 // ---- the visit
 
+// After the block's commands and slots.
+fn scanned(w: Walk, s: Scanned, a: Slotted) -> Walk
+    ensures { λ r. ⌜ r ≡ scannedWalk w s a ⌝ }
+{
+    let marked = a.marked;
+    Walk {
+        limit: s.limit,
+        cells: w.cells,
+        answer: a.answer,
+        used: w.used,
+        keyed: w.keyed,
+        marked,
+    }
+}
+
 // Block b, which is code and not marked, under the condition c.
 pub fn visit(
     ws: &[u16; 98304],
@@ -304,14 +332,5 @@ pub fn visit(
     let s = scan_block(ws, val, cw, ids, counts, first, held, w.limit);
     let old = w.marked;
     let a = slots_after(keys, companions, list, seen, alive, cells, items, limits, codes, lens, ids, counts, known.items, s, old, index_of(c));
-    let marked = a.marked;
-    let after = Walk {
-        limit: s.limit,
-        cells: w.cells,
-        answer: a.answer,
-        used: w.used,
-        keyed: w.keyed,
-        marked,
-    };
-    go_on(ws, val, bw, keys, kids, companions, list, cells, known, index_of(k.nodes), s.last_if, after, b, c)
+    go_on(ws, val, bw, keys, kids, companions, list, cells, known, index_of(k.nodes), s.last_if, scanned(w, s, a), b, c)
 }

@@ -56,7 +56,12 @@ code-below-zero-sign-requires : (t : ℕ) → code-below-lts.Need-zero-sign-requ
 code-below-zero-sign-requires t c κs = search needs
 
 code-below-returns-2 : (t : ℕ) → code-below-lts.Need-returns-2 (code-below-claims t) (code-below-at t) code-below.Post
-code-below-returns-2 t c = means-nothing (now (c .before .before .before .before .before .before .before .before .args .ws)) (now (c .before .before .before .before .before .before .before .before .args .val)) (c .before .before .before .before .before .before .before .before .args .known) (c .before .before .before .before .before .before .before .before .args .b) (c .before .before .before .before .before .before .before .before .args .i) (c .before .before .before .before .before .before .before .before .args .neg) (c .before .before .before .before .before .before .before .if1 .left) _ (c .before .before .before .before .before .kind-of .ensures) _ _ (c .before .before .before .k .given .1) (c .before .zero-sign .ensures) (c .if2 .taken)
+code-below-returns-2 t c =
+    let x5 = c .before .before .before .before .before in
+    let x7 = x5 .before .before in
+    let start = x7 .before in
+    means-nothing (now (start .args .ws)) (now (start .args .val)) (start .args .known) (start .args .b) (start .args .i) (start .args .neg) (x7 .if1 .left) _
+    (x5 .kind-of .ensures) _ _ (c .before .before .before .k .given .1) (c .before .zero-sign .ensures) (c .if2 .taken)
 
 code-below-mul-index-of : (t : ℕ) → code-below-lts.Need-mul-index-of (code-below-claims t) (code-below-at t) code-below.Post
 code-below-mul-index-of t c = search needs
@@ -77,7 +82,14 @@ code-below-code-below-requires : (t : ℕ) → code-below-lts.Need-code-below-re
 code-below-code-below-requires t c κs = let p : c .before .before .before .before .before .before .before .before .before .before .before .args .b ≡ t = c .before .before .before .before .before .before .before .before .before .before .before .pre .0 in omega (arith, c .before .before .before .before .before .before .before .before .before .before .before .pre .1, c .before .before .before .before .before .before .before .before .before .before .if1 .left)
 
 code-below-returns-3 : (t : ℕ) → code-below-lts.Need-returns-3 (code-below-claims t) (code-below-at t) code-below.Post
-code-below-returns-3 t c = means-turned (now (c .before .before .before .before .before .before .before .before .before .before .before .before .args .ws)) (now (c .before .before .before .before .before .before .before .before .before .before .before .before .args .val)) (c .before .before .before .before .before .before .before .before .before .before .before .before .args .known) (c .before .before .before .before .before .before .before .before .before .before .before .before .args .b) (c .before .before .before .before .before .before .before .before .before .before .before .before .args .i) (c .before .before .before .before .before .before .before .before .before .before .before .before .args .neg) (c .before .before .before .before .before .before .before .before .before .before .before .if1 .left) _ (c .before .before .before .before .before .before .before .before .before .kind-of .ensures) _ _ (c .before .before .before .before .before .before .before .k .given .1) (c .before .before .before .before .before .zero-sign .ensures) _ _ (c .before .before .index-of .ensures) (c .before .if3 .taken) (c .code-below .ensures)
+code-below-returns-3 t c =
+    let x5 = c .before .before .before .before .before in
+    let x7 = x5 .before .before in
+    let x9 = x7 .before .before in
+    let x11 = x9 .before .before in
+    let start = x11 .before in
+    means-turned (now (start .args .ws)) (now (start .args .val)) (start .args .known) (start .args .b) (start .args .i) (start .args .neg) (x11 .if1 .left) _
+    (x9 .kind-of .ensures) _ _ (x7 .k .given .1) (x5 .zero-sign .ensures) _ _ (c .before .before .index-of .ensures) (c .before .if3 .taken) (c .code-below .ensures)
 
 code-below-code-below-requires-2 : (t : ℕ) → code-below-lts.Need-code-below-requires-2 (code-below-claims t) (code-below-at t) code-below.Post
 code-below-code-below-requires-2 t c κs = let p : c .before .before .before .before .before .before .before .before .before .before .before .args .b ≡ t = c .before .before .before .before .before .before .before .before .before .before .before .pre .0 in omega (arith, c .before .before .before .before .before .before .before .before .before .before .before .pre .1, c .before .before .before .before .before .before .before .before .before .before .if1 .left)
@@ -119,19 +131,47 @@ code-below-enum-told-3 : (t : ℕ) → code-below-lts.Need-enum-told-3 (code-bel
 code-below-enum-told-3 t c = search needs
 
 code-below-returns-4 : (t : ℕ) → code-below-lts.Need-returns-4 (code-below-claims t) (code-below-at t) code-below.Post
-code-below-returns-4 t c = means-same (now (c .before .before .before .before .before .before .before .before .before .before .before .before .args .ws)) (now (c .before .before .before .before .before .before .before .before .before .before .before .before .args .val)) (c .before .before .before .before .before .before .before .before .before .before .before .before .args .known) (c .before .before .before .before .before .before .before .before .before .before .before .before .args .b) (c .before .before .before .before .before .before .before .before .before .before .before .before .args .i) (c .before .before .before .before .before .before .before .before .before .before .before .before .args .neg) (c .before .before .before .before .before .before .before .before .before .before .before .if1 .left) _ (c .before .before .before .before .before .before .before .before .before .kind-of .ensures) _ _ (c .before .before .before .before .before .before .before .k .given .1) (c .before .before .before .before .before .zero-sign .ensures) _ _ (c .before .before .index-of .ensures) (c .before .before .before .before .if2 .left) (c .before .if3 .left) (c .code-below2 .ensures)
+code-below-returns-4 t c =
+    let x4 = c .before .before .before .before in
+    let x5 = x4 .before in
+    let x7 = x5 .before .before in
+    let x9 = x7 .before .before in
+    let x11 = x9 .before .before in
+    let start = x11 .before in
+    means-same (now (start .args .ws)) (now (start .args .val)) (start .args .known) (start .args .b) (start .args .i) (start .args .neg) (x11 .if1 .left) _
+    (x9 .kind-of .ensures) _ _ (x7 .k .given .1) (x5 .zero-sign .ensures) _ _ (c .before .before .index-of .ensures) (x4 .if2 .left) (c .before .if3 .left)
+    (c .code-below2 .ensures)
 
 code-below-returns-5 : (t : ℕ) → code-below-lts.Need-returns-5 (code-below-claims t) (code-below-at t) code-below.Post
-code-below-returns-5 t c = means-one (now (c .before .before .before .before .before .before .before .before .before .before .before .args .ws)) (now (c .before .before .before .before .before .before .before .before .before .before .before .args .val)) (c .before .before .before .before .before .before .before .before .before .before .before .args .known) (c .before .before .before .before .before .before .before .before .before .before .before .args .b) (c .before .before .before .before .before .before .before .before .before .before .before .args .i) (c .before .before .before .before .before .before .before .before .before .before .before .args .neg) (c .before .before .before .before .before .before .before .before .before .before .if1 .left) _ (c .before .before .before .before .before .before .before .before .kind-of .ensures) _ _ _ _ _ (c .before .before .before .before .before .before .k2 .given .1) (c .before .before .before .index-of2 .ensures) (c .before .before .number-below .ensures) (c .before .read-code .ensures) (c .signed-code .ensures)
+code-below-returns-5 t c =
+    let x6 = c .before .before .before .before .before .before in
+    let x8 = x6 .before .before in
+    let x10 = x8 .before .before in
+    let start = x10 .before in
+    means-one (now (start .args .ws)) (now (start .args .val)) (start .args .known) (start .args .b) (start .args .i) (start .args .neg) (x10 .if1 .left) _
+    (x8 .kind-of .ensures) _ _ _ _ _ (x6 .k2 .given .1) (c .before .before .before .index-of2 .ensures) (c .before .before .number-below .ensures)
+    (c .before .read-code .ensures) (c .signed-code .ensures)
 
 code-below-returns-6 : (t : ℕ) → code-below-lts.Need-returns-6 (code-below-claims t) (code-below-at t) code-below.Post
-code-below-returns-6 t c = means-imm16 (now (c .before .before .before .before .before .args .ws)) (now (c .before .before .before .before .before .args .val)) (c .before .before .before .before .before .args .known) (c .before .before .before .before .before .args .b) (c .before .before .before .before .before .args .i) (c .before .before .before .before .before .args .neg) (c .before .before .before .before .if1 .left) _ (c .before .before .kind-of .ensures) (c .enum-told .given .1)
+code-below-returns-6 t c =
+    let x4 = c .before .before .before .before in
+    let start = x4 .before in
+    means-imm16 (now (start .args .ws)) (now (start .args .val)) (start .args .known) (start .args .b) (start .args .i) (start .args .neg) (x4 .if1 .left) _
+    (c .before .before .kind-of .ensures) (c .enum-told .given .1)
 
 code-below-returns-7 : (t : ℕ) → code-below-lts.Need-returns-7 (code-below-claims t) (code-below-at t) code-below.Post
-code-below-returns-7 t c = means-imm32 (now (c .before .before .before .before .before .args .ws)) (now (c .before .before .before .before .before .args .val)) (c .before .before .before .before .before .args .known) (c .before .before .before .before .before .args .b) (c .before .before .before .before .before .args .i) (c .before .before .before .before .before .args .neg) (c .before .before .before .before .if1 .left) _ (c .before .before .kind-of .ensures) (c .enum-told2 .given .1)
+code-below-returns-7 t c =
+    let x4 = c .before .before .before .before in
+    let start = x4 .before in
+    means-imm32 (now (start .args .ws)) (now (start .args .val)) (start .args .known) (start .args .b) (start .args .i) (start .args .neg) (x4 .if1 .left) _
+    (c .before .before .kind-of .ensures) (c .enum-told2 .given .1)
 
 code-below-returns-8 : (t : ℕ) → code-below-lts.Need-returns-8 (code-below-claims t) (code-below-at t) code-below.Post
-code-below-returns-8 t c = means-other (now (c .before .before .before .before .before .args .ws)) (now (c .before .before .before .before .before .args .val)) (c .before .before .before .before .before .args .known) (c .before .before .before .before .before .args .b) (c .before .before .before .before .before .args .i) (c .before .before .before .before .before .args .neg) (c .before .before .before .before .if1 .left) _ (c .before .before .kind-of .ensures) (c .enum-told3 .given .1)
+code-below-returns-8 t c =
+    let x4 = c .before .before .before .before in
+    let start = x4 .before in
+    means-other (now (start .args .ws)) (now (start .args .val)) (start .args .known) (start .args .b) (start .args .i) (start .args .neg) (x4 .if1 .left) _
+    (c .before .before .kind-of .ensures) (c .enum-told3 .given .1)
 
 pub +code-below-spec : {M : Type 1} → statement M
 +code-below-spec = close μ-code-below λ t. code-below-lts.spec (code-below-claims t)

@@ -119,7 +119,7 @@ same-length-7 : tie.Need-same-length-7
 same-length-7 c = search needs
 
 returns-3 : tie.Need-returns-3
-returns-3 c = entered-new _ _ _ _ _ (c .before .before .before .before .before .before .before .before .before .before .pre .0) _ _ _ _ (missed _ _ _ _ _ _ (c .before .before .before .before .index-of .ensures) (c .before .before .before .find .ensures) (c .before .before .if1 .left)) (c .before .before .before .before .before .before .before .before .before .before .pre .1) (omega (arith, c .before .index-of2 .ensures)) (omega (arith, c .if2 .left)) _ refl refl refl
+returns-3 c = entered-new _ _ _ _ _ (c .before .before .before .before .before .before .before .before .before .before .pre .0) _ _ _ _ (missed _ _ _ _ _ _ (c .before .before .before .before .index-of .ensures) (c .before .before .before .find .ensures) (c .before .before .if1 .left)) (c .before .before .before .before .before .before .before .before .before .before .pre .1) (omega (arith, c .before .index-of2 .ensures)) (omega (arith, c .if2 .left)) _ (omega arith) (omega arith) (omega arith)
 
 pub entry-of-spec : {M : Type 1} → statement M
 entry-of-spec =

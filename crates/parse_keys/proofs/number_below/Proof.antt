@@ -60,19 +60,41 @@ enum-told-5 : tie.Need-enum-told-5
 enum-told-5 c = search needs
 
 returns-2 : tie.Need-returns-2
-returns-2 c = λ n. number-in (nodesIn (now (c .before .before .before .before .before .args .ws)) (now (c .before .before .before .before .before .args .val)) n) (c .before .before .before .before .before .args .b) (c .before .before .before .before .before .args .i) _ _ _ (c .before .before .before .before .if1 .left) (c .before .before .kind-of .ensures) (c .enum-told .given .1) refl
+returns-2 c =
+    let x4 = c .before .before .before .before in
+    let start = x4 .before in
+    λ n. number-in (nodesIn (now (start .args .ws)) (now (start .args .val)) n) (start .args .b) (start .args .i) _ _ _ (x4 .if1 .left)
+    (c .before .before .kind-of .ensures) (c .enum-told .given .1) refl
 
 returns-3 : tie.Need-returns-3
-returns-3 c = λ n. number-in (nodesIn (now (c .before .before .before .before .before .args .ws)) (now (c .before .before .before .before .before .args .val)) n) (c .before .before .before .before .before .args .b) (c .before .before .before .before .before .args .i) _ _ _ (c .before .before .before .before .if1 .left) (c .before .before .kind-of .ensures) (c .enum-told2 .given .1) refl
+returns-3 c =
+    let x4 = c .before .before .before .before in
+    let start = x4 .before in
+    λ n. number-in (nodesIn (now (start .args .ws)) (now (start .args .val)) n) (start .args .b) (start .args .i) _ _ _ (x4 .if1 .left)
+    (c .before .before .kind-of .ensures) (c .enum-told2 .given .1) refl
 
 returns-4 : tie.Need-returns-4
-returns-4 c = λ n. number-in (nodesIn (now (c .before .before .before .before .before .before .before .args .ws)) (now (c .before .before .before .before .before .before .before .args .val)) n) (c .before .before .before .before .before .before .before .args .b) (c .before .before .before .before .before .before .before .args .i) _ _ _ (c .before .before .before .before .before .before .if1 .left) (c .before .before .before .before .kind-of .ensures) (c .before .before .enum-told3 .given .1) (rw (toZ-ofZ {w = w32} (record { sfits = c .before .shifted-arg .given })) at (c .shifted .ensures))
+returns-4 c =
+    let x4 = c .before .before .before .before in
+    let x6 = x4 .before .before in
+    let start = x6 .before in
+    λ n. number-in (nodesIn (now (start .args .ws)) (now (start .args .val)) n) (start .args .b) (start .args .i) _ _ _ (x6 .if1 .left) (x4 .kind-of .ensures)
+    (c .before .before .enum-told3 .given .1) (rw (toZ-ofZ {w = w32} (record { sfits = c .before .shifted-arg .given })) at (c .shifted .ensures))
 
 returns-5 : tie.Need-returns-5
-returns-5 c = λ n. number-in (nodesIn (now (c .before .before .before .before .before .before .before .args .ws)) (now (c .before .before .before .before .before .before .before .args .val)) n) (c .before .before .before .before .before .before .before .args .b) (c .before .before .before .before .before .before .before .args .i) _ _ _ (c .before .before .before .before .before .before .if1 .left) (c .before .before .before .before .kind-of .ensures) (c .before .before .enum-told4 .given .1) (rw (toZ-ofZ {w = w32} (record { sfits = c .before .shifted-arg2 .given })) at (c .shifted2 .ensures))
+returns-5 c =
+    let x4 = c .before .before .before .before in
+    let x6 = x4 .before .before in
+    let start = x6 .before in
+    λ n. number-in (nodesIn (now (start .args .ws)) (now (start .args .val)) n) (start .args .b) (start .args .i) _ _ _ (x6 .if1 .left) (x4 .kind-of .ensures)
+    (c .before .before .enum-told4 .given .1) (rw (toZ-ofZ {w = w32} (record { sfits = c .before .shifted-arg2 .given })) at (c .shifted2 .ensures))
 
 returns-6 : tie.Need-returns-6
-returns-6 c = λ n. number-in (nodesIn (now (c .before .before .before .before .before .args .ws)) (now (c .before .before .before .before .before .args .val)) n) (c .before .before .before .before .before .args .b) (c .before .before .before .before .before .args .i) _ _ _ (c .before .before .before .before .if1 .left) (c .before .before .kind-of .ensures) (c .enum-told5 .given .1) refl
+returns-6 c =
+    let x4 = c .before .before .before .before in
+    let start = x4 .before in
+    λ n. number-in (nodesIn (now (start .args .ws)) (now (start .args .val)) n) (start .args .b) (start .args .i) _ _ _ (x4 .if1 .left)
+    (c .before .before .kind-of .ensures) (c .enum-told5 .given .1) refl
 
 pub number-below-spec : {M : Type 1} → statement M
 number-below-spec =

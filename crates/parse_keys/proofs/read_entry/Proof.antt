@@ -9,10 +9,16 @@ code-below-requires : tie.Need-code-below-requires
 code-below-requires c κs = search needs
 
 returns : tie.Need-returns
-returns c = read-none (now (c .before .before .before .before .before .args .ws)) (now (c .before .before .before .before .before .args .val)) (c .before .before .before .before .before .args .known) (c .before .before .before .before .before .args .b) (c .before .before .before .before .before .args .i) (c .before .before .before .before .before .args .neg) _ (c .before .code-below .ensures) _ _ _ _ (c .before .before .before .before .before .pre .1) (c .if1 .taken)
+returns c =
+    let start = c .before .before .before .before .before in
+    read-none (now (start .args .ws)) (now (start .args .val)) (start .args .known) (start .args .b) (start .args .i) (start .args .neg) _
+    (c .before .code-below .ensures) _ _ _ _ (start .pre .1) (c .if1 .taken)
 
 entry-of-requires : tie.Need-entry-of-requires
-entry-of-requires c κs = (c .before .before .before .before .before .before .before .before .pre .1, node-subject (now (c .before .before .before .before .before .before .before .before .args .ws)) (now (c .before .before .before .before .before .before .before .before .args .val)) (c .before .before .before .before .before .before .before .before .args .known) (c .before .before .before .before .before .before .before .before .args .b) (c .before .before .before .before .before .before .before .before .args .i) (c .before .before .before .before .before .before .before .before .args .neg) _ (c .before .before .before .before .code-below .ensures) (c .before .before .before .if1 .left))
+entry-of-requires c κs =
+    let x4 = c .before .before .before .before in
+    let start = x4 .before .before .before .before in
+    (start .pre .1, node-subject (now (start .args .ws)) (now (start .args .val)) (start .args .known) (start .args .b) (start .args .i) (start .args .neg) _ (x4 .code-below .ensures) (c .before .before .before .if1 .left))
 
 same-length : tie.Need-same-length
 same-length c = search needs
@@ -24,7 +30,13 @@ same-length-3 : tie.Need-same-length-3
 same-length-3 c = search needs
 
 returns-2 : tie.Need-returns-2
-returns-2 c = read-some (now (c .before .before .before .before .before .before .before .before .before .before .before .before .before .before .before .args .ws)) (now (c .before .before .before .before .before .before .before .before .before .before .before .before .before .before .before .args .val)) (c .before .before .before .before .before .before .before .before .before .before .before .before .before .before .before .args .known) (c .before .before .before .before .before .before .before .before .before .before .before .before .before .before .before .args .b) (c .before .before .before .before .before .before .before .before .before .before .before .before .before .before .before .args .i) (c .before .before .before .before .before .before .before .before .before .before .before .before .before .before .before .args .neg) _ (c .before .before .before .before .before .before .before .before .before .before .before .code-below .ensures) _ _ _ _ _ _ (c .before .before .before .before .before .before .before .before .before .before .if1 .left) (c .before .before .before .before .before .before .entry-of .ensures)
+returns-2 c =
+    let x6 = c .before .before .before .before .before .before in
+    let x10 = x6 .before .before .before .before in
+    let x11 = x10 .before in
+    let start = x11 .before .before .before .before in
+    read-some (now (start .args .ws)) (now (start .args .val)) (start .args .known) (start .args .b) (start .args .i) (start .args .neg) _ (x11 .code-below .ensures) _ _
+    _ _ _ _ (x10 .if1 .left) (x6 .entry-of .ensures)
 
 pub read-entry-spec : {M : Type 1} → statement M
 read-entry-spec =

@@ -1,0 +1,99 @@
+use borrow.Author.Needs.{needs}
+use Rattle.parse_visit.proofs.go_on.Statement.{statement}
+use Rattle.parse_visit.proofs.go_on.Tie as tie
+use Rattle.parse_visit.proofs.go_on.Reads as reads
+use Rattle.parse_visit.proofs.go_on.Lts as lts
+use Rattle.memory.proofs.index_of.Reads as index-of-reads
+use Rattle.parse_visit.proofs.block_word.Reads as block-word-reads
+use Rattle.parse_visit.proofs.join.Reads as join-reads
+use Rattle.parse_visit.proofs.reads_on.Reads as reads-on-reads
+
+-- src/lib.rt:248:9
+block-word-requires : tie.Need-block-word-requires
+block-word-requires c κs = search needs
+
+-- src/lib.rt:249:9
+block-word-requires-2 : tie.Need-block-word-requires-2
+block-word-requires-2 c κs = search needs
+
+-- src/lib.rt:250:9
+reads-on-requires : tie.Need-reads-on-requires
+reads-on-requires c κs = search needs
+
+-- src/lib.rt:251:9
+returns : tie.Need-returns
+returns c = ?
+
+-- src/lib.rt:259:83
+sub-index-of : tie.Need-sub-index-of
+sub-index-of c = ?
+
+-- src/lib.rt:259:74
+index-of-requires : tie.Need-index-of-requires
+index-of-requires c κs = search needs
+
+-- src/lib.rt:259:9
+join-requires : tie.Need-join-requires
+join-requires c κs = search needs
+
+-- src/lib.rt:263:15
+mul-t31 : tie.Need-mul-t31
+mul-t31 c = ?
+
+-- src/lib.rt:263:15
+add-t32 : tie.Need-add-t32
+add-t32 c = ?
+
+-- src/lib.rt:265:20
+mul-t33 : tie.Need-mul-t33
+mul-t33 c = ?
+
+-- src/lib.rt:265:20
+add-t34 : tie.Need-add-t34
+add-t34 c = ?
+
+-- src/lib.rt:229:1
+same-length : tie.Need-same-length
+same-length c = search needs
+
+-- src/lib.rt:229:1
+same-length-2 : tie.Need-same-length-2
+same-length-2 c = search needs
+
+-- src/lib.rt:229:1
+same-length-3 : tie.Need-same-length-3
+same-length-3 c = search needs
+
+-- src/lib.rt:229:1
+same-length-4 : tie.Need-same-length-4
+same-length-4 c = search needs
+
+-- src/lib.rt:229:1
+same-length-5 : tie.Need-same-length-5
+same-length-5 c = search needs
+
+-- src/lib.rt:229:1
+returns-2 : tie.Need-returns-2
+returns-2 c = ?
+
+pub go-on-spec : {M : Type 1} → statement M
+go-on-spec =
+    tie.close
+    (tie.spec
+    block-word-requires
+    block-word-requires-2
+    reads-on-requires
+    returns
+    sub-index-of
+    index-of-requires
+    join-requires
+    mul-t31
+    add-t32
+    mul-t33
+    add-t34
+    same-length
+    same-length-2
+    same-length-3
+    same-length-4
+    same-length-5
+    returns-2)
