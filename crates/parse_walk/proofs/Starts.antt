@@ -8,7 +8,7 @@ use native.Mathlib.Omega.{arith}
 use lib.IntN.{pos}
 use lib.ListN.{length, getD, set, take, replicate, length-set, length-replicate, getD-replicate}
 use lib.Seq.{getD-set-same, getD-set-other}
-use Rattle.model.specs.Limits.{slotCount, nodeLimit}
+use Rattle.model.specs.Limits.{slotCount, blockLimit, nodeLimit}
 use Rattle.model.specs.Script.{blockNodes}
 use Rattle.model.specs.Sheet.{Sheet}
 use Rattle.model.specs.Shop
@@ -147,6 +147,15 @@ module _ (n b : ℕ) (l : 2 ≤ n) where
 
   pub first-under : getD (set (replicate n 0) 0 b) 1 0 ≡ 0
   first-under = getD-set-other (replicate n 0) 0 1 b 0 (λ e. omega arith) ∙ getD-replicate n 1 0 0 (omega arith)
+
+pub large-start : (m : Memory) → m .count ≤ blockLimit → (n a c l s v r d b : ℕ) → 3 * blockLimit ≤ r → nodeLimit + blockLimit ≤ 3 * l → l < n → 2 * blockLimit + 2 ≤ d
+    → Large m (storedIn (replicate n 0) (replicate a 0) (replicate c 0) (replicate l 0) (replicate s false) (replicate v 0) (replicate r 0)) (set (replicate d 0) 0 b)
+large-start m few n a c l s v r d b kr kl kn kd = record {
+  rows = simp length-replicate (omega arith);
+  words = simp length-replicate (omega arith);
+  keys = simp length-replicate (omega arith);
+  tall = simp (length-set, length-replicate) (omega arith);
+}
 
 -- ---- where the walk ends
 
