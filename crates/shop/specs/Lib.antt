@@ -3,3 +3,4 @@ pub mod Sets
 pub mod Codes
 pub mod Slots
 pub mod SetLaws
+pub mod Good

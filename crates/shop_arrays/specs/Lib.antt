@@ -1,3 +1,4 @@
 pub mod Arrays
 pub mod Back
 pub mod Slots
+pub mod Rows

@@ -1,0 +1,4 @@
+pub mod Gathered
+pub mod Listing
+pub mod Gathers
+pub mod ListingLaws

@@ -1,0 +1,30 @@
+-- `parse_filter::entry_code` meets its contract: a key is small enough that its Missing code fits. Assumes nothing.
+use native.Mathlib.Omega.{arith}
+use borrow.Author.Needs.{needs}
+use Rattle.parse_filter.proofs.entry_code.Statement.{statement}
+use Rattle.parse_filter.proofs.entry_code.Tie as tie
+
+index-of-requires : tie.Need-index-of-requires
+index-of-requires c κs = search needs
+
+mul-key : tie.Need-mul-key
+mul-key c = search needs
+
+shared-slice-read-key : tie.Need-shared-slice-read-key
+shared-slice-read-key c = search needs
+
+returns : tie.Need-returns
+returns c = rw (c .before .before .index-of .ensures) (omega arith)
+
+add-result : tie.Need-add-result
+add-result c =
+    let s = c .before .before .before .before in
+    omega (arith, rw (← c .before .before .index-of .ensures) at (s .pre .1))
+
+returns-2 : tie.Need-returns-2
+returns-2 c = rw (c .before .before .index-of .ensures) (omega arith)
+
+pub entry-code-spec : {M : Type 1} → statement M
+entry-code-spec =
+    tie.close
+    (tie.spec index-of-requires mul-key shared-slice-read-key returns add-result returns-2)

@@ -1,0 +1,7 @@
+pub mod Entries
+pub mod Turns
+pub mod Search
+pub mod Small
+pub mod Reads
+pub mod Tables
+pub mod Growth

@@ -1,0 +1,71 @@
+-- `index_below` meets its contract: the index goes by the kind that was found. Assumes nothing.
+use Rattle.model.specs.Memory.{nodesIn}
+use Rattle.model.specs.Parse.{itemIndex}
+use Rattle.expr.specs.Tree.{below-out}
+use Rattle.parse_scan.specs.Reads.{index-of-one, indexBy}
+use Rattle.parse_scan.proofs.NoneOf.{no-one}
+use mathlib.Core.Path.{ap, sym, _∙_}
+use borrow.Author.Needs.{needs}
+use Rattle.parse_scan.proofs.index_below.Statement.{statement}
+use Rattle.parse_scan.proofs.index_below.Tie as tie
+
+returns : tie.Need-returns
+returns c = λ n. sym (ap itemIndex (below-out (nodesIn (c .before .args .ws .now) (c .before .args .val .now) n) (c .before .args .b) (c .before .args .i) (c .if1 .taken)))
+
+mul-kind-of : tie.Need-mul-kind-of
+mul-kind-of c = search needs
+
+mul-kind-of-2 : tie.Need-mul-kind-of-2
+mul-kind-of-2 c = search needs
+
+element-copy-out-kind-of : tie.Need-element-copy-out-kind-of
+element-copy-out-kind-of c = search needs
+
+kind-of-requires : tie.Need-kind-of-requires
+kind-of-requires c κs = search needs
+
+enum-known-k : tie.Need-enum-known-k
+enum-known-k c = search needs
+
+returns-2 : tie.Need-returns-2
+returns-2 c = λ n. no-one _ (nodesIn (c .before .before .before .before .args .ws .now) (c .before .before .before .before .args .val .now) n) (c .before .before .before .before .args .b) (c .before .before .before .before .args .i) (c .before .before .before .if1 .left) (c .before .kind-of .ensures) (c .match .keys2)
+
+mul-number-below : tie.Need-mul-number-below
+mul-number-below c = search needs
+
+add-number-below : tie.Need-add-number-below
+add-number-below c = search needs
+
+mul-number-below-2 : tie.Need-mul-number-below-2
+mul-number-below-2 c = search needs
+
+element-copy-out-number-below : tie.Need-element-copy-out-number-below
+element-copy-out-number-below c = search needs
+
+number-below-requires : tie.Need-number-below-requires
+number-below-requires c κs = search needs
+
+index-by-requires : tie.Need-index-by-requires
+index-by-requires c κs = search needs
+
+returns-3 : tie.Need-returns-3
+returns-3 c = λ n. c .index-by .ensures ∙ ap (indexBy (c .before .before .before .before .k .given .0 .0)) (c .before .number-below .ensures n) ∙ index-of-one (nodesIn (c .before .before .before .before .before .before .before .before .before .args .ws .now) (c .before .before .before .before .before .before .before .before .before .args .val .now) n) (c .before .before .before .before .before .before .before .before .before .args .b) (c .before .before .before .before .before .before .before .before .before .args .i) (c .before .before .before .before .before .before .before .before .if1 .left) _ (c .before .before .before .before .before .before .kind-of .ensures) (c .before .before .before .before .k .given .0 .0) (c .before .before .before .before .k .given .1)
+
+pub index-below-spec : {M : Type 1} → statement M
+index-below-spec =
+    tie.close
+    (tie.spec
+    returns
+    mul-kind-of
+    mul-kind-of-2
+    element-copy-out-kind-of
+    kind-of-requires
+    enum-known-k
+    returns-2
+    mul-number-below
+    add-number-below
+    mul-number-below-2
+    element-copy-out-number-below
+    number-below-requires
+    index-by-requires
+    returns-3)

@@ -1,0 +1,17 @@
+-- `index_by` meets its contract: only Item is read. Assumes nothing.
+use Rattle.parse_scan.proofs.NoneOf.{no-item}
+use borrow.Author.Needs.{needs}
+use Rattle.parse_scan.proofs.index_by.Statement.{statement}
+use Rattle.parse_scan.proofs.index_by.Tie as tie
+
+enum-told : tie.Need-enum-told
+enum-told c = search needs
+
+returns : tie.Need-returns
+returns c = search needs
+
+returns-2 : tie.Need-returns-2
+returns-2 c = no-item (c .before .args .o) _ (c .match .keys2)
+
+pub index-by-spec : {M : Type 1} → statement M
+index-by-spec = tie.close (tie.spec enum-told returns returns-2)

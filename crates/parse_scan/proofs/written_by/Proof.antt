@@ -1,0 +1,120 @@
+-- `written_by` meets its contract: the value goes by the kind that was found; an Imm16 has 16 bits, so that the cut does not change it. Assumes nothing.
+use mathlib.Core.Option.{Option, some}
+use lib.IntN.{ℤ}
+use mir.Syntax.{w16, w32}
+use mir.Facts.{toZ-ofZ}
+use Rattle.model.specs.Memory.{nodesIn}
+use Rattle.parse_scan.specs.Reads.{wrote-two, wrote-one, wrote-imm16, wrote-imm32, wrote-other, code-imm16}
+use mathlib.Core.Path.{ap, _∙_}
+use borrow.Author.Needs.{needs}
+use Rattle.parse_scan.proofs.written_by.Statement.{statement}
+use Rattle.parse_scan.proofs.written_by.Tie as tie
+
+mul-kind-of : tie.Need-mul-kind-of
+mul-kind-of c = search needs
+
+mul-kind-of-2 : tie.Need-mul-kind-of-2
+mul-kind-of-2 c = search needs
+
+element-copy-out-kind-of : tie.Need-element-copy-out-kind-of
+element-copy-out-kind-of c = search needs
+
+kind-of-requires : tie.Need-kind-of-requires
+kind-of-requires c κs = search needs
+
+enum-told : tie.Need-enum-told
+enum-told c = search needs
+
+enum-known-k : tie.Need-enum-known-k
+enum-known-k c = search needs
+
+mul-number-below : tie.Need-mul-number-below
+mul-number-below c = search needs
+
+add-number-below : tie.Need-add-number-below
+add-number-below c = search needs
+
+mul-number-below-2 : tie.Need-mul-number-below-2
+mul-number-below-2 c = search needs
+
+element-copy-out-number-below : tie.Need-element-copy-out-number-below
+element-copy-out-number-below c = search needs
+
+number-below-requires : tie.Need-number-below-requires
+number-below-requires c κs = search needs
+
+first-of-requires : tie.Need-first-of-requires
+first-of-requires c κs = search needs
+
+enum-told-2 : tie.Need-enum-told-2
+enum-told-2 c = search needs
+
+mul-cut : tie.Need-mul-cut
+mul-cut c = search needs
+
+element-copy-out-cut : tie.Need-element-copy-out-cut
+element-copy-out-cut c = search needs
+
+cut-requires : tie.Need-cut-requires
+cut-requires c κs = search needs
+
+enum-told-3 : tie.Need-enum-told-3
+enum-told-3 c = search needs
+
+mul-cut-2 : tie.Need-mul-cut-2
+mul-cut-2 c = search needs
+
+element-copy-out-cut-2 : tie.Need-element-copy-out-cut-2
+element-copy-out-cut-2 c = search needs
+
+cut-requires-2 : tie.Need-cut-requires-2
+cut-requires-2 c κs = search needs
+
+enum-told-4 : tie.Need-enum-told-4
+enum-told-4 c = search needs
+
+returns : tie.Need-returns
+returns c = λ n. wrote-two (nodesIn (c .before .before .before .before .args .ws .now) (c .before .before .before .before .args .val .now) n) (c .before .before .before .before .args .v) (c .before .before .before .before .args .limit) _ (c .before .before .kind-of .ensures) _ (c .enum-told .given .1)
+
+returns-2 : tie.Need-returns-2
+returns-2 c = λ n. (rw (toZ-ofZ (c .before .before .before .before .before .before .before .before .fits .limit), c .before .number-below .ensures n) at (c .first-of .ensures)) ∙ wrote-one (nodesIn (c .before .before .before .before .before .before .before .before .args .ws .now) (c .before .before .before .before .before .before .before .before .args .val .now) n) (c .before .before .before .before .before .before .before .before .args .v) (c .before .before .before .before .before .before .before .before .args .limit) _ (c .before .before .before .before .before .before .kind-of .ensures) _ (c .before .before .before .before .k .given .1)
+
+returns-3 : tie.Need-returns-3
+returns-3 c = λ n. ap {B = Option ℤ} some (toZ-ofZ {w = w16} (record { sfits = c .cut .ok }) ∙ (rw (toZ-ofZ {w = w32} (record { sfits = c .before .cut-arg .given })) at (c .cut .ensures))) ∙ wrote-imm16 (nodesIn (c .before .before .before .before .before .before .args .ws .now) (c .before .before .before .before .before .before .args .val .now) n) (c .before .before .before .before .before .before .args .v) (c .before .before .before .before .before .before .args .limit) _ (c .before .before .before .before .kind-of .ensures) (c .before .before .enum-told2 .given .1) (c .before .before .before .before .before .before .pre .short (code-imm16 (nodesIn (c .before .before .before .before .before .before .args .ws .now) (c .before .before .before .before .before .before .args .val .now) n) (c .before .before .before .before .before .before .args .v) (c .before .before .before .before .before .before .args .limit) _ (c .before .before .before .before .kind-of .ensures) (c .before .before .enum-told2 .given .1)))
+
+returns-4 : tie.Need-returns-4
+returns-4 c = λ n. ap {B = Option ℤ} some (toZ-ofZ {w = w16} (record { sfits = c .cut2 .ok }) ∙ (rw (toZ-ofZ {w = w32} (record { sfits = c .before .cut-arg2 .given })) at (c .cut2 .ensures))) ∙ wrote-imm32 (nodesIn (c .before .before .before .before .before .before .args .ws .now) (c .before .before .before .before .before .before .args .val .now) n) (c .before .before .before .before .before .before .args .v) (c .before .before .before .before .before .before .args .limit) _ (c .before .before .before .before .kind-of .ensures) (c .before .before .enum-told3 .given .1)
+
+returns-5 : tie.Need-returns-5
+returns-5 c = λ n. wrote-other (nodesIn (c .before .before .before .before .args .ws .now) (c .before .before .before .before .args .val .now) n) (c .before .before .before .before .args .v) (c .before .before .before .before .args .limit) _ (c .before .before .kind-of .ensures) (c .enum-told4 .given .1)
+
+pub written-by-spec : {M : Type 1} → statement M
+written-by-spec =
+    tie.close
+    (tie.spec
+    mul-kind-of
+    mul-kind-of-2
+    element-copy-out-kind-of
+    kind-of-requires
+    enum-told
+    enum-known-k
+    mul-number-below
+    add-number-below
+    mul-number-below-2
+    element-copy-out-number-below
+    number-below-requires
+    first-of-requires
+    enum-told-2
+    mul-cut
+    element-copy-out-cut
+    cut-requires
+    enum-told-3
+    mul-cut-2
+    element-copy-out-cut-2
+    cut-requires-2
+    enum-told-4
+    returns
+    returns-2
+    returns-3
+    returns-4
+    returns-5)

@@ -1,0 +1,13 @@
+pub mod Bits
+pub mod Table
+pub mod Reads
+pub mod Ready
+pub mod Accepted
+pub mod LastIf
+pub mod Block
+pub mod Extend
+pub mod Slots
+pub mod Shown
+pub mod AllSlots
+pub mod Rows
+pub mod InPlace

@@ -1,0 +1,336 @@
+// One block of a parse: its commands read under the condition that leads to it, the slots that it writes, the conditions of the blocks after it.
+ghost use mathlib.Core.Path.{_≡_};
+ghost use mathlib.Core.Bool.{cond, true};
+ghost use Prim.Native.Nat.{_+_, _*_, _≤_, _<_};
+ghost use lib.ListN.{length, getD};
+ghost use Rattle.model.specs.Limits.{blockLimit};
+ghost use Rattle.model.specs.Refusal.{parseTooMany};
+ghost use Rattle.model.specs.Memory.{memoryIn};
+ghost use Rattle.shop.specs.Good.{GoodShop};
+ghost use Rattle.shop_arrays.specs.Arrays.{arraysIn, shopFrom};
+ghost use Rattle.parse_conditions.specs.Listing.{Place};
+ghost use Rattle.parse_filter.specs.Chains.{entriesIn, Bounds};
+ghost use Rattle.parse_filter.specs.Marks.{MarkedAs};
+ghost use Rattle.parse_scan.specs.Table.{tableOf};
+ghost use Rattle.parse_visit.specs.State.{noRoom, withAnswer, oneCellMore, scannedWalk, storedIn, Held, Open, Visits};
+ghost use Rattle.parse_visit.specs.Joins.{withCell};
+ghost use Rattle.parse_visit.specs.Slots.{Under, Slots};
+ghost use Rattle.parse_visit.specs.Ways.{placeOf, Joined, ReadsOn, GoesOn};
+use memory::Counts;
+use memory::index_of;
+use parse_conditions::FULL;
+use parse_conditions::read_condition;
+use parse_filter::Filtered;
+use parse_filter::Marked;
+use parse_filter::parse_requirements;
+use parse_keys::Known;
+use parse_scan::Scanned;
+use parse_scan::hides;
+use parse_scan::scan_block;
+use parse_scan::size;
+use parse_scan::update_slots;
+
+// What is carried from block to block beside the arrays: the current limit, how many cells of conditions there are, the refusal or 0, how many entries of Ifs and keys there are, and the condition whose entries are marked.
+pub struct Walk {
+    pub limit: i16,
+    pub cells: u16,
+    pub answer: u8,
+    pub used: u16,
+    pub keyed: u16,
+    pub marked: Marked,
+}
+
+// What a block leaves, its next and else as they stand in the script, and the numbers of their conditions.
+pub struct Visited {
+    pub walk: Walk,
+    pub next: u16,
+    pub then: u16,
+    pub other: u16,
+    pub otherwise: u16,
+}
+
+// The refusal of the slots or 0, and the condition whose entries are marked.
+struct Slotted {
+    answer: u8,
+    marked: Marked,
+}
+
+// No room in the tables: no refusal, the walk is made again in larger ones.
+pub const NO_ROOM: u8 = 255;
+
+// ---- the slots
+
+// The codes of the negated requirements of the condition c, where the block hides a slot: no other block asks for them.
+fn hidden_under(
+    keys: &[u64],
+    companions: &[u16],
+    list: &[u16],
+    seen: &mut [bool],
+    alive: &mut [u16],
+    cells: &[u16],
+    more: &mut [u64; 32],
+    ids: &[i16; 20],
+    s: Scanned,
+    old: Marked,
+    c: usize,
+) -> Filtered
+    requires { ⌜ Bounds (now keys) (now companions) (now cells) (now list) (length (now seen)) (length (now alive)) (old .first) c × MarkedAs (now companions) (now cells) (now list) (now seen) (now alive) old ⌝ }
+    ensures { λ r. ⌜ Under (now (keys .entry)) (now (companions .entry)) (now (cells .entry)) (now (list .entry)) c (old .first) (tableOf (s .«item_mask») (now (ids .entry))) (s .«count_mask») (now (seen .exit)) (now (alive .exit)) (now (more .exit)) r ⌝ }
+{
+    if !hides(s, ids) {
+        return Filtered {
+            len: 0,
+            marked: old,
+        };
+    }
+    parse_requirements(cells, list, keys, companions, seen, alive, more, old, c)
+}
+
+fn refusal(ok: bool) -> u8
+    ensures { λ r. ⌜ r ≡ cond ok 0 parseTooMany ⌝ }
+{
+    if ok {
+        return 0;
+    }
+    11
+}
+
+// The slots as the block leaves them. Without a count no slot changes.
+fn slots_after(
+    keys: &[u64],
+    companions: &[u16],
+    list: &[u16],
+    seen: &mut [bool],
+    alive: &mut [u16],
+    cells: &[u16],
+    items: &mut [i32; 20],
+    limits: &mut [i16; 20],
+    codes: &mut [u64; 640],
+    lens: &mut [u8; 20],
+    ids: &[i16; 20],
+    counts: &[i16; 20],
+    known: u16,
+    s: Scanned,
+    old: Marked,
+    c: usize,
+) -> Slotted
+    requires { ⌜ Bounds (now keys) (now companions) (now cells) (now list) (length (now seen)) (length (now alive)) (old .first) c × MarkedAs (now companions) (now cells) (now list) (now seen) (now alive) old ⌝ }
+    requires { ⌜ GoodShop (shopFrom (arraysIn (now items) (now limits) (now codes) (now lens))) ⌝ }
+    ensures { λ r. ⌜ Slots (now (keys .entry)) (now (companions .entry)) (now (cells .entry)) (now (list .entry)) c known (old .first) (tableOf (s .«item_mask») (now (ids .entry))) (tableOf (s .«count_mask») (now (counts .entry))) (shopFrom (arraysIn (now (items .entry)) (now (limits .entry)) (now (codes .entry)) (now (lens .entry)))) (now (seen .exit)) (now (alive .exit)) (shopFrom (arraysIn (now (items .exit)) (now (limits .exit)) (now (codes .exit)) (now (lens .exit)))) r ⌝ }
+{
+    size(counts);
+    if s.count_mask == 0 {
+        return Slotted {
+            answer: 0,
+            marked: old,
+        };
+    }
+    let mut more = [0u64; 32];
+    let f = hidden_under(keys, companions, list, seen, alive, cells, &mut more, ids, s, old, c);
+    let ok = update_slots(items, limits, codes, lens, known, s, ids, counts, &more, f.len);
+    let marked = f.marked;
+    Slotted {
+        answer: refusal(ok),
+        marked,
+    }
+}
+
+// ---- the conditions after a block
+
+// Cell n holds the condition c and where the entries of the If that it is joined with begin and end.
+fn add_cell(cells: &mut [u16], n: usize, c: u16, from: u16, to: u16)
+    requires { ⌜ 3 * n + 3 ≤ length (now cells) ⌝ }
+    ensures { λ _. ⌜ now (cells .exit) ≡ withCell (now (cells .entry)) n c from to ⌝ }
+{
+    cells[3 * n] = c;
+    cells[3 * n + 1] = from;
+    cells[3 * n + 2] = to;
+}
+
+// How far keys and list have come, as read_condition takes it.
+fn place(w: Walk) -> u32
+    ensures { λ r. ⌜ r ≡ placeOf w ⌝ }
+{
+    (w.keyed as u32) * 65536 + (w.used as u32)
+}
+
+pub fn answered(w: Walk, answer: u8) -> Walk
+    ensures { λ r. ⌜ r ≡ withAnswer w answer ⌝ }
+{
+    let marked = w.marked;
+    Walk {
+        limit: w.limit,
+        cells: w.cells,
+        answer,
+        used: w.used,
+        keyed: w.keyed,
+        marked,
+    }
+}
+
+// After an If was read: one cell more, and so many entries and keys.
+fn one_cell_more(w: Walk, used: u16, keyed: u16) -> Walk
+    requires { ⌜ w .cells < blockLimit ⌝ }
+    ensures { λ r. ⌜ r ≡ oneCellMore w used keyed ⌝ }
+{
+    let marked = w.marked;
+    Walk {
+        limit: w.limit,
+        cells: w.cells + 1,
+        answer: w.answer,
+        used,
+        keyed,
+        marked,
+    }
+}
+
+// The If of root i, below n, read and joined to the condition c as a cell more.
+fn join(
+    ws: &[u16; 98304],
+    val: &[i32; 32768],
+    keys: &mut [u64],
+    kids: &mut [u16],
+    companions: &mut [u16],
+    list: &mut [u16],
+    cells: &mut [u16],
+    known: Known,
+    n: usize,
+    i: usize,
+    c: u16,
+    w: Walk,
+) -> Walk
+    requires { ⌜ ((n ≤ 32768) × (w .cells < blockLimit)) × ((w .answer ≡ noRoom → ⊥) × Place (now keys) (now kids) (now companions) (now list) (placeOf w)) ⌝ }
+    ensures { λ r. ⌜ Joined (now (ws .entry)) (now (val .entry)) known n i c w (now (keys .entry)) (now (list .entry)) (now (cells .entry)) (now (keys .exit)) (now (kids .exit)) (now (companions .exit)) (now (list .exit)) (now (cells .exit)) r ⌝ }
+{
+    let at = index_of(w.cells);
+    if cells.len() < 3 * at + 3 {
+        return answered(w, NO_ROOM);
+    }
+    let r = read_condition(ws, val, keys, kids, companions, list, known, n, i, false, place(w));
+    if r == FULL {
+        return answered(w, NO_ROOM);
+    }
+    let used = (r % 65536) as u16;
+    add_cell(cells, at, c, w.used, used);
+    one_cell_more(w, used, (r / 65536) as u16)
+}
+
+// Word j of block b.
+fn block_word(bw: &[u16; 20480], b: u16, j: usize) -> u16
+    requires { ⌜ (b < blockLimit) × (j < 5) ⌝ }
+    ensures { λ r. ⌜ r ≡ getD (now (bw .entry)) (5 * b + j) 0 ⌝ }
+{
+    bw[5 * index_of(b) + j]
+}
+
+fn reads_on(answer: u8, last: u16, next: u16) -> bool
+    ensures { λ r. ⌜ ReadsOn answer last next r ⌝ }
+{
+    if answer != 0 {
+        return false;
+    }
+    if last == 0 {
+        return false;
+    }
+    if next == 0 {
+        return false;
+    }
+    true
+}
+
+// Where the walk goes on after block b: the condition c joined with its last If, negated for the else. It is read where the block has an If and a next, and nothing was refused.
+fn go_on(
+    ws: &[u16; 98304],
+    val: &[i32; 32768],
+    bw: &[u16; 20480],
+    keys: &mut [u64],
+    kids: &mut [u16],
+    companions: &mut [u16],
+    list: &mut [u16],
+    cells: &mut [u16],
+    known: Known,
+    n: usize,
+    last: u16,
+    w: Walk,
+    b: u16,
+    c: u16,
+) -> Visited
+    requires { ⌜ ((n ≤ 32768) × ((w .cells < blockLimit) × (b < blockLimit))) × ((w .answer ≡ noRoom → ⊥) × Place (now keys) (now kids) (now companions) (now list) (placeOf w)) ⌝ }
+    ensures { λ r. ⌜ GoesOn (now (ws .entry)) (now (val .entry)) n known (now (keys .entry)) (now (kids .entry)) (now (companions .entry)) (now (list .entry)) (now (cells .entry)) w c last (now (keys .exit)) (now (kids .exit)) (now (companions .exit)) (now (list .exit)) (now (cells .exit)) r × ((r .next ≡ getD (now (bw .entry)) (5 * b + 3) 0) × (r .other ≡ getD (now (bw .entry)) (5 * b + 4) 0)) ⌝ }
+{
+    let next = block_word(bw, b, 3);
+    let other = block_word(bw, b, 4);
+    if !reads_on(w.answer, last, next) {
+        return Visited {
+            walk: w,
+            next,
+            then: 0,
+            other,
+            otherwise: 0,
+        };
+    }
+    let j = join(ws, val, keys, kids, companions, list, cells, known, n, index_of(last - 1), c, w);
+    Visited {
+        walk: j,
+        next,
+        then: 2 * w.cells + 1,
+        other,
+        otherwise: 2 * w.cells + 2,
+    }
+}
+
+// ---- the visit
+
+// After the block's commands and slots.
+fn scanned(w: Walk, s: Scanned, a: Slotted) -> Walk
+    ensures { λ r. ⌜ r ≡ scannedWalk w s a ⌝ }
+{
+    let marked = a.marked;
+    Walk {
+        limit: s.limit,
+        cells: w.cells,
+        answer: a.answer,
+        used: w.used,
+        keyed: w.keyed,
+        marked,
+    }
+}
+
+// Block b, which is code and not marked, under the condition c.
+pub fn visit(
+    ws: &[u16; 98304],
+    val: &[i32; 32768],
+    cw: &[u16; 65536],
+    bw: &[u16; 20480],
+    keys: &mut [u64],
+    kids: &mut [u16],
+    companions: &mut [u16],
+    list: &mut [u16],
+    seen: &mut [bool],
+    alive: &mut [u16],
+    cells: &mut [u16],
+    marks: &mut [bool; 4096],
+    items: &mut [i32; 20],
+    limits: &mut [i16; 20],
+    codes: &mut [u64; 640],
+    lens: &mut [u8; 20],
+    ids: &mut [i16; 20],
+    counts: &mut [i16; 20],
+    k: Counts,
+    known: Known,
+    w: Walk,
+    b: u16,
+    c: u16,
+) -> Visited
+    requires { ⌜ Held known (storedIn (now keys) (now kids) (now companions) (now list) (now seen) (now alive) (now cells)) w ⌝ }
+    requires { ⌜ Open (memoryIn (now ws) (now val) (now cw) (now bw) (k .nodes) (k .commands) (k .blocks)) (shopFrom (arraysIn (now items) (now limits) (now codes) (now lens))) w b c ⌝ }
+    ensures { λ r. ⌜ Visits (memoryIn (now (ws .entry)) (now (val .entry)) (now (cw .entry)) (now (bw .entry)) (k .nodes) (k .commands) (k .blocks)) known (storedIn (now (keys .entry)) (now (kids .entry)) (now (companions .entry)) (now (list .entry)) (now (seen .entry)) (now (alive .entry)) (now (cells .entry))) (now (marks .entry)) (shopFrom (arraysIn (now (items .entry)) (now (limits .entry)) (now (codes .entry)) (now (lens .entry)))) w b c (storedIn (now (keys .exit)) (now (kids .exit)) (now (companions .exit)) (now (list .exit)) (now (seen .exit)) (now (alive .exit)) (now (cells .exit))) (now (marks .exit)) (shopFrom (arraysIn (now (items .exit)) (now (limits .exit)) (now (codes .exit)) (now (lens .exit)))) r ⌝ }
+{
+    let first = block_word(bw, b, 1);
+    let held = block_word(bw, b, 2);
+    marks[index_of(b)] = true;
+    let s = scan_block(ws, val, cw, ids, counts, first, held, w.limit);
+    let old = w.marked;
+    let a = slots_after(keys, companions, list, seen, alive, cells, items, limits, codes, lens, ids, counts, known.items, s, old, index_of(c));
+    go_on(ws, val, bw, keys, kids, companions, list, cells, known, index_of(k.nodes), s.last_if, scanned(w, s, a), b, c)
+}

@@ -1,0 +1,242 @@
+// The parser's walk: a loop with a stack of blocks and conditions, and one array of marks; small tables first, large ones where there was no room.
+ghost use mathlib.Core.Path.{_≡_};
+ghost use mathlib.Core.Bool.{false};
+ghost use Prim.Native.Nat.{_≤_, _<_};
+ghost use lib.ListN.{length, getD, replicate};
+ghost use Rattle.model.specs.Memory.{memoryIn};
+ghost use Rattle.model.specs.Sheet.{Sheet};
+ghost use Rattle.expr.specs.Requirement.{Has};
+ghost use Rattle.shop.specs.Shapes.{noShop};
+ghost use Rattle.shop_arrays.specs.Arrays.{arraysIn, shopFrom};
+ghost use Rattle.parse_visit.specs.State.{Accepted, storedIn, Holding};
+ghost use Rattle.parse_walk.specs.Walks.{startWalk, noneYet, Walked, WalkedIf, Ends};
+use memory::Counts;
+use parse_filter::Marked;
+use parse_keys::Known;
+use parse_visit::NO_ROOM;
+use parse_visit::Walk;
+use parse_visit::answered;
+use parse_visit::visit;
+use reach::is_code;
+use reach::push;
+use reach::top_unmarked;
+use shop_arrays::clear_arrays;
+
+fn start() -> Walk
+    ensures { λ r. ⌜ r ≡ startWalk ⌝ }
+{
+    Walk {
+        limit: 0,
+        cells: 0,
+        answer: 0,
+        used: 0,
+        keyed: 0,
+        marked: Marked {
+            first: 0,
+            alive: 0,
+        },
+    }
+}
+
+// The walk from the block that is on the stack, under no condition: each block once, next before else, 10 at a block not code. Each turn marks one block more: the measure is the number of unmarked blocks.
+// The variables of a block, ids and counts, are lent to each visit, which says by masks which of them it wrote.
+fn walk_all(
+    ws: &[u16; 98304],
+    val: &[i32; 32768],
+    cw: &[u16; 65536],
+    bw: &[u16; 20480],
+    keys: &mut [u64],
+    kids: &mut [u16],
+    companions: &mut [u16],
+    list: &mut [u16],
+    seen: &mut [bool],
+    alive: &mut [u16],
+    cells: &mut [u16],
+    stack: &mut [u16],
+    marks: &mut [bool; 4096],
+    items: &mut [i32; 20],
+    limits: &mut [i16; 20],
+    codes: &mut [u64; 640],
+    lens: &mut [u8; 20],
+    k: Counts,
+    known: Known,
+) -> Walk
+    requires { ⌜ Holding known (storedIn (now keys) (now kids) (now companions) (now list) (now seen) (now alive) (now cells)) startWalk noneYet × ((now marks ≡ replicate 4096 false) × ((2 ≤ length (now stack)) × (getD (now stack) 1 0 ≡ 0))) ⌝ }
+    requires { ⌜ Accepted (memoryIn (now ws) (now val) (now cw) (now bw) (k .nodes) (k .commands) (k .blocks)) × (shopFrom (arraysIn (now items) (now limits) (now codes) (now lens)) ≡ noShop) ⌝ }
+    ensures { λ r. ⌜ Ends known (memoryIn (now (ws .entry)) (now (val .entry)) (now (cw .entry)) (now (bw .entry)) (k .nodes) (k .commands) (k .blocks)) (getD (now (stack .entry)) 0 0) (storedIn (now (keys .entry)) (now (kids .entry)) (now (companions .entry)) (now (list .entry)) (now (seen .entry)) (now (alive .entry)) (now (cells .entry))) (now (stack .entry)) (shopFrom (arraysIn (now (items .exit)) (now (limits .exit)) (now (codes .exit)) (now (lens .exit)))) r ⌝ }
+{
+    let mut ids = [0i16; 20];
+    let mut counts = [0i16; 20];
+    let mut w = start();
+    let mut depth = 1;
+    while 0 < depth {
+        let top = top_unmarked(marks, stack, k.blocks, depth);
+        if top == 0 {
+            return w;
+        }
+        let d = top - 1;
+        let b = stack[2 * d];
+        if !is_code(bw, k.blocks, b) {
+            return answered(w, 10);
+        }
+        if stack.len() < 2 * d + 4 {
+            return answered(w, NO_ROOM);
+        }
+        let v = visit(
+            ws,
+            val,
+            cw,
+            bw,
+            keys,
+            kids,
+            companions,
+            list,
+            seen,
+            alive,
+            cells,
+            marks,
+            items,
+            limits,
+            codes,
+            lens,
+            &mut ids,
+            &mut counts,
+            k,
+            known,
+            w,
+            b,
+            stack[2 * d + 1],
+        );
+        w = v.walk;
+        if w.answer != 0 {
+            return w;
+        }
+        depth = push(stack, d, v.next, v.then, v.other, v.otherwise);
+    }
+    w
+}
+
+// With tables for what a usual shop reaches, whatever the script's size.
+fn walk_few(
+    ws: &[u16; 98304],
+    val: &[i32; 32768],
+    cw: &[u16; 65536],
+    bw: &[u16; 20480],
+    items: &mut [i32; 20],
+    limits: &mut [i16; 20],
+    codes: &mut [u64; 640],
+    lens: &mut [u8; 20],
+    k: Counts,
+    known: Known,
+    setup: u16,
+) -> Walk
+    requires { ⌜ Accepted (memoryIn (now ws) (now val) (now cw) (now bw) (k .nodes) (k .commands) (k .blocks)) × (shopFrom (arraysIn (now items) (now limits) (now codes) (now lens)) ≡ noShop) ⌝ }
+    ensures { λ r. ⌜ WalkedIf known (memoryIn (now (ws .entry)) (now (val .entry)) (now (cw .entry)) (now (bw .entry)) (k .nodes) (k .commands) (k .blocks)) setup (shopFrom (arraysIn (now (items .exit)) (now (limits .exit)) (now (codes .exit)) (now (lens .exit)))) r ⌝ }
+{
+    let mut keys = [0u64; 256];
+    let mut kids = [0u16; 512];
+    let mut companions = [0u16; 512];
+    let mut list = [0u16; 512];
+    let mut seen = [false; 512];
+    let mut alive = [0u16; 512];
+    let mut cells = [0u16; 384];
+    let mut stack = [0u16; 516];
+    let mut marks = [false; 4096];
+    stack[0] = setup;
+    walk_all(
+        ws,
+        val,
+        cw,
+        bw,
+        &mut keys,
+        &mut kids,
+        &mut companions,
+        &mut list,
+        &mut seen,
+        &mut alive,
+        &mut cells,
+        &mut stack,
+        &mut marks,
+        items,
+        limits,
+        codes,
+        lens,
+        k,
+        known,
+    )
+}
+
+// With tables for all that a script can reach.
+fn walk_many(
+    ws: &[u16; 98304],
+    val: &[i32; 32768],
+    cw: &[u16; 65536],
+    bw: &[u16; 20480],
+    items: &mut [i32; 20],
+    limits: &mut [i16; 20],
+    codes: &mut [u64; 640],
+    lens: &mut [u8; 20],
+    k: Counts,
+    known: Known,
+    setup: u16,
+) -> Walk
+    requires { ⌜ Accepted (memoryIn (now ws) (now val) (now cw) (now bw) (k .nodes) (k .commands) (k .blocks)) × (shopFrom (arraysIn (now items) (now limits) (now codes) (now lens)) ≡ noShop) ⌝ }
+    ensures { λ r. ⌜ ((h : Sheet) → Has h (known .items) (known .atcs) → Walked h (memoryIn (now (ws .entry)) (now (val .entry)) (now (cw .entry)) (now (bw .entry)) (k .nodes) (k .commands) (k .blocks)) setup (shopFrom (arraysIn (now (items .exit)) (now (limits .exit)) (now (codes .exit)) (now (lens .exit)))) r) ⌝ }
+{
+    let mut keys = [0u64; 12289];
+    let mut kids = [0u16; 24578];
+    let mut companions = [0u16; 24578];
+    let mut list = [0u16; 12288];
+    let mut seen = [false; 24578];
+    let mut alive = [0u16; 12288];
+    let mut cells = [0u16; 12288];
+    let mut stack = [0u16; 8194];
+    let mut marks = [false; 4096];
+    stack[0] = setup;
+    walk_all(
+        ws,
+        val,
+        cw,
+        bw,
+        &mut keys,
+        &mut kids,
+        &mut companions,
+        &mut list,
+        &mut seen,
+        &mut alive,
+        &mut cells,
+        &mut stack,
+        &mut marks,
+        items,
+        limits,
+        codes,
+        lens,
+        k,
+        known,
+    )
+}
+
+// The walk of an accepted script from block setup, for every sheet of so many items and atcs. It finds the slots empty and leaves what it read in them.
+pub fn walk(
+    ws: &[u16; 98304],
+    val: &[i32; 32768],
+    cw: &[u16; 65536],
+    bw: &[u16; 20480],
+    items: &mut [i32; 20],
+    limits: &mut [i16; 20],
+    codes: &mut [u64; 640],
+    lens: &mut [u8; 20],
+    k: Counts,
+    known: Known,
+    setup: u16,
+) -> Walk
+    requires { ⌜ Accepted (memoryIn (now ws) (now val) (now cw) (now bw) (k .nodes) (k .commands) (k .blocks)) × (shopFrom (arraysIn (now items) (now limits) (now codes) (now lens)) ≡ noShop) ⌝ }
+    ensures { λ r. ⌜ ((h : Sheet) → Has h (known .items) (known .atcs) → Walked h (memoryIn (now (ws .entry)) (now (val .entry)) (now (cw .entry)) (now (bw .entry)) (k .nodes) (k .commands) (k .blocks)) setup (shopFrom (arraysIn (now (items .exit)) (now (limits .exit)) (now (codes .exit)) (now (lens .exit)))) r) ⌝ }
+{
+    let w = walk_few(ws, val, cw, bw, items, limits, codes, lens, k, known, setup);
+    if w.answer != NO_ROOM {
+        return w;
+    }
+    clear_arrays(items, limits, codes, lens);
+    walk_many(ws, val, cw, bw, items, limits, codes, lens, k, known, setup)
+}

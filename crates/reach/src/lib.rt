@@ -1,0 +1,70 @@
+// A walk of blocks: marks, and a stack of blocks with a number each, next above else.
+ghost use mathlib.Core.Path.{_≡_};
+ghost use mathlib.Core.Bool.{false};
+ghost use Prim.Native.Nat.{_+_, _*_, _≤_};
+ghost use lib.ListN.{length, getD, take};
+ghost use Rattle.reach.specs.Dfs.{entry, to};
+ghost use Rattle.reach.specs.Stacks.{isCodeAt, topOf, ways, Pushed};
+use memory::index_of;
+
+// Whether block b is one of nb blocks and marked.
+fn is_marked(marks: &[bool; 4096], nb: u16, b: u16) -> bool
+    requires { ⌜ nb ≤ 4096 ⌝ }
+    ensures { λ r. ⌜ r ≡ getD (take nb (now (marks .entry))) b false ⌝ }
+{
+    if b < nb {
+        return marks[index_of(b)];
+    }
+    false
+}
+
+// The depth of the stack without the marked entries at its top.
+pub fn top_unmarked(marks: &[bool; 4096], stack: &[u16], nb: u16, depth: usize) -> usize
+    requires { ⌜ (nb ≤ 4096) × (2 * depth ≤ length (now stack)) ⌝ }
+    ensures { λ r. ⌜ r ≡ topOf (take nb (now (marks .entry))) (now (stack .entry)) depth ⌝ }
+{
+    let mut d = depth;
+    while 0 < d {
+        if !is_marked(marks, nb, stack[2 * (d - 1)]) {
+            return d;
+        }
+        d -= 1;
+    }
+    0
+}
+
+fn push_one(stack: &mut [u16], depth: usize, b: u16, c: u16) -> usize
+    requires { ⌜ 2 * depth + 2 ≤ length (now stack) ⌝ }
+    ensures { λ r. ⌜ Pushed (now (stack .entry)) depth (to (entry b c)) (now (stack .exit)) r ⌝ }
+{
+    stack[2 * depth] = b;
+    stack[2 * depth + 1] = c;
+    depth + 1
+}
+
+// Next before else, else only where there is a next: next goes above else. nx and el as they stand in the script, c and e their numbers.
+pub fn push(stack: &mut [u16], depth: usize, nx: u16, c: u16, el: u16, e: u16) -> usize
+    requires { ⌜ 2 * depth + 4 ≤ length (now stack) ⌝ }
+    ensures { λ r. ⌜ Pushed (now (stack .entry)) depth (ways nx c el e) (now (stack .exit)) r ⌝ }
+{
+    if nx == 0 {
+        return depth;
+    }
+    if el == 0 {
+        return push_one(stack, depth, nx - 1, c);
+    }
+    let d = push_one(stack, depth, el - 1, e);
+    push_one(stack, d, nx - 1, c)
+}
+
+// Whether block b is one of nb blocks and code.
+pub fn is_code(bw: &[u16; 20480], nb: u16, b: u16) -> bool
+    requires { ⌜ nb ≤ 4096 ⌝ }
+    ensures { λ r. ⌜ r ≡ isCodeAt (now (bw .entry)) nb b ⌝ }
+{
+    if nb <= b {
+        return false;
+    }
+    let i = index_of(b);
+    bw[5 * i] == 1
+}
