@@ -22,7 +22,7 @@ use Rattle.memory.specs.Pushed.{PushedNode, PutExpr}
 use Rattle.memory.specs.Sound.{LongNodes}
 use Rattle.memory.specs.PutNodes.{PutTree, push-grown, push-holds, put-tree}
 use Rattle.expr.specs.Tree.{size-pos, count-put}
-use Rattle.expr_negate.specs.Turns.{flip, isSum, operatorOf, rootKind, Flips, compared, joined, Turns, flips, gains, negate-compared, negate-joined, negate-gains, flips-root, gains-root, flips-size, turns-size}
+use Rattle.expr_negate.specs.Turns.{flip, flipCode, isSum, operatorOf, rootKind, Flips, compared, joined, Turns, flips, gains, negate-compared, negate-joined, negate-gains, flips-root, gains-root, flips-size, turns-size, flip-code, compare-code, join-code, join-no-sum}
 
 -- the nodes of e from node c on, with the operators of its negation
 unfoldable pub flipIn : List ℕ → ℕ → Expr → List ℕ
@@ -37,7 +37,7 @@ flipIn ws c other = ws
 
 -- the nodes from c to i stand for e, which flips: its operands' nodes lie side by side below its own
 pub data Laid (ws : List ℕ) : ℕ → Expr → ℕ → Type 0 where
-  compare-laid : {c i : ℕ} {o : Op2} {a b : Expr} → isJoin o ≡ false → getD ws (3 * i) 0 ≡ code2 o → i ≡ c + size a + size b → Laid ws c (two o a b) i
+  compare-laid : {c i : ℕ} {o : Op2} {a b : Expr} → isSum o ≡ false → isJoin o ≡ false → getD ws (3 * i) 0 ≡ code2 o → i ≡ c + size a + size b → Laid ws c (two o a b) i
   join-laid : {c i l r : ℕ} {o : Op2} {a b : Expr} → isJoin o ≡ true → getD ws (3 * i) 0 ≡ code2 o → getD ws (3 * i + 1) 0 ≡ l → getD ws (3 * i + 2) 0 ≡ r
       → i ≡ r + 1 → Laid ws c a l → Laid ws (l + 1) b r → Laid ws c (two o a b) i
 
@@ -60,11 +60,11 @@ pub record Last (t : Nodes) : Type 0 where
 
 pub laid-size : {ws : List ℕ} {c i : ℕ} {e : Expr} → Laid ws c e i → i + 1 ≡ c + size e
 unfolding size
-laid-size (compare-laid j k h) = omega arith
+laid-size (compare-laid s j k h) = omega arith
 laid-size (join-laid j k l r h p q) = omega (arith, laid-size p, laid-size q)
 
 pub laid-frame : {ws ws′ : List ℕ} {c i : ℕ} {e : Expr} → ((j : ℕ) → 3 * c ≤ j → j < 3 * i + 3 → getD ws′ j 0 ≡ getD ws j 0) → Laid ws c e i → Laid ws′ c e i
-laid-frame {i = i} f (compare-laid {a = a} {b = b} j k h) = compare-laid j (f (3 * i) (omega arith) (omega arith) ∙ k) h
+laid-frame {i = i} f (compare-laid {a = a} {b = b} s j k h) = compare-laid s j (f (3 * i) (omega arith) (omega arith) ∙ k) h
 laid-frame {c = c} {i = i} f (join-laid {l = l} {r = r} {a = a} {b = b} j k x y h p q) =
     let sp = laid-size p in
     let sq = laid-size q in
@@ -114,11 +114,6 @@ flip-set ws k v c other h = refl
 
 -- ---- the step of the code at an And or Or, and at a comparison
 
--- an operator, from the code of its node
-pub operator-code : (x : ℕ) (o : Op2) → x ≡ code2 o → operatorOf (kindOf x) ≡ o
-unfolding codeOf
-operator-code x o e = ap operatorOf (ap kindOf e ∙ kind-code (Two o))
-
 -- of And and Or: the left operand once the operator is swapped, the right one once the left one is negated, and what is left then
 pub record Sides (ws : List ℕ) (c : ℕ) (e : Expr) (i l r x : ℕ) : Type 0 where
   pub one : Expr
@@ -129,20 +124,15 @@ pub record Sides (ws : List ℕ) (c : ℕ) (e : Expr) (i l r x : ℕ) : Type 0 w
   pub right-low : r < i
   pub done : (u v : List ℕ) → u ≡ flipIn (set ws (3 * i) x) c one → v ≡ flipIn u (l + 1) other → v ≡ flipIn ws c e
 
--- the code read another operator than there is
-clash : {o p : Op2} → isJoin o ≡ true → isJoin p ≡ false → o ≡ p → ⊥
-clash j k e = let q : true ≡ false = sym j ∙ ap isJoin e ∙ k in let z : _≡_ {A = ℕ} 0 1 = cc in omega arith
-
 flip-join : (ws : List ℕ) (c m n x : ℕ) (o : Op2) (a b : Expr) → isJoin o ≡ true → x ≡ code2 (flip o) → m ≡ c + size a + size b → n ≡ c + size a
     → flipIn (flipIn (set ws (3 * m) x) c a) n b ≡ flipIn ws c (two o a b)
 unfolding flipIn
 flip-join ws c m n x o a b j ex em en = rw (j, ex, em, en)
 
-pub sides : {ws : List ℕ} {c i : ℕ} {e : Expr} (o : Op2) (l r x : ℕ) → o ≡ operatorOf (kindOf (getD ws (3 * i) 0)) → isJoin o ≡ true
-    → l ≡ getD ws (3 * i + 1) 0 → r ≡ getD ws (3 * i + 2) 0 → x ≡ code2 (flip o) → Laid ws c e i → Sides ws c e i l r x
-sides {ws} {c} {i} {e} o l r x eo ej el er ex (compare-laid {o = p} j k h) = absurd (clash ej j (eo ∙ operator-code (getD ws (3 * i) 0) p k))
-sides {ws} {c} {i} {e} o l r x eo ej el er ex (join-laid {l = l′} {r = r′} {o = p} {a = a} {b = b} j k f g h s t) =
-    let same : o ≡ p = eo ∙ operator-code (getD ws (3 * i) 0) p k in
+pub sides : {ws : List ℕ} {c i : ℕ} {e : Expr} (l r x : ℕ) → 6 ≤ getD ws (3 * i) 0
+    → l ≡ getD ws (3 * i + 1) 0 → r ≡ getD ws (3 * i + 2) 0 → x ≡ flipCode (getD ws (3 * i) 0) → Laid ws c e i → Sides ws c e i l r x
+sides {ws} {c} {i} {e} l r x big el er ex (compare-laid {o = p} q j k h) = absurd (omega (arith, big, k, compare-code p q j))
+sides {ws} {c} {i} {e} l r x big el er ex (join-laid {l = l′} {r = r′} {o = p} {a = a} {b = b} j k f g h s t) =
     let fl : l′ ≡ l = sym (el ∙ f) in
     let fr : r′ ≡ r = sym (er ∙ g) in
     let ss = laid-size s in
@@ -157,17 +147,14 @@ sides {ws} {c} {i} {e} o l r x eo ej el er ex (join-laid {l = l′} {r = r′} {
       right = λ y ey. subst (λ (m : ℕ). Laid y (l + 1) b m) fr (subst (λ (m : ℕ). Laid y (m + 1) b r′) fl
           (laid-frame (λ m u v. ap (λ (z : List ℕ). getD z m 0) ey ∙ flip-keeps w c a m (omega arith) ∙ getD-set-other ws (3 * i) m x 0 (λ q. omega arith)) t));
       right-low = omega arith;
-      done = λ y z ey ez. ez ∙ ap (λ (q : List ℕ). flipIn q (l + 1) b) ey ∙ flip-join ws c i (l + 1) x p a b j (ex ∙ ap (λ (q : Op2). code2 (flip q)) same) (omega arith) (omega arith);
+      done = λ y z ey ez. ez ∙ ap (λ (q : List ℕ). flipIn q (l + 1) b) ey ∙ flip-join ws c i (l + 1) x p a b j (ex ∙ ap flipCode k ∙ flip-code p (join-no-sum p j)) (omega arith) (omega arith);
     }
 
 -- of a comparison
-pub compare-done : {ws : List ℕ} {c i : ℕ} {e : Expr} (o : Op2) (x : ℕ) → o ≡ operatorOf (kindOf (getD ws (3 * i) 0)) → isJoin o ≡ false
-    → x ≡ code2 (flip o) → Laid ws c e i → set ws (3 * i) x ≡ flipIn ws c e
+pub compare-done : {ws : List ℕ} {c i : ℕ} {e : Expr} (x : ℕ) → getD ws (3 * i) 0 < 6 → x ≡ flipCode (getD ws (3 * i) 0) → Laid ws c e i → set ws (3 * i) x ≡ flipIn ws c e
 unfolding flipIn
-compare-done {ws} {c} {i} {e} o x eo ej ex (compare-laid {o = p} {a = a} {b = b} j k h) =
-    let same : o ≡ p = eo ∙ operator-code (getD ws (3 * i) 0) p k in
-    rw (j, ex, same, h)
-compare-done {ws} {c} {i} {e} o x eo ej ex (join-laid {o = p} j k f g h s t) = absurd (clash j ej (sym (eo ∙ operator-code (getD ws (3 * i) 0) p k)))
+compare-done {ws} {c} {i} {e} x small ex (compare-laid {o = p} {a = a} {b = b} q j k h) = rw (j, ex, k, flip-code p q, h)
+compare-done {ws} {c} {i} {e} x small ex (join-laid {o = p} j k f g h s t) = absurd (omega (arith, small, k, join-code p j))
 
 -- ---- nodes that were appended, flipped
 
@@ -263,7 +250,7 @@ put-laid s (compared {o} {a} {b} k j) g h i ei =
     let u = putExpr t b in
     let f = push-holds u (code2 o) (t .count - 1) (u .count - 1) (pos 0) (q .long) (omega arith) in
     let m : i ≡ u .count = omega arith in
-    compare-laid {c = s .count} {i = i} {o = o} {a = a} {b = b} j (rw m (f .code)) (omega arith)
+    compare-laid {c = s .count} {i = i} {o = o} {a = a} {b = b} k j (rw m (f .code)) (omega arith)
 put-laid s (joined {o} {a} {b} j x y) g h i ei =
     let p = put-tree s a g (omega arith) in
     let pc = p .counted in

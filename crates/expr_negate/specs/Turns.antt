@@ -1,9 +1,11 @@
 -- What is negated where it stands, or by a Not over it, and that this is its negation. Assumes nothing.
 use mathlib.Core.Path.{_≡_, refl}
-use mathlib.Core.Bool.{Bool, true, false, not}
-use Prim.Native.Nat.{ℕ, _+_, _≤_}
+use mathlib.Core.Bool.{Bool, true, false, not, cond}
+use Prim.Native.Nat.{ℕ, _+_, _-_, _≤_, _<_}
+use lib.Dec.{ltb, eqb}
 use native.Mathlib.Omega.{arith}
 use Rattle.model.specs.Expr.{Expr, two, one, imm16, imm32, other, size, negate}
+use Rattle.model.specs.Image.{code2}
 use Rattle.model.specs.Parse.{isJoin, isNot}
 use Rattle.model.specs.declared.Op2.{Op2}
 use Rattle.model.specs.declared.Op2.the-variants.{Equal, NotEqual, Less, LessEqual, Greater, GreaterEqual, Add, Subtract, BitAnd, BitOr}
@@ -24,6 +26,10 @@ flip Add = Add
 flip Subtract = Subtract
 flip BitAnd = BitOr
 flip BitOr = BitAnd
+
+-- the same by its code
+abbrev pub flipCode : ℕ → ℕ
+flipCode n = cond (ltb n 2) (1 - n) (cond (ltb n 6) (7 - n) (cond (eqb n 9) 10 9))
 
 abbrev pub isSum : Op2 → Bool
 isSum Equal = false
@@ -129,6 +135,44 @@ join-no-sum Add j = let z : _≡_ {A = ℕ} 0 1 = cc in absurd (omega arith)
 join-no-sum Subtract j = let z : _≡_ {A = ℕ} 0 1 = cc in absurd (omega arith)
 join-no-sum BitAnd j = refl
 join-no-sum BitOr j = refl
+
+-- ---- by the code of an operator
+
+pub flip-code : (o : Op2) → isSum o ≡ false → flipCode (code2 o) ≡ code2 (flip o)
+flip-code Equal s = refl
+flip-code NotEqual s = refl
+flip-code Less s = refl
+flip-code LessEqual s = refl
+flip-code Greater s = refl
+flip-code GreaterEqual s = refl
+flip-code Add s = let z : _≡_ {A = ℕ} 0 1 = cc in absurd (omega arith)
+flip-code Subtract s = let z : _≡_ {A = ℕ} 0 1 = cc in absurd (omega arith)
+flip-code BitAnd s = refl
+flip-code BitOr s = refl
+
+pub compare-code : (o : Op2) → isSum o ≡ false → isJoin o ≡ false → code2 o < 6
+compare-code Equal s j = omega arith
+compare-code NotEqual s j = omega arith
+compare-code Less s j = omega arith
+compare-code LessEqual s j = omega arith
+compare-code Greater s j = omega arith
+compare-code GreaterEqual s j = omega arith
+compare-code Add s j = let z : _≡_ {A = ℕ} 0 1 = cc in absurd (omega arith)
+compare-code Subtract s j = let z : _≡_ {A = ℕ} 0 1 = cc in absurd (omega arith)
+compare-code BitAnd s j = let z : _≡_ {A = ℕ} 0 1 = cc in absurd (omega arith)
+compare-code BitOr s j = let z : _≡_ {A = ℕ} 0 1 = cc in absurd (omega arith)
+
+pub join-code : (o : Op2) → isJoin o ≡ true → 6 ≤ code2 o
+join-code Equal j = let z : _≡_ {A = ℕ} 0 1 = cc in absurd (omega arith)
+join-code NotEqual j = let z : _≡_ {A = ℕ} 0 1 = cc in absurd (omega arith)
+join-code Less j = let z : _≡_ {A = ℕ} 0 1 = cc in absurd (omega arith)
+join-code LessEqual j = let z : _≡_ {A = ℕ} 0 1 = cc in absurd (omega arith)
+join-code Greater j = let z : _≡_ {A = ℕ} 0 1 = cc in absurd (omega arith)
+join-code GreaterEqual j = let z : _≡_ {A = ℕ} 0 1 = cc in absurd (omega arith)
+join-code Add j = omega arith
+join-code Subtract j = omega arith
+join-code BitAnd j = omega arith
+join-code BitOr j = omega arith
 
 -- the code tells the one from the other by the operator of the root
 pub flips-root : {e : Expr} → Flips e → isSum (operatorOf (rootKind e)) ≡ false

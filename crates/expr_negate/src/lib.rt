@@ -5,31 +5,27 @@ ghost use Rattle.model.specs.Expr.{Expr, negate};
 ghost use Rattle.model.specs.Memory.{Nodes, nodesIn};
 ghost use Rattle.memory.specs.Pushed.{PutExpr};
 ghost use Rattle.memory.specs.Sound.{LongNodes};
-ghost use Rattle.expr_negate.specs.Turns.{flip, isSum, operatorOf, Turns};
+ghost use Rattle.expr_negate.specs.Turns.{flipCode, isSum, operatorOf, Turns};
 ghost use Rattle.expr_negate.specs.InPlace.{Laid, Lies, flipIn, Last};
-use expr::is_join;
-use memory::code_two;
 use memory::kind_of;
 use memory::push_node;
 use model::Kind;
 use model::Op2;
 
-// The operator of the negation.
-fn flipped(o: Op2) -> Op2
-    ensures { λ r. ⌜ r ≡ flip o ⌝ }
+// The code of the negation: Equal and NotEqual are 0 and 1, the other comparisons 2 to 5, And and Or 9 and 10.
+fn flipped(code: u16) -> u16
+    ensures { λ r. ⌜ r ≡ flipCode code ⌝ }
 {
-    match o {
-        Op2::Equal => Op2::NotEqual,
-        Op2::NotEqual => Op2::Equal,
-        Op2::Less => Op2::GreaterEqual,
-        Op2::LessEqual => Op2::Greater,
-        Op2::Greater => Op2::LessEqual,
-        Op2::GreaterEqual => Op2::Less,
-        Op2::Add => Op2::Add,
-        Op2::Subtract => Op2::Subtract,
-        Op2::BitAnd => Op2::BitOr,
-        Op2::BitOr => Op2::BitAnd,
+    if code < 2 {
+        return 1 - code;
     }
+    if code < 6 {
+        return 7 - code;
+    }
+    if code == 9 {
+        return 10;
+    }
+    9
 }
 
 // Add and Subtract have no operator for their negation: a Not goes on top.
@@ -69,14 +65,15 @@ fn negate_node(ws: &mut [u16; 98304], i: u16)
     ensures { λ _. ⌜ ((c : ℕ) (e : Expr) → Laid (now (ws .entry)) c e i → now (ws .exit) ≡ flipIn (now (ws .entry)) c e) ⌝ }
 {
     let at = i as usize;
-    let o = operator_of(kind_of(ws[3 * at]));
+    let code = ws[3 * at];
     let left = ws[3 * at + 1];
     let right = ws[3 * at + 2];
-    ws[3 * at] = code_two(flipped(o));
-    if is_join(o) {
-        negate_node(ws, left);
-        negate_node(ws, right);
+    ws[3 * at] = flipped(code);
+    if code < 6 {
+        return;
     }
+    negate_node(ws, left);
+    negate_node(ws, right);
 }
 
 // The arrays' lengths, which a reference to an array has in its type.

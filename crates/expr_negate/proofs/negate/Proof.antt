@@ -39,16 +39,28 @@ is-sum-requires : tie.Need-is-sum-requires
 is-sum-requires c κs = search needs
 
 push-node-requires : tie.Need-push-node-requires
-push-node-requires c κs = last-room (c .before .before .before .before .before .before .before .before .before .before .pre) (over (c .before .before .before .before .before .before .before .long .ensures (c .before .before .before .before .before .before .before .before .before .before .args .n)) (last-low (c .before .before .before .before .before .before .before .before .before .before .pre) .1) (c .before .before .before .before .before .before .before .before .before .before .args .n - 1) (omega (arith, last-low (c .before .before .before .before .before .before .before .before .before .before .pre) .0)) (sym (c .before .before .before .is-sum .ensures ∙ ap isSum (c .before .before .before .before .operator-of .ensures ∙ ap operatorOf (c .before .before .before .before .before .kind-of .ensures))) ∙ c .before .before .if1 .taken) (c .before .before .before .before .before .before .before .before .before .before .pre .put) (c .before .before .before .before .before .before .before .before .before .before .pre .turns))
+push-node-requires c κs =
+    let h = c .before .before .before .before .before .before .before .before .before .before .pre in
+    let a = c .before .before .before .before .before .before .before .before .before .before .args in
+    last-room h (over (c .before .before .before .before .before .before .before .long .ensures (a .n)) (last-low h .1) (a .n - 1) (omega (arith, last-low h .0)) (sym (c .before .before .before .is-sum .ensures ∙ ap isSum (c .before .before .before .before .operator-of .ensures ∙ ap operatorOf (c .before .before .before .before .before .kind-of .ensures))) ∙ c .before .before .if1 .taken) (h .put) (h .turns))
 
 returns : tie.Need-returns
-returns c = over-negated (c .before .before .before .before .before .before .before .before .long .ensures (c .before .before .before .before .before .before .before .before .before .before .before .args .n)) (last-low (c .before .before .before .before .before .before .before .before .before .before .before .pre) .1) (c .before .before .before .before .before .before .before .before .before .before .before .args .n - 1) (omega (arith, last-low (c .before .before .before .before .before .before .before .before .before .before .before .pre) .0)) (sym (c .before .before .before .before .is-sum .ensures ∙ ap isSum (c .before .before .before .before .before .operator-of .ensures ∙ ap operatorOf (c .before .before .before .before .before .before .kind-of .ensures))) ∙ c .before .before .before .if1 .taken) (c .push-node .ensures)
+returns c =
+    let h = c .before .before .before .before .before .before .before .before .before .before .before .pre in
+    let a = c .before .before .before .before .before .before .before .before .before .before .before .args in
+    over-negated (c .before .before .before .before .before .before .before .before .long .ensures (a .n)) (last-low h .1) (a .n - 1) (omega (arith, last-low h .0)) (sym (c .before .before .before .before .is-sum .ensures ∙ ap isSum (c .before .before .before .before .before .operator-of .ensures ∙ ap operatorOf (c .before .before .before .before .before .before .kind-of .ensures))) ∙ c .before .before .before .if1 .taken) (c .push-node .ensures)
 
 negate-node-requires : tie.Need-negate-node-requires
-negate-node-requires c κs = last-lies (c .before .before .before .before .before .before .long .ensures (c .before .before .before .before .before .before .before .before .before .args .n)) (last-low (c .before .before .before .before .before .before .before .before .before .pre) .1) (c .before .before .before .before .before .before .before .before .before .args .n - 1) (omega (arith, last-low (c .before .before .before .before .before .before .before .before .before .pre) .0)) (sym (c .before .before .is-sum .ensures ∙ ap isSum (c .before .before .before .operator-of .ensures ∙ ap operatorOf (c .before .before .before .before .kind-of .ensures))) ∙ c .before .if1 .left) (c .before .before .before .before .before .before .before .before .before .pre)
+negate-node-requires c κs =
+    let h = c .before .before .before .before .before .before .before .before .before .pre in
+    let a = c .before .before .before .before .before .before .before .before .before .args in
+    last-lies (c .before .before .before .before .before .before .long .ensures (a .n)) (last-low h .1) (a .n - 1) (omega (arith, last-low h .0)) (sym (c .before .before .is-sum .ensures ∙ ap isSum (c .before .before .before .operator-of .ensures ∙ ap operatorOf (c .before .before .before .before .kind-of .ensures))) ∙ c .before .if1 .left) h
 
 returns-2 : tie.Need-returns-2
-returns-2 c = place-negated (c .before .before .before .before .before .before .before .long .ensures (c .before .before .before .before .before .before .before .before .before .before .args .n)) (last-low (c .before .before .before .before .before .before .before .before .before .before .pre) .1) (c .before .before .before .before .before .before .before .before .before .before .args .n - 1) (omega (arith, last-low (c .before .before .before .before .before .before .before .before .before .before .pre) .0)) (sym (c .before .before .before .is-sum .ensures ∙ ap isSum (c .before .before .before .before .operator-of .ensures ∙ ap operatorOf (c .before .before .before .before .before .kind-of .ensures))) ∙ c .before .before .if1 .left) (c .negate-node .ensures)
+returns-2 c =
+    let h = c .before .before .before .before .before .before .before .before .before .before .pre in
+    let a = c .before .before .before .before .before .before .before .before .before .before .args in
+    place-negated (c .before .before .before .before .before .before .before .long .ensures (a .n)) (last-low h .1) (a .n - 1) (omega (arith, last-low h .0)) (sym (c .before .before .before .is-sum .ensures ∙ ap isSum (c .before .before .before .before .operator-of .ensures ∙ ap operatorOf (c .before .before .before .before .before .kind-of .ensures))) ∙ c .before .before .if1 .left) (c .negate-node .ensures)
 
 pub negate-spec : {M : Type 1} → statement M
 negate-spec =
