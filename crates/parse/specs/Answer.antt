@@ -14,7 +14,7 @@ use Rattle.shop.specs.declared.Reqs.{Reqs}
 use Rattle.shop.specs.Shapes.{codeOf, slotsOf}
 use Rattle.shop.specs.Sets.{reqsOf}
 use Rattle.shop_arrays.specs.Arrays.{Arrays, shopFrom, arraysOf}
-use Rattle.scan.specs.Slots.{GoodShop}
+use Rattle.shop.specs.Good.{GoodShop}
 use Rattle.parse.specs.declared.ParsedShop.{ParsedShop}
 
 abbrev pub itemAs : Option ℕ → SlotItem

@@ -24,7 +24,7 @@ use Rattle.shop.specs.Slots.{with-all, items-few}
 use Rattle.shop_arrays.specs.Arrays.{Arrays, shopFrom, arraysOf}
 use Rattle.shop_arrays.specs.Slots.{slots-long, noArrays, shop-none}
 use Rattle.shop_arrays.specs.Back.{Full, none-back}
-use Rattle.scan.specs.Slots.{beyond, GoodSlot, GoodShop, good-start}
+use Rattle.shop.specs.Good.{beyond, GoodSlot, GoodShop, good-start}
 use Rattle.checks.specs.Calls.{callIn}
 use Rattle.checks.specs.Passed.{call-passed}
 use Rattle.parse.specs.Answer.{itemAs, slotWith, slotAs, answerOf, ParsedAs, ParsedInto}

@@ -8,13 +8,14 @@ ghost use Rattle.parse.specs.Answer.{ParsedAs, ParsedInto};
 use checks::check_call;
 use memory::Counts;
 use model::BlockNo;
+use parse_keys::Known;
+use parse_visit::Walk;
+use parse_walk::walk;
 use shop::Sheet;
 use shop::Shop;
 use shop_arrays::clear_arrays;
 use shop_arrays::shop_from;
 use shop_arrays::sizes;
-use visit::Walk;
-use walk::walk;
 
 // The refusal or 0, and the slots; refused, every slot is empty.
 pub struct ParsedShop {
@@ -44,7 +45,10 @@ pub fn parse_arrays(
     if refused != 0 {
         return refused;
     }
-    let known = attached.len() as u16;
+    let known = Known {
+        items: attached.len() as u16,
+        atcs: sheet.atcs,
+    };
     let w = walk(
         ws,
         val,
@@ -56,7 +60,6 @@ pub fn parse_arrays(
         lens,
         counts,
         known,
-        sheet.atcs,
         setup.0 as u16,
     );
     if w.answer != 0 {

@@ -1,9 +1,8 @@
 -- Where a value of an enum is none of the variants that were asked for. Assumes nothing.
-use mathlib.Core.Path.{_≡_, refl, sym, _∙_}
+use mathlib.Core.Path.{_≡_, refl}
 use mathlib.Core.Bool.{cond}
 use mathlib.Core.Option.{Option, none}
-use mathlib.Core.List.{List, [], _∷_, map}
-use lib.ListN.{length, length-map}
+use mathlib.Core.List.{[], _∷_}
 use Prim.Native.Nat.{ℕ, _<_}
 use lib.IntN.{ℤ}
 use types.Run.{OneOf, miss}
@@ -64,7 +63,3 @@ no-two (One o) ns v l e h = limit-one ns v l (One o) e o refl
 no-two Imm16 ns v l e h = limit-imm16 ns v l Imm16 e refl
 no-two Imm32 ns v l e h = limit-imm32 ns v l Imm32 e refl
 no-two Other ns v l e h = limit-other ns v l Other e refl
-
--- an array of structs is as long as its elements' images are
-pub length-mapped : {X Y : Type 0} (f : X → Y) (l : List X) (n : ℕ) → length (map f l) ≡ n → length l ≡ n
-length-mapped f l n e = sym (length-map l f) ∙ e

@@ -10,7 +10,7 @@ use lib.IntN.{ℤ, pos, negsuc, natAbs}
 use lib.Signed.{mag, ltZ, nonNeg}
 use mir.Syntax.{w16, w32}
 use mir.Val.{SFits, ofZ, toZ, hbits}
-use mir.Facts.{toZ-ofZ}
+use mir.Facts.{toZ-ofZ, fits-natAbs}
 use borrow.Author.Tests.{lt-ltb, le-ltb, ltb-true, eq-eqb, ne-eqb}
 use Rattle.model.specs.Limits.{slotCount}
 use Rattle.model.specs.Signed.{cut16, inRange}
@@ -24,7 +24,7 @@ use Rattle.model.specs.declared.Kind.the-variants.{Two, One, Imm16, Imm32, Othe
 use Rattle.model.specs.Image.{kindOf, kinds, codeOf}
 use Rattle.model.specs.Laws.ImageExpr.{code-kind}
 use lib.ListN.{List·getD-eq-default}
-use Rattle.model.specs.Memory.{Nodes, codeAt, leftAt, rightAt, valueAt, nodeOf, operand, tree}
+use Rattle.model.specs.Memory.{Nodes, codeAt, leftAt, rightAt, valueAt, nodeOf, tree}
 use Rattle.model.specs.Parse.{Place, temp, elsewhere, itemVar, countVar, value, place, placeOf, ifFirst, written, itemIndex, isSubtract, limitIn, newLimit}
 use Rattle.expr.specs.Tree.{treeBelow, tree-node, below-two, below-one, below-imm16, below-imm32, below-other}
 use Rattle.expr.specs.Requirement.{numberOf}
@@ -215,9 +215,13 @@ module _ (n : ℕ) where
   unfolding placeOf
   place-high h = rw (ne-eqb n 0 (λ e. omega arith), le-ltb n 600 (omega arith), le-ltb n 620 (omega arith), le-ltb n 640 h)
 
--- the place of a number that the code holds in bits
-pub target-is : {p : Place} (x : MaybeNumber) (z : ℤ) → x ≡ Is z → SFits w32 z → ltZ (toZ w32 (ofZ w32 z)) (pos 0) ≡ false → p ≡ placeOf (natAbs (toZ w32 (ofZ w32 z))) → p ≡ place (numberOf x)
-target-is x z e f t q = q ∙ ap (λ y. placeOf (natAbs y)) (toZ-ofZ f) ∙ target-natural z (rw (toZ-ofZ f) at t) ∙ sym (ap (λ y. place (numberOf y)) e)
+-- the place of the number n that the code has for z
+pub target-is : {p : Place} (x : MaybeNumber) (z : ℤ) (n : ℕ) → x ≡ Is z → SFits w32 z → ltZ (toZ w32 (ofZ w32 z)) (pos 0) ≡ false → n ≡ natAbs (toZ w32 (ofZ w32 z)) → p ≡ placeOf n → p ≡ place (numberOf x)
+target-is x z n e f t d q = q ∙ ap placeOf (d ∙ ap natAbs (toZ-ofZ f)) ∙ target-natural z (rw (toZ-ofZ f) at t) ∙ sym (ap (λ y. place (numberOf y)) e)
+
+-- .. has 32 bits
+pub target-fits : (z : ℤ) → SFits w32 z → natAbs (toZ w32 (ofZ w32 z)) < 4294967296
+target-fits z f = rw (toZ-ofZ f) ((fits-natAbs {w = w32} {w′ = w32} tt f) .fits)
 
 -- a slot's place is below the number of slots
 pub target-low : (x : Option ℤ) (i : ℕ) → itemVar i ≡ place x → i < slotCount

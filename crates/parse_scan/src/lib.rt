@@ -87,6 +87,7 @@ fn keep(xs: &mut [i16; 20], mask: u32, slot: usize, w: Short) -> u32
     mask | bit(slot)
 }
 
+// What was written of a slot's variable: a number left over from another block has no bit.
 fn value_at(xs: &[i16; 20], mask: u32, slot: usize) -> Short
     requires { ⌜ slot < slotCount ⌝ }
     ensures { λ r. ⌜ shortIs r ≡ getD (tableOf mask (now (xs .entry))) slot none ⌝ }
@@ -382,7 +383,7 @@ fn hide_row(row: &mut [u64], n: usize, more: &[u64; 32], len: usize) -> usize
     held
 }
 
-// .. for the row that begins at start.
+// As hide_row, for the row of 32 codes that begins at start.
 fn hide_part(codes: &mut [u64], start: usize, n: usize, more: &[u64; 32], len: usize) -> usize
     requires { ⌜ (start + entryLimit ≤ length (now codes)) × ((n ≤ entryLimit) × (len ≤ entryLimit)) ⌝ }
     ensures { λ r. ⌜ PartHid (now (codes .entry)) start n (take len (now (more .entry))) (now (codes .exit)) r ⌝ }

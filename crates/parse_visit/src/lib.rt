@@ -126,8 +126,31 @@ fn slots_after(
         };
     }
     let mut more = [0u64; 32];
-    let f = hidden_under(keys, companions, list, seen, alive, cells, &mut more, ids, s, old, c);
-    let ok = update_slots(items, limits, codes, lens, known, s, ids, counts, &more, f.len);
+    let f = hidden_under(
+        keys,
+        companions,
+        list,
+        seen,
+        alive,
+        cells,
+        &mut more,
+        ids,
+        s,
+        old,
+        c,
+    );
+    let ok = update_slots(
+        items,
+        limits,
+        codes,
+        lens,
+        known,
+        s,
+        ids,
+        counts,
+        &more,
+        f.len,
+    );
     let marked = f.marked;
     Slotted {
         answer: refusal(ok),
@@ -206,7 +229,19 @@ fn join(
     if cells.len() < 3 * at + 3 {
         return answered(w, NO_ROOM);
     }
-    let r = read_condition(ws, val, keys, kids, companions, list, known, n, i, false, place(w));
+    let r = read_condition(
+        ws,
+        val,
+        keys,
+        kids,
+        companions,
+        list,
+        known,
+        n,
+        i,
+        false,
+        place(w),
+    );
     if r == FULL {
         return answered(w, NO_ROOM);
     }
@@ -269,7 +304,20 @@ fn go_on(
             otherwise: 0,
         };
     }
-    let j = join(ws, val, keys, kids, companions, list, cells, known, n, index_of(last - 1), c, w);
+    let j = join(
+        ws,
+        val,
+        keys,
+        kids,
+        companions,
+        list,
+        cells,
+        known,
+        n,
+        index_of(last - 1),
+        c,
+        w,
+    );
     Visited {
         walk: j,
         next,
@@ -331,6 +379,38 @@ pub fn visit(
     marks[index_of(b)] = true;
     let s = scan_block(ws, val, cw, ids, counts, first, held, w.limit);
     let old = w.marked;
-    let a = slots_after(keys, companions, list, seen, alive, cells, items, limits, codes, lens, ids, counts, known.items, s, old, index_of(c));
-    go_on(ws, val, bw, keys, kids, companions, list, cells, known, index_of(k.nodes), s.last_if, scanned(w, s, a), b, c)
+    let a = slots_after(
+        keys,
+        companions,
+        list,
+        seen,
+        alive,
+        cells,
+        items,
+        limits,
+        codes,
+        lens,
+        ids,
+        counts,
+        known.items,
+        s,
+        old,
+        index_of(c),
+    );
+    go_on(
+        ws,
+        val,
+        bw,
+        keys,
+        kids,
+        companions,
+        list,
+        cells,
+        known,
+        index_of(k.nodes),
+        s.last_if,
+        scanned(w, s, a),
+        b,
+        c,
+    )
 }

@@ -31,10 +31,7 @@ fn start() -> Walk
         answer: 0,
         used: 0,
         keyed: 0,
-        marked: Marked {
-            first: 0,
-            alive: 0,
-        },
+        marked: Marked { first: 0, alive: 0 },
     }
 }
 

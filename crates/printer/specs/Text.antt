@@ -9,7 +9,7 @@ use Rattle.model.specs.Parse.{Parsed}
 use Rattle.model.specs.Printer.{refusedText, slotLines, parsedText}
 use Rattle.shop.specs.Shapes.{slotsOf}
 use Rattle.shop.specs.declared.Shop.{Shop}
-use Rattle.scan.specs.Slots.{GoodShop}
+use Rattle.shop.specs.Good.{GoodShop}
 use Rattle.text.specs.Written.{textLimit, Wrote}
 use Rattle.text.specs.Lines.{FewEach, refused-space, lines-space}
 use Rattle.parse.specs.Answer.{answerOf, ParsedAs}

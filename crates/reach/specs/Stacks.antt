@@ -152,4 +152,3 @@ pub low-pushed : (j k : ℕ) (nx el : Option ℕ) (t o : ℕ) (es : List (Entry 
 low-pushed j k none el t o es l p q a = low-more j k es l a
 low-pushed j k (some x) none t o es l p q a = (p, low-more j k es l a)
 low-pushed j k (some x) (some y) t o es l p q a = (p, (q, low-more j k es l a))
-

@@ -1,12 +1,11 @@
 -- Slots as parsing keeps them: at most 32 requirements in rising order, each by its code, and zeros past them. Assumes nothing.
 use mathlib.Core.Path.{_≡_, refl, sym, ap, _∙_, subst}
 use mathlib.Core.Bool.{true}
-use mathlib.Core.List.{List, [], _++_, map}
-use Prim.Native.Nat.{ℕ, zero, suc, _-_, _≤_, _<_}
+use mathlib.Core.List.{List, [], map}
+use Prim.Native.Nat.{ℕ, zero, suc, _≤_, _<_}
 use native.Mathlib.Omega.{arith}
 use lib.IntN.{pos}
-use lib.ListN.{length, getD, replicate, length-append, length-map}
-use lib.Seq.{take-append-seam}
+use lib.ListN.{length, getD, replicate, length-map}
 use borrow.Author.Tests.{le-leb}
 use Rattle.model.specs.Limits.{slotCount, entryLimit}
 use Rattle.model.specs.Requirement.{Requirement}
@@ -16,7 +15,7 @@ use Rattle.shop.specs.Shapes.{codeOf, requirementOf, entries, slotOf, no
 use Rattle.shop.specs.Sets.{held, reqsOf, reqsIn}
 use Rattle.shop.specs.SetLaws.{held-set, set-entries}
 use Rattle.shop.specs.Codes.{AllNarrow, codes-stand}
-use Rattle.shop.specs.Slots.{entries-length, slot-narrow}
+use Rattle.shop.specs.Slots.{entries-length}
 use Rattle.shop.specs.declared.Slot.{Slot}
 use Rattle.shop.specs.declared.SlotItem.the-variants.{Nothing}
 use Rattle.shop.specs.declared.Shop.{Shop}

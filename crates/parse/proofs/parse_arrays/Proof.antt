@@ -34,43 +34,47 @@ check-call-requires c κs = search needs
 returns : tie.Need-returns
 returns c = let s = c .before .before .before .before .before .before .before .before in parse-refused (sheet s) (memory s) (s .args .setup .0) _ (c .before .check-call .ensures) (c .if1 .taken) _ (c .before .before .clear-arrays .ensures)
 
-cast-known : tie.Need-cast-known
-cast-known c = let s = c .before .before .before .before .before .before .before .before in record { fits = omega (arith, items-low (s .args .attached .now) (s .args .sheet) (memory s) (s .args .setup .0) (passes c)) }
-
 cast-walk : tie.Need-cast-walk
-cast-walk c =
-    let e = c .before .before .before .before .before in
-    let s = e .before .before .before .before .before .before .before .before in
-    let p = call-passed (sheet s) (memory s) (s .args .setup .0) (passes e) in
-    record { fits = omega (arith, p .inside, judged-kept (memory s) (p .blocks) (p .rest) (p .judged) .0) }
+cast-walk c = let s = c .before .before .before .before .before .before .before .before in record { fits = omega (arith, items-low (s .args .attached .now) (s .args .sheet) (memory s) (s .args .setup .0) (passes (c))) }
+
+cast-walk-2 : tie.Need-cast-walk-2
+cast-walk-2 c = let s = c .before .before .before .before .before .before .before .before .before .before .before .before .before in let p = call-passed (sheet s) (memory s) (s .args .setup .0) (passes (c .before .before .before .before .before)) in record { fits = omega (arith, p .inside, judged-kept (memory s) (p .blocks) (p .rest) (p .judged) .0) }
 
 walk-requires : tie.Need-walk-requires
 walk-requires c κs =
-    let e = c .before .before .before .before .before in
-    let s = e .before .before .before .before .before .before .before .before in
-    let p = call-passed (sheet s) (memory s) (s .args .setup .0) (passes e) in
-    (record { blocks = p .blocks; rest = p .rest; is = p .judged }, ap shopFrom (e .before .before .clear-arrays .ensures) ∙ shop-none)
+    let c1 = c .before .before .before .before .before in
+    let c2 = c1 .before .before in
+    let c3 = c2 .before .before .before .before .before .before in
+    let s = c3 in
+    let p = call-passed (sheet s) (memory s) (s .args .setup .0) (passes (c1)) in
+    (record { blocks = p .blocks; rest = p .rest; is = p .judged }, ap shopFrom (c2 .clear-arrays .ensures) ∙ shop-none)
 
 clear-arrays-requires-2 : tie.Need-clear-arrays-requires-2
 clear-arrays-requires-2 c κs = search needs
 
 returns-2 : tie.Need-returns-2
 returns-2 c =
-    let e = c .before .before .before .before .before .before .before .before .before .before .before .before .before in
-    let s = e .before .before .before .before .before .before .before .before in
-    let w = c .before .before .before .before .before .before .before .walk .ensures (sheet s) (items-counted (s .args .attached .now) (s .args .sheet)) (atcs-counted (s .args .attached .now) (s .args .sheet)) in
-    parse-stopped (sheet s) (memory s) (s .args .setup .0) _ (passes e) (w .answer) (c .before .before .before .before .before .if2 .taken) _ (c .clear-arrays2 .ensures)
+    let c1 = c .before .before .before .before .before in
+    let c2 = c1 .before .before in
+    let c3 = c2 .before .before .before .before .before .before in
+    let c4 = c3 .before .before .before .before .before .before .before .before in
+    let s = c4 in
+    let w = c2 .walk .ensures (sheet s) (record { items = items-counted (s .args .attached .now) (s .args .sheet); atcs = atcs-counted (s .args .attached .now) (s .args .sheet) }) in
+    parse-stopped (sheet s) (memory s) (s .args .setup .0) _ (passes (c3)) (w .answer) (c1 .if2 .taken) _ (c .clear-arrays2 .ensures)
 
 sizes-requires : tie.Need-sizes-requires
 sizes-requires c κs = search needs
 
 returns-3 : tie.Need-returns-3
 returns-3 c =
-    let e = c .before .before .before .before .before .before .before .before .before .before .before .before .before in
-    let s = e .before .before .before .before .before .before .before .before in
-    let o = c .before .before .before .before .before .if2 .left in
-    let w = c .before .before .before .before .before .before .before .walk .ensures (sheet s) (items-counted (s .args .attached .now) (s .args .sheet)) (atcs-counted (s .args .attached .now) (s .args .sheet)) in
-    parse-read (sheet s) (memory s) (s .args .setup .0) _ _ (passes e) (w .answer) o (w .slots o) (c .sizes .ensures) (w .good o)
+    let c1 = c .before .before .before .before .before in
+    let c2 = c1 .before .before in
+    let c3 = c2 .before .before .before .before .before .before in
+    let c4 = c3 .before .before .before .before .before .before .before .before in
+    let s = c4 in
+    let o = c1 .if2 .left in
+    let w = c2 .walk .ensures (sheet s) (record { items = items-counted (s .args .attached .now) (s .args .sheet); atcs = atcs-counted (s .args .attached .now) (s .args .sheet) }) in
+    parse-read (sheet s) (memory s) (s .args .setup .0) _ _ (passes (c3)) (w .answer) o (w .slots o) (c .sizes .ensures) (w .good o)
 
 pub parse-arrays-spec : {M : Type 1} → statement M
 parse-arrays-spec =
@@ -79,8 +83,8 @@ parse-arrays-spec =
     clear-arrays-requires
     check-call-requires
     returns
-    cast-known
     cast-walk
+    cast-walk-2
     walk-requires
     clear-arrays-requires-2
     returns-2

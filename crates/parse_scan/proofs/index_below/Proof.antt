@@ -49,7 +49,11 @@ index-by-requires : tie.Need-index-by-requires
 index-by-requires c κs = search needs
 
 returns-3 : tie.Need-returns-3
-returns-3 c = λ n. c .index-by .ensures ∙ ap (indexBy (c .before .before .before .before .k .given .0 .0)) (c .before .number-below .ensures n) ∙ index-of-one (nodesIn (c .before .before .before .before .before .before .before .before .before .args .ws .now) (c .before .before .before .before .before .before .before .before .before .args .val .now) n) (c .before .before .before .before .before .before .before .before .before .args .b) (c .before .before .before .before .before .before .before .before .before .args .i) (c .before .before .before .before .before .before .before .before .if1 .left) _ (c .before .before .before .before .before .before .kind-of .ensures) (c .before .before .before .before .k .given .0 .0) (c .before .before .before .before .k .given .1)
+returns-3 c = λ n.
+    let a = c .before .before .before .before .before .before .before .before .before .args in
+    let k = c .before .before .before .before .k .given in
+    c .index-by .ensures ∙ ap (indexBy (k .0 .0)) (c .before .number-below .ensures n)
+    ∙ index-of-one (nodesIn (a .ws .now) (a .val .now) n) (a .b) (a .i) (c .before .before .before .before .before .before .before .before .if1 .left) _ (c .before .before .before .before .before .before .kind-of .ensures) (k .0 .0) (k .1)
 
 pub index-below-spec : {M : Type 1} → statement M
 index-below-spec =

@@ -61,7 +61,13 @@ limit-by-requires : tie.Need-limit-by-requires
 limit-by-requires c κs = search needs
 
 returns-2 : tie.Need-returns-2
-returns-2 c = λ n. toZ-ofZ {w = w16} (record { sfits = c .limit-by .ok }) ∙ (rw (toZ-ofZ (c .before .before .before .before .before .before .before .before .before .before .fits .limit), c .before .before .before .number-below .ensures n, c .before .index-below .ensures n) at (c .limit-by .ensures)) ∙ limit-two (nodesIn (c .before .before .before .before .before .before .before .before .before .before .args .ws .now) (c .before .before .before .before .before .before .before .before .before .before .args .val .now) n) (c .before .before .before .before .before .before .before .before .before .before .args .v) (c .before .before .before .before .before .before .before .before .before .before .args .limit) _ (c .before .before .before .before .before .before .before .before .kind-of .ensures) _ (c .before .before .before .before .before .before .k .given .1)
+returns-2 c = λ n.
+    let s = c .before .before .before .before .before .before .before .before .before .before in
+    let a = s .args in
+    let k = c .before .before .before .before .before .before in
+    toZ-ofZ {w = w16} (record { sfits = c .limit-by .ok })
+    ∙ (rw (toZ-ofZ (s .fits .limit), c .before .before .before .number-below .ensures n, c .before .index-below .ensures n) at (c .limit-by .ensures))
+    ∙ limit-two (nodesIn (a .ws .now) (a .val .now) n) (a .v) (a .limit) _ (k .before .before .kind-of .ensures) _ (k .k .given .1)
 
 pub limit-after-spec : {M : Type 1} → statement M
 limit-after-spec =

@@ -74,19 +74,37 @@ enum-told-4 : tie.Need-enum-told-4
 enum-told-4 c = search needs
 
 returns : tie.Need-returns
-returns c = λ n. wrote-two (nodesIn (c .before .before .before .before .args .ws .now) (c .before .before .before .before .args .val .now) n) (c .before .before .before .before .args .v) (c .before .before .before .before .args .limit) _ (c .before .before .kind-of .ensures) _ (c .enum-told .given .1)
+returns c = λ n.
+    let a = c .before .before .before .before .args in
+    wrote-two (nodesIn (a .ws .now) (a .val .now) n) (a .v) (a .limit) _ (c .before .before .kind-of .ensures) _ (c .enum-told .given .1)
 
 returns-2 : tie.Need-returns-2
-returns-2 c = λ n. (rw (toZ-ofZ (c .before .before .before .before .before .before .before .before .fits .limit), c .before .number-below .ensures n) at (c .first-of .ensures)) ∙ wrote-one (nodesIn (c .before .before .before .before .before .before .before .before .args .ws .now) (c .before .before .before .before .before .before .before .before .args .val .now) n) (c .before .before .before .before .before .before .before .before .args .v) (c .before .before .before .before .before .before .before .before .args .limit) _ (c .before .before .before .before .before .before .kind-of .ensures) _ (c .before .before .before .before .k .given .1)
+returns-2 c = λ n.
+    let s = c .before .before .before .before .before .before .before .before in
+    let a = s .args in
+    (rw (toZ-ofZ (s .fits .limit), c .before .number-below .ensures n) at (c .first-of .ensures))
+    ∙ wrote-one (nodesIn (a .ws .now) (a .val .now) n) (a .v) (a .limit) _ (c .before .before .before .before .before .before .kind-of .ensures) _ (c .before .before .before .before .k .given .1)
 
 returns-3 : tie.Need-returns-3
-returns-3 c = λ n. ap {B = Option ℤ} some (toZ-ofZ {w = w16} (record { sfits = c .cut .ok }) ∙ (rw (toZ-ofZ {w = w32} (record { sfits = c .before .cut-arg .given })) at (c .cut .ensures))) ∙ wrote-imm16 (nodesIn (c .before .before .before .before .before .before .args .ws .now) (c .before .before .before .before .before .before .args .val .now) n) (c .before .before .before .before .before .before .args .v) (c .before .before .before .before .before .before .args .limit) _ (c .before .before .before .before .kind-of .ensures) (c .before .before .enum-told2 .given .1) (c .before .before .before .before .before .before .pre .short (code-imm16 (nodesIn (c .before .before .before .before .before .before .args .ws .now) (c .before .before .before .before .before .before .args .val .now) n) (c .before .before .before .before .before .before .args .v) (c .before .before .before .before .before .before .args .limit) _ (c .before .before .before .before .kind-of .ensures) (c .before .before .enum-told2 .given .1)))
+returns-3 c = λ n.
+    let s = c .before .before .before .before .before .before in
+    let a = s .args in
+    let ns = nodesIn (a .ws .now) (a .val .now) n in
+    let k = c .before .before .before .before .kind-of .ensures in
+    let e = c .before .before .enum-told2 .given .1 in
+    ap {B = Option ℤ} some (toZ-ofZ {w = w16} (record { sfits = c .cut .ok }) ∙ (rw (toZ-ofZ {w = w32} (record { sfits = c .before .cut-arg .given })) at (c .cut .ensures)))
+    ∙ wrote-imm16 ns (a .v) (a .limit) _ k e (s .pre .short (code-imm16 ns (a .v) (a .limit) _ k e))
 
 returns-4 : tie.Need-returns-4
-returns-4 c = λ n. ap {B = Option ℤ} some (toZ-ofZ {w = w16} (record { sfits = c .cut2 .ok }) ∙ (rw (toZ-ofZ {w = w32} (record { sfits = c .before .cut-arg2 .given })) at (c .cut2 .ensures))) ∙ wrote-imm32 (nodesIn (c .before .before .before .before .before .before .args .ws .now) (c .before .before .before .before .before .before .args .val .now) n) (c .before .before .before .before .before .before .args .v) (c .before .before .before .before .before .before .args .limit) _ (c .before .before .before .before .kind-of .ensures) (c .before .before .enum-told3 .given .1)
+returns-4 c = λ n.
+    let a = c .before .before .before .before .before .before .args in
+    ap {B = Option ℤ} some (toZ-ofZ {w = w16} (record { sfits = c .cut2 .ok }) ∙ (rw (toZ-ofZ {w = w32} (record { sfits = c .before .cut-arg2 .given })) at (c .cut2 .ensures)))
+    ∙ wrote-imm32 (nodesIn (a .ws .now) (a .val .now) n) (a .v) (a .limit) _ (c .before .before .before .before .kind-of .ensures) (c .before .before .enum-told3 .given .1)
 
 returns-5 : tie.Need-returns-5
-returns-5 c = λ n. wrote-other (nodesIn (c .before .before .before .before .args .ws .now) (c .before .before .before .before .args .val .now) n) (c .before .before .before .before .args .v) (c .before .before .before .before .args .limit) _ (c .before .before .kind-of .ensures) (c .enum-told4 .given .1)
+returns-5 c = λ n.
+    let a = c .before .before .before .before .args in
+    wrote-other (nodesIn (a .ws .now) (a .val .now) n) (a .v) (a .limit) _ (c .before .before .kind-of .ensures) (c .enum-told4 .given .1)
 
 pub written-by-spec : {M : Type 1} → statement M
 written-by-spec =

@@ -2,31 +2,22 @@
 use borrow.Author.Needs.{needs}
 use Rattle.parse_visit.proofs.block_word.Statement.{statement}
 use Rattle.parse_visit.proofs.block_word.Tie as tie
-use Rattle.parse_visit.proofs.block_word.Reads as reads
-use Rattle.parse_visit.proofs.block_word.Lts as lts
-use Rattle.memory.proofs.index_of.Reads as index-of-reads
 
--- src/lib.rt:223:12
 index-of-requires : tie.Need-index-of-requires
 index-of-requires c κs = search needs
 
--- src/lib.rt:223:8
 mul-result : tie.Need-mul-result
 mul-result c = search needs
 
--- src/lib.rt:223:8
 add-result : tie.Need-add-result
 add-result c = search needs
 
--- src/lib.rt:223:5
 mul-result-2 : tie.Need-mul-result-2
 mul-result-2 c = search needs
 
--- src/lib.rt:223:5
 element-copy-out-result : tie.Need-element-copy-out-result
 element-copy-out-result c = search needs
 
--- src/lib.rt:219:1
 returns : tie.Need-returns
 returns c = rw (c .before .index-of .ensures)
 

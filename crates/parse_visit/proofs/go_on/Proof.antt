@@ -5,80 +5,68 @@ use Rattle.parse_visit.specs.Ways.{left-unread, left-joined}
 use borrow.Author.Needs.{needs}
 use Rattle.parse_visit.proofs.go_on.Statement.{statement}
 use Rattle.parse_visit.proofs.go_on.Tie as tie
-use Rattle.parse_visit.proofs.go_on.Reads as reads
-use Rattle.parse_visit.proofs.go_on.Lts as lts
-use Rattle.memory.proofs.index_of.Reads as index-of-reads
-use Rattle.parse_visit.proofs.block_word.Reads as block-word-reads
-use Rattle.parse_visit.proofs.join.Reads as join-reads
-use Rattle.parse_visit.proofs.reads_on.Reads as reads-on-reads
 
--- src/lib.rt:261:9
 block-word-requires : tie.Need-block-word-requires
 block-word-requires c κs = search needs
 
--- src/lib.rt:262:9
 block-word-requires-2 : tie.Need-block-word-requires-2
 block-word-requires-2 c κs = search needs
 
--- src/lib.rt:263:9
 reads-on-requires : tie.Need-reads-on-requires
 reads-on-requires c κs = search needs
 
--- src/lib.rt:264:9
 returns : tie.Need-returns
 returns c = ((λ seen alive f hold low. left-unread _ _ _ _ _ _ f hold (c .before .before .before .before .before .before .before .before .before .pre .1 .0) _ _ (c .before .reads-on .ensures .no (not-true _ (c .if1 .taken)))), (c .before .before .before .block-word .ensures, c .before .before .block-word2 .ensures))
 
--- src/lib.rt:272:83
 sub-index-of : tie.Need-sub-index-of
 sub-index-of c = let d = c .before .before .before .before .before .before .reads-on .ensures .yes (not-false _ (c .before .before .before .before .before .if1 .left)) .1 .0 in omega arith
 
--- src/lib.rt:272:74
 index-of-requires : tie.Need-index-of-requires
 index-of-requires c κs = search needs
 
--- src/lib.rt:272:9
 join-requires : tie.Need-join-requires
 join-requires c κs = search needs
 
--- src/lib.rt:276:15
 mul-t31 : tie.Need-mul-t31
 mul-t31 c = omega (arith, c .before .before .before .before .before .before .before .before .before .before .before .before .before .before .before .before .before .before .before .before .before .before .before .before .before .before .before .pre .0 .1 .0)
 
--- src/lib.rt:276:15
 add-t32 : tie.Need-add-t32
 add-t32 c = omega (arith, c .before .before .before .before .before .before .before .before .before .before .before .before .before .before .before .before .before .before .before .before .before .before .before .before .before .before .before .pre .0 .1 .0)
 
--- src/lib.rt:278:20
 mul-t33 : tie.Need-mul-t33
 mul-t33 c = omega (arith, c .before .before .before .before .before .before .before .before .before .before .before .before .before .before .before .before .before .before .before .before .before .before .before .before .before .before .before .before .pre .0 .1 .0)
 
--- src/lib.rt:278:20
 add-t34 : tie.Need-add-t34
 add-t34 c = omega (arith, c .before .before .before .before .before .before .before .before .before .before .before .before .before .before .before .before .before .before .before .before .before .before .before .before .before .before .before .before .pre .0 .1 .0)
 
--- src/lib.rt:242:1
 same-length : tie.Need-same-length
 same-length c = search needs
 
--- src/lib.rt:242:1
 same-length-2 : tie.Need-same-length-2
 same-length-2 c = search needs
 
--- src/lib.rt:242:1
 same-length-3 : tie.Need-same-length-3
 same-length-3 c = search needs
 
--- src/lib.rt:242:1
 same-length-4 : tie.Need-same-length-4
 same-length-4 c = search needs
 
--- src/lib.rt:242:1
 same-length-5 : tie.Need-same-length-5
 same-length-5 c = search needs
 
--- src/lib.rt:242:1
 returns-2 : tie.Need-returns-2
-returns-2 c = ((λ seen alive f hold low. left-joined _ _ _ _ _ _ _ _ f hold low (c .before .before .before .before .before .before .before .before .before .before .before .before .before .before .before .before .before .before .before .before .before .before .before .before .before .before .before .before .pre .1 .0) _ _ _ _ _ _ (c .before .before .before .before .before .before .before .before .before .before .before .before .before .before .before .before .before .before .before .before .reads-on .ensures .yes (not-false _ (c .before .before .before .before .before .before .before .before .before .before .before .before .before .before .before .before .before .before .before .if1 .left)) .1 .0) (rw (c .before .before .before .before .before .before .before .before .before .before .before .before .before .index-of .ensures) at (c .before .before .before .before .before .before .before .before .before .before .before .before .join .ensures)) _ _), (c .before .before .before .before .before .before .before .before .before .before .before .before .before .before .before .before .before .before .before .before .before .before .block-word .ensures, c .before .before .before .before .before .before .before .before .before .before .before .before .before .before .before .before .before .before .before .before .before .block-word2 .ensures))
+returns-2 c =
+    let c1 = c .before .before .before .before .before .before .before .before .before .before .before .before in
+    let c2 = c1 .before in
+    let c3 = c2 .before .before .before .before .before .before in
+    let c4 = c3 .before in
+    let c5 = c4 .before in
+    let c6 = c5 .before in
+    let c7 = c6 .before .before .before .before .before .before in (
+      (λ seen alive f hold low. left-joined _ _ _ _ _ _ _ _ f hold low (c7 .pre .1 .0) _ _ _ _ _ _ (c4 .reads-on .ensures .yes (not-false _ (c3 .if1 .left)) .1 .0) (rw
+          (c2 .index-of .ensures) at (c1 .join .ensures)) _ _),
+      (c6 .block-word .ensures, c5 .block-word2 .ensures),
+    )
 
 pub go-on-spec : {M : Type 1} → statement M
 go-on-spec =

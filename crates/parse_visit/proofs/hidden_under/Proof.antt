@@ -6,32 +6,22 @@ use Rattle.parse_scan.specs.AllSlots.{unhidden}
 use borrow.Author.Needs.{needs}
 use Rattle.parse_visit.proofs.hidden_under.Statement.{statement}
 use Rattle.parse_visit.proofs.hidden_under.Tie as tie
-use Rattle.parse_visit.proofs.hidden_under.Reads as reads
-use Rattle.parse_visit.proofs.hidden_under.Lts as lts
-use Rattle.parse_filter.proofs.parse_requirements.Reads as parse-requirements-reads
-use Rattle.parse_scan.proofs.hides.Reads as hides-reads
 
--- src/lib.rt:80:9
 hides-requires : tie.Need-hides-requires
 hides-requires c κs = search needs
 
--- src/lib.rt:81:9
 returns : tie.Need-returns
 returns c = let a = c .before .before .before .before .before .before .before .before .pre in record { marked = a .1; most = omega arith; updated = λ shop known counts u out z up h rs i mean. unhidden shop known _ _ _ u out up (sym (c .before .hides .ensures counts z) ∙ not-true _ (c .if1 .taken)) h rs i }
 
--- src/lib.rt:86:5
 parse-requirements-requires : tie.Need-parse-requirements-requires
 parse-requirements-requires c κs = search needs
 
--- src/lib.rt:64:1
 same-length : tie.Need-same-length
 same-length c = search needs
 
--- src/lib.rt:64:1
 same-length-2 : tie.Need-same-length-2
 same-length-2 c = search needs
 
--- src/lib.rt:64:1
 returns-2 : tie.Need-returns-2
 returns-2 c = let p = c .before .before .before .before .parse-requirements .ensures in record { marked = p .marked; most = p .most; updated = λ shop known counts u out z up h rs i mean. up .by h rs i (mean _ _ (p .holds)) }
 

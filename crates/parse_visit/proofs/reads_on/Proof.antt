@@ -4,22 +4,16 @@ use native.Mathlib.Omega.{arith}
 use mathlib.Core.Path.{_≡_}
 use Rattle.parse_visit.proofs.reads_on.Statement.{statement}
 use Rattle.parse_visit.proofs.reads_on.Tie as tie
-use Rattle.parse_visit.proofs.reads_on.Reads as reads
-use Rattle.parse_visit.proofs.reads_on.Lts as lts
 
--- src/lib.rt:230:9
 returns : tie.Need-returns
 returns c = record { yes = λ e. let z : _≡_ {A = ℕ} 0 1 = cc in absurd (omega arith); no = λ e z d. absurd (c .if1 .taken z) }
 
--- src/lib.rt:233:9
 returns-2 : tie.Need-returns-2
 returns-2 c = record { yes = λ e. let z : _≡_ {A = ℕ} 0 1 = cc in absurd (omega arith); no = λ e z d. c .if2 .taken }
 
--- src/lib.rt:236:9
 returns-3 : tie.Need-returns-3
 returns-3 c = record { yes = λ e. let z : _≡_ {A = ℕ} 0 1 = cc in absurd (omega arith); no = λ e z d. absurd (d (c .if3 .taken)) }
 
--- src/lib.rt:226:1
 returns-4 : tie.Need-returns-4
 returns-4 c = record { yes = λ e. (c .before .before .if1 .left, (c .before .if2 .left, c .if3 .left)); no = λ e. let z : _≡_ {A = ℕ} 0 1 = cc in absurd (omega arith) }
 

@@ -15,278 +15,304 @@ use Rattle.parse_walk.proofs.Starts.{turning-start}
 use borrow.Author.Needs.{needs}
 use Rattle.parse_walk.proofs.walk_all.Statement.{statement}
 use Rattle.parse_walk.proofs.walk_all.Tie as tie
-use Rattle.parse_walk.proofs.walk_all.Reads as reads
-use Rattle.parse_walk.proofs.walk_all.Lts as lts
-use Rattle.parse_visit.proofs.answered.Reads as answered-reads
-use Rattle.parse_visit.proofs.visit.Reads as visit-reads
-use Rattle.parse_walk.proofs.start.Reads as start-reads
-use Rattle.reach.proofs.is_code.Reads as is-code-reads
-use Rattle.reach.proofs.push.Reads as push-reads
-use Rattle.reach.proofs.top_unmarked.Reads as top-unmarked-reads
 
 abbrev Inv-loop : tie.InvT-loop
-Inv-loop ws val cw bw keys₀ kids₀ companions₀ list₀ seen₀ alive₀ cells₀ stack₀ marks₀ items₀ limits₀ codes₀ lens₀ k known ids₀ counts₀ w₀ depth₀ keys kids companions list seen alive cells stack marks items limits codes lens ids counts w depth = Turning known (memoryIn ws val cw bw (k .nodes) (k .commands) (k .blocks)) (getD stack₀ 0 0) (storedIn keys kids companions list seen alive cells) marks stack (shopFrom (arraysIn items limits codes lens)) w depth × Lengths (storedIn keys kids companions list seen alive cells) stack (storedIn keys₀ kids₀ companions₀ list₀ seen₀ alive₀ cells₀) stack₀
+Inv-loop ws val cw bw keys₀ kids₀ companions₀ list₀ seen₀ alive₀ cells₀ stack₀ marks₀ items₀ limits₀ codes₀ lens₀ k known ids₀ counts₀ w₀ depth₀ keys kids companions list seen alive cells stack marks items limits codes lens ids counts w depth =
+    Turning known (memoryIn ws val cw bw (k .nodes) (k .commands) (k .blocks)) (getD stack₀ 0 0) (storedIn keys kids companions list seen alive cells)
+    marks stack (shopFrom (arraysIn items limits codes lens)) w depth
+    × Lengths (storedIn keys kids companions list seen alive cells) stack (storedIn keys₀ kids₀ companions₀ list₀ seen₀ alive₀ cells₀) stack₀
 
 abbrev μ-loop : tie.MeasureT-loop
 μ-loop ws val cw bw keys₀ kids₀ companions₀ list₀ seen₀ alive₀ cells₀ stack₀ marks₀ items₀ limits₀ codes₀ lens₀ k known ids₀ counts₀ w₀ depth₀ keys kids companions list seen alive cells stack marks items limits codes lens ids counts w depth = unmarked (take (k .blocks) marks)
 
--- src/lib.rt:70:9
 start-requires : tie.Need-start-requires Inv-loop μ-loop
 start-requires c κs = search needs
 
--- src/lib.rt:72:5
 loop-holds : tie.Need-loop-holds Inv-loop μ-loop
 loop-holds c = let a = c .before .before .before .before .before .before .before .before .before .pre in (turning-start _ 4096 (few-blocks _ (a .1 .0)) _ (a .0 .1 .1 .1) _ (a .1 .1) _ (c .start .ensures) _ _ _ _ (a .0 .1 .0) (a .1 .0) (a .0 .1 .1 .0) refl (a .0 .0), record { keys = refl; kids = refl; companions = refl; list = refl; seen = refl; alive = refl; cells = refl; entries = refl })
 
--- src/lib.rt:73:13
 top-unmarked-requires : tie.Need-top-unmarked-requires Inv-loop μ-loop
 top-unmarked-requires c κs = let r = c .before .before .before .loop .inv .0 .ready in (few-blocks _ (r .accepted), r .tall)
 
--- src/lib.rt:75:13
 same-length : tie.Need-same-length Inv-loop μ-loop
 same-length c = c .before .before .before .before .before .loop .inv .1 .keys
 
--- src/lib.rt:75:13
 same-length-2 : tie.Need-same-length-2 Inv-loop μ-loop
 same-length-2 c = c .before .before .before .before .before .loop .inv .1 .kids
 
--- src/lib.rt:75:13
 same-length-3 : tie.Need-same-length-3 Inv-loop μ-loop
 same-length-3 c = c .before .before .before .before .before .loop .inv .1 .companions
 
--- src/lib.rt:75:13
 same-length-4 : tie.Need-same-length-4 Inv-loop μ-loop
 same-length-4 c = c .before .before .before .before .before .loop .inv .1 .list
 
--- src/lib.rt:75:13
 same-length-5 : tie.Need-same-length-5 Inv-loop μ-loop
 same-length-5 c = c .before .before .before .before .before .loop .inv .1 .seen
 
--- src/lib.rt:75:13
 same-length-6 : tie.Need-same-length-6 Inv-loop μ-loop
 same-length-6 c = c .before .before .before .before .before .loop .inv .1 .alive
 
--- src/lib.rt:75:13
 same-length-7 : tie.Need-same-length-7 Inv-loop μ-loop
 same-length-7 c = c .before .before .before .before .before .loop .inv .1 .cells
 
--- src/lib.rt:75:13
 same-length-8 : tie.Need-same-length-8 Inv-loop μ-loop
 same-length-8 c = c .before .before .before .before .before .loop .inv .1 .entries
 
--- src/lib.rt:75:13
 returns : tie.Need-returns Inv-loop μ-loop
 returns c = ends-none (c .before .before .before .before .before .loop .inv .0) (sym (c .before .top-unmarked .ensures) ∙ c .if1 .taken)
 
--- src/lib.rt:77:17
 sub-d : tie.Need-sub-d Inv-loop μ-loop
 sub-d c = search needs
 
--- src/lib.rt:78:23
 mul-b : tie.Need-mul-b Inv-loop μ-loop
 mul-b c = omega (arith, top-few (c .before .before .before .before .before .loop .inv .0 .ready) (c .before .top-unmarked .ensures))
 
--- src/lib.rt:78:17
 mul-b-2 : tie.Need-mul-b-2 Inv-loop μ-loop
 mul-b-2 c = omega (arith, top-few (c .before .before .before .before .before .loop .inv .0 .ready) (c .before .top-unmarked .ensures))
 
--- src/lib.rt:78:17
 slice-read-b : tie.Need-slice-read-b Inv-loop μ-loop
 slice-read-b c = omega (arith, top-fits (c .before .before .before .before .before .before .loop .inv .0 .ready) (c .before .before .top-unmarked .ensures))
 
--- src/lib.rt:79:13
 is-code-requires : tie.Need-is-code-requires Inv-loop μ-loop
 is-code-requires c κs = few-blocks _ (c .before .before .before .before .before .before .loop .inv .0 .ready .accepted)
 
--- src/lib.rt:80:13
 answered-requires : tie.Need-answered-requires Inv-loop μ-loop
 answered-requires c κs = search needs
 
--- src/lib.rt:80:13
 same-length-9 : tie.Need-same-length-9 Inv-loop μ-loop
 same-length-9 c = c .before .before .before .before .before .before .before .before .before .loop .inv .1 .keys
 
--- src/lib.rt:80:13
 same-length-10 : tie.Need-same-length-10 Inv-loop μ-loop
 same-length-10 c = c .before .before .before .before .before .before .before .before .before .loop .inv .1 .kids
 
--- src/lib.rt:80:13
 same-length-11 : tie.Need-same-length-11 Inv-loop μ-loop
 same-length-11 c = c .before .before .before .before .before .before .before .before .before .loop .inv .1 .companions
 
--- src/lib.rt:80:13
 same-length-12 : tie.Need-same-length-12 Inv-loop μ-loop
 same-length-12 c = c .before .before .before .before .before .before .before .before .before .loop .inv .1 .list
 
--- src/lib.rt:80:13
 same-length-13 : tie.Need-same-length-13 Inv-loop μ-loop
 same-length-13 c = c .before .before .before .before .before .before .before .before .before .loop .inv .1 .seen
 
--- src/lib.rt:80:13
 same-length-14 : tie.Need-same-length-14 Inv-loop μ-loop
 same-length-14 c = c .before .before .before .before .before .before .before .before .before .loop .inv .1 .alive
 
--- src/lib.rt:80:13
 same-length-15 : tie.Need-same-length-15 Inv-loop μ-loop
 same-length-15 c = c .before .before .before .before .before .before .before .before .before .loop .inv .1 .cells
 
--- src/lib.rt:80:13
 same-length-16 : tie.Need-same-length-16 Inv-loop μ-loop
 same-length-16 c = c .before .before .before .before .before .before .before .before .before .loop .inv .1 .entries
 
--- src/lib.rt:80:13
 returns-2 : tie.Need-returns-2 Inv-loop μ-loop
 returns-2 c = ends-stopped (c .before .before .before .before .before .before .before .before .before .loop .inv .0) (c .before .before .before .before .before .top-unmarked .ensures) (c .before .before .before .before .if1 .left) refl refl (sym (c .before .before .is-code .ensures) ∙ not-true _ (c .before .if2 .taken)) (c .answered .ensures)
 
--- src/lib.rt:82:26
 mul-if3 : tie.Need-mul-if3 Inv-loop μ-loop
 mul-if3 c = omega (arith, top-few (c .before .before .before .before .before .before .before .before .loop .inv .0 .ready) (c .before .before .before .before .top-unmarked .ensures))
 
--- src/lib.rt:82:26
 add-if3 : tie.Need-add-if3 Inv-loop μ-loop
 add-if3 c = omega (arith, top-few (c .before .before .before .before .before .before .before .before .loop .inv .0 .ready) (c .before .before .before .before .top-unmarked .ensures))
 
--- src/lib.rt:83:13
 answered-requires-2 : tie.Need-answered-requires-2 Inv-loop μ-loop
 answered-requires-2 c κs = search needs
 
--- src/lib.rt:83:13
 same-length-17 : tie.Need-same-length-17 Inv-loop μ-loop
 same-length-17 c = c .before .before .before .before .before .before .before .before .before .before .loop .inv .1 .keys
 
--- src/lib.rt:83:13
 same-length-18 : tie.Need-same-length-18 Inv-loop μ-loop
 same-length-18 c = c .before .before .before .before .before .before .before .before .before .before .loop .inv .1 .kids
 
--- src/lib.rt:83:13
 same-length-19 : tie.Need-same-length-19 Inv-loop μ-loop
 same-length-19 c = c .before .before .before .before .before .before .before .before .before .before .loop .inv .1 .companions
 
--- src/lib.rt:83:13
 same-length-20 : tie.Need-same-length-20 Inv-loop μ-loop
 same-length-20 c = c .before .before .before .before .before .before .before .before .before .before .loop .inv .1 .list
 
--- src/lib.rt:83:13
 same-length-21 : tie.Need-same-length-21 Inv-loop μ-loop
 same-length-21 c = c .before .before .before .before .before .before .before .before .before .before .loop .inv .1 .seen
 
--- src/lib.rt:83:13
 same-length-22 : tie.Need-same-length-22 Inv-loop μ-loop
 same-length-22 c = c .before .before .before .before .before .before .before .before .before .before .loop .inv .1 .alive
 
--- src/lib.rt:83:13
 same-length-23 : tie.Need-same-length-23 Inv-loop μ-loop
 same-length-23 c = c .before .before .before .before .before .before .before .before .before .before .loop .inv .1 .cells
 
--- src/lib.rt:83:13
 same-length-24 : tie.Need-same-length-24 Inv-loop μ-loop
 same-length-24 c = c .before .before .before .before .before .before .before .before .before .before .loop .inv .1 .entries
 
--- src/lib.rt:83:13
 returns-3 : tie.Need-returns-3 Inv-loop μ-loop
-returns-3 c = ends-full (c .before .before .before .before .before .before .before .before .before .before .loop .inv .0) (c .before .before .before .before .before .before .top-unmarked .ensures) (c .before .before .before .before .before .if1 .left) refl refl (is-code _ _ (sym (c .before .before .before .is-code .ensures) ∙ not-false _ (c .before .before .if2 .left))) (c .before .before .before .before .before .before .before .before .before .before .loop .inv .1) (c .before .if3 .taken) (c .answered2 .ensures)
+returns-3 c =
+    let c1 = c .before in
+    let c2 = c1 .before in
+    let c3 = c2 .before in
+    let c4 = c3 .before .before in
+    let c5 = c4 .before in
+    let c6 = c5 .before .before .before .before in
+    ends-full (c6 .loop .inv .0) (c5 .top-unmarked .ensures) (c4 .if1 .left) refl refl (is-code _ _ (sym (c3 .is-code .ensures) ∙ not-false _ (c2 .if2 .left))) (c6 .loop .inv .1)
+    (c1 .if3 .taken) (c .answered2 .ensures)
 
--- src/lib.rt:108:19
 mul-visit : tie.Need-mul-visit Inv-loop μ-loop
-mul-visit c = omega (arith, top-few (c .before .before .before .before .before .before .before .before .before .before .before .before .before .before .before .before .before .before .before .before .before .before .before .loop .inv .0 .ready) (c .before .before .before .before .before .before .before .before .before .before .before .before .before .before .before .before .before .before .before .top-unmarked .ensures))
+mul-visit c =
+    let c1 = c .before .before .before .before .before .before .before .before .before .before .before .before .before .before .before .before .before .before .before in
+    let c2 = c1 .before .before .before .before in
+    omega (arith, top-few (c2 .loop .inv .0 .ready) (c1 .top-unmarked .ensures))
 
--- src/lib.rt:108:19
 add-visit : tie.Need-add-visit Inv-loop μ-loop
-add-visit c = omega (arith, top-few (c .before .before .before .before .before .before .before .before .before .before .before .before .before .before .before .before .before .before .before .before .before .before .before .loop .inv .0 .ready) (c .before .before .before .before .before .before .before .before .before .before .before .before .before .before .before .before .before .before .before .top-unmarked .ensures))
+add-visit c =
+    let c1 = c .before .before .before .before .before .before .before .before .before .before .before .before .before .before .before .before .before .before .before in
+    let c2 = c1 .before .before .before .before in
+    omega (arith, top-few (c2 .loop .inv .0 .ready) (c1 .top-unmarked .ensures))
 
--- src/lib.rt:108:13
 mul-visit-2 : tie.Need-mul-visit-2 Inv-loop μ-loop
-mul-visit-2 c = omega (arith, top-few (c .before .before .before .before .before .before .before .before .before .before .before .before .before .before .before .before .before .before .before .before .before .before .before .loop .inv .0 .ready) (c .before .before .before .before .before .before .before .before .before .before .before .before .before .before .before .before .before .before .before .top-unmarked .ensures))
+mul-visit-2 c =
+    let c1 = c .before .before .before .before .before .before .before .before .before .before .before .before .before .before .before .before .before .before .before in
+    let c2 = c1 .before .before .before .before in
+    omega (arith, top-few (c2 .loop .inv .0 .ready) (c1 .top-unmarked .ensures))
 
--- src/lib.rt:108:13
 slice-read-visit : tie.Need-slice-read-visit Inv-loop μ-loop
 slice-read-visit c = omega (arith, c .before .before .before .before .before .before .before .before .before .before .before .before .before .before .before .if3 .left)
 
--- src/lib.rt:85:13
 visit-requires : tie.Need-visit-requires Inv-loop μ-loop
-visit-requires c κs = (held (c .before .before .before .before .before .before .before .before .before .before .before .before .before .before .before .before .before .before .before .before .before .before .before .before .loop .inv .0), visit-open (c .before .before .before .before .before .before .before .before .before .before .before .before .before .before .before .before .before .before .before .before .before .before .before .before .loop .inv .0) (c .before .before .before .before .before .before .before .before .before .before .before .before .before .before .before .before .before .before .before .before .top-unmarked .ensures) (c .before .before .before .before .before .before .before .before .before .before .before .before .before .before .before .before .before .before .before .if1 .left) refl refl (is-code _ _ (sym (c .before .before .before .before .before .before .before .before .before .before .before .before .before .before .before .before .before .is-code .ensures) ∙ not-false _ (c .before .before .before .before .before .before .before .before .before .before .before .before .before .before .before .before .if2 .left))) (c .before .before .before .before .before .before .before .before .before .before .before .before .before .before .before .before .before .before .before .before .before .before .before .before .loop .inv .1))
+visit-requires c κs =
+    let c1 = c .before .before .before .before .before .before .before .before .before .before .before .before .before .before .before .before in
+    let c2 = c1 .before in
+    let c3 = c2 .before .before in
+    let c4 = c3 .before in
+    let c5 = c4 .before .before .before .before in (
+      held (c5 .loop .inv .0),
+      visit-open (c5 .loop .inv .0) (c4 .top-unmarked .ensures) (c3 .if1 .left) refl refl (is-code _ _ (sym (c2 .is-code .ensures) ∙ not-false _
+          (c1 .if2 .left))) (c5 .loop .inv .1),
+    )
 
--- src/lib.rt:112:13
 same-length-25 : tie.Need-same-length-25 Inv-loop μ-loop
-same-length-25 c = c .before .before .before .before .before .before .before .before .before .before .before .before .before .before .before .before .keys .given ∙ c .before .before .before .before .before .before .before .before .before .before .before .before .before .before .before .before .before .before .before .before .before .before .before .before .before .before .before .before .before .before .before .before .before .before .before .before .before .before .before .before .before .before .loop .inv .1 .keys
+same-length-25 c =
+    let c1 = c .before .before .before .before .before .before .before .before .before .before .before .before .before .before .before .before in
+    let c2 = c1 .before .before .before .before .before .before .before .before .before .before .before .before .before .before .before .before .before .before .before .before .before .before .before .before .before .before in
+    c1 .keys .given ∙ c2 .loop .inv .1 .keys
 
--- src/lib.rt:112:13
 same-length-26 : tie.Need-same-length-26 Inv-loop μ-loop
-same-length-26 c = c .before .before .before .before .before .before .before .before .before .before .before .before .before .before .kids .given ∙ c .before .before .before .before .before .before .before .before .before .before .before .before .before .before .before .before .before .before .before .before .before .before .before .before .before .before .before .before .before .before .before .before .before .before .before .before .before .before .before .before .before .before .loop .inv .1 .kids
+same-length-26 c =
+    let c1 = c .before .before .before .before .before .before .before .before .before .before .before .before .before .before in
+    let c2 = c1 .before .before .before .before .before .before .before .before .before .before .before .before .before .before .before .before .before .before .before .before .before .before .before .before .before .before .before .before in
+    c1 .kids .given ∙ c2 .loop .inv .1 .kids
 
--- src/lib.rt:112:13
 same-length-27 : tie.Need-same-length-27 Inv-loop μ-loop
-same-length-27 c = c .before .before .before .before .before .before .before .before .before .before .before .before .companions .given ∙ c .before .before .before .before .before .before .before .before .before .before .before .before .before .before .before .before .before .before .before .before .before .before .before .before .before .before .before .before .before .before .before .before .before .before .before .before .before .before .before .before .before .before .loop .inv .1 .companions
+same-length-27 c =
+    let c1 = c .before .before .before .before .before .before .before .before .before .before .before .before in
+    let c2 = c1 .before .before .before .before .before .before .before .before .before .before .before .before .before .before .before .before .before .before .before .before .before .before .before .before .before .before .before .before .before .before in
+    c1 .companions .given ∙ c2 .loop .inv .1 .companions
 
--- src/lib.rt:112:13
 same-length-28 : tie.Need-same-length-28 Inv-loop μ-loop
-same-length-28 c = c .before .before .before .before .before .before .before .before .before .before .list .given ∙ c .before .before .before .before .before .before .before .before .before .before .before .before .before .before .before .before .before .before .before .before .before .before .before .before .before .before .before .before .before .before .before .before .before .before .before .before .before .before .before .before .before .before .loop .inv .1 .list
+same-length-28 c =
+    let c1 = c .before .before .before .before .before .before .before .before .before .before in
+    let c2 = c1 .before .before .before .before .before .before .before .before .before .before .before .before .before .before .before .before .before .before .before .before .before .before .before .before .before .before .before .before .before .before .before .before in
+    c1 .list .given ∙ c2 .loop .inv .1 .list
 
--- src/lib.rt:112:13
 same-length-29 : tie.Need-same-length-29 Inv-loop μ-loop
-same-length-29 c = c .before .before .before .before .before .before .before .before .seen .given ∙ c .before .before .before .before .before .before .before .before .before .before .before .before .before .before .before .before .before .before .before .before .before .before .before .before .before .before .before .before .before .before .before .before .before .before .before .before .before .before .before .before .before .before .loop .inv .1 .seen
+same-length-29 c =
+    let c1 = c .before .before .before .before .before .before .before .before in
+    let c2 = c1 .before .before .before .before .before .before .before .before .before .before .before .before .before .before .before .before .before .before .before .before .before .before .before .before .before .before .before .before .before .before .before .before .before .before in
+    c1 .seen .given ∙ c2 .loop .inv .1 .seen
 
--- src/lib.rt:112:13
 same-length-30 : tie.Need-same-length-30 Inv-loop μ-loop
-same-length-30 c = c .before .before .before .before .before .before .alive .given ∙ c .before .before .before .before .before .before .before .before .before .before .before .before .before .before .before .before .before .before .before .before .before .before .before .before .before .before .before .before .before .before .before .before .before .before .before .before .before .before .before .before .before .before .loop .inv .1 .alive
+same-length-30 c =
+    let c1 = c .before .before .before .before .before .before in
+    let c2 = c1 .before .before .before .before .before .before .before .before .before .before .before .before .before .before .before .before .before .before .before .before .before .before .before .before .before .before .before .before .before .before .before .before .before .before .before .before in
+    c1 .alive .given ∙ c2 .loop .inv .1 .alive
 
--- src/lib.rt:112:13
 same-length-31 : tie.Need-same-length-31 Inv-loop μ-loop
-same-length-31 c = c .before .before .before .before .cells .given ∙ c .before .before .before .before .before .before .before .before .before .before .before .before .before .before .before .before .before .before .before .before .before .before .before .before .before .before .before .before .before .before .before .before .before .before .before .before .before .before .before .before .before .before .loop .inv .1 .cells
+same-length-31 c =
+    let c1 = c .before .before .before .before in
+    let c2 = c1 .before .before .before .before .before .before .before .before .before .before .before .before .before .before .before .before .before .before .before .before .before .before .before .before .before .before .before .before .before .before .before .before .before .before .before .before .before .before in
+    c1 .cells .given ∙ c2 .loop .inv .1 .cells
 
--- src/lib.rt:112:13
 same-length-32 : tie.Need-same-length-32 Inv-loop μ-loop
 same-length-32 c = c .before .before .before .before .before .before .before .before .before .before .before .before .before .before .before .before .before .before .before .before .before .before .before .before .before .before .before .before .before .before .before .before .before .before .before .before .before .before .before .before .before .before .loop .inv .1 .entries
 
--- src/lib.rt:112:13
 returns-4 : tie.Need-returns-4 Inv-loop μ-loop
-returns-4 c = ends-refused (c .before .before .before .before .before .before .before .before .before .before .before .before .before .before .before .before .before .before .before .before .before .before .before .before .before .before .before .before .before .before .before .before .before .before .before .before .before .before .before .before .before .before .loop .inv .0) (c .before .before .before .before .before .before .before .before .before .before .before .before .before .before .before .before .before .before .before .before .before .before .before .before .before .before .before .before .before .before .before .before .before .before .before .before .before .before .top-unmarked .ensures) (c .before .before .before .before .before .before .before .before .before .before .before .before .before .before .before .before .before .before .before .before .before .before .before .before .before .before .before .before .before .before .before .before .before .before .before .before .before .if1 .left) refl refl (is-code _ _ (sym (c .before .before .before .before .before .before .before .before .before .before .before .before .before .before .before .before .before .before .before .before .before .before .before .before .before .before .before .before .before .before .before .before .before .before .before .is-code .ensures) ∙ not-false _ (c .before .before .before .before .before .before .before .before .before .before .before .before .before .before .before .before .before .before .before .before .before .before .before .before .before .before .before .before .before .before .before .before .before .before .if2 .left))) (c .before .before .before .before .before .before .before .before .before .before .before .before .before .before .before .before .before .before .before .before .before .before .before .before .before .before .before .before .before .before .before .before .before .before .before .before .before .before .before .before .before .before .loop .inv .1) (c .before .before .before .before .before .before .before .before .before .before .before .before .before .before .before .before .before .visit .ensures (c .before .before .before .before .before .before .before .before .before .before .before .before .before .before .before .before .before .before .before .before .before .before .before .before .before .before .before .before .before .before .before .before .before .before .before .before .before .before .before .before .before .before .loop .inv .0 .conditions) (c .before .before .before .before .before .before .before .before .before .before .before .before .before .before .before .before .before .before .before .before .before .before .before .before .before .before .before .before .before .before .before .before .before .before .before .before .before .before .before .before .before .before .loop .inv .0 .holding)) (c .if4 .taken)
+returns-4 c =
+    let c1 = c .before .before .before .before .before .before .before .before .before .before .before .before .before .before .before .before .before in
+    let c2 = c1 .before .before .before .before .before .before .before .before .before .before .before .before .before .before .before .before .before in
+    let c3 = c2 .before in
+    let c4 = c3 .before .before in
+    let c5 = c4 .before in
+    let c6 = c5 .before .before .before .before in
+    ends-refused (c6 .loop .inv .0) (c5 .top-unmarked .ensures) (c4 .if1 .left) refl refl (is-code _ _ (sym (c3 .is-code .ensures) ∙ not-false _ (c2 .if2 .left))) (c6 .loop .inv .1)
+    (c1 .visit .ensures (c6 .loop .inv .0 .conditions) (c6 .loop .inv .0 .holding)) (c .if4 .taken)
 
--- src/lib.rt:114:9
 push-requires : tie.Need-push-requires Inv-loop μ-loop
 push-requires c κs = omega (arith, c .before .before .before .before .before .before .before .before .before .before .before .before .before .before .before .before .before .before .before .before .before .before .before .before .before .before .before .before .before .before .before .before .before .before .if3 .left)
 
--- src/lib.rt:72:5
 loop-less : tie.Need-loop-less Inv-loop μ-loop
-loop-less c = falls (c .before .before .before .before .before .before .before .before .before .before .before .before .before .before .before .before .before .before .before .before .before .before .before .before .before .before .before .before .before .before .before .before .before .before .before .before .before .before .before .before .before .before .before .before .before .before .loop .inv .0) (c .before .before .before .before .before .before .before .before .before .before .before .before .before .before .before .before .before .before .before .before .before .before .before .before .before .before .before .before .before .before .before .before .before .before .before .before .before .before .before .before .before .before .top-unmarked .ensures) (c .before .before .before .before .before .before .before .before .before .before .before .before .before .before .before .before .before .before .before .before .before .before .before .before .before .before .before .before .before .before .before .before .before .before .before .before .before .before .before .before .before .if1 .left) refl refl (is-code _ _ (sym (c .before .before .before .before .before .before .before .before .before .before .before .before .before .before .before .before .before .before .before .before .before .before .before .before .before .before .before .before .before .before .before .before .before .before .before .before .before .before .before .is-code .ensures) ∙ not-false _ (c .before .before .before .before .before .before .before .before .before .before .before .before .before .before .before .before .before .before .before .before .before .before .before .before .before .before .before .before .before .before .before .before .before .before .before .before .before .before .if2 .left))) (c .before .before .before .before .before .before .before .before .before .before .before .before .before .before .before .before .before .before .before .before .before .before .before .before .before .before .before .before .before .before .before .before .before .before .before .before .before .before .before .before .before .before .before .before .before .before .loop .inv .1) (c .before .before .before .before .before .before .before .before .before .before .before .before .before .before .before .before .before .before .before .before .before .visit .ensures (c .before .before .before .before .before .before .before .before .before .before .before .before .before .before .before .before .before .before .before .before .before .before .before .before .before .before .before .before .before .before .before .before .before .before .before .before .before .before .before .before .before .before .before .before .before .before .loop .inv .0 .conditions) (c .before .before .before .before .before .before .before .before .before .before .before .before .before .before .before .before .before .before .before .before .before .before .before .before .before .before .before .before .before .before .before .before .before .before .before .before .before .before .before .before .before .before .before .before .before .before .loop .inv .0 .holding)) (c .before .before .before .before .if4 .left)
+loop-less c =
+    let c1 = c .before .before .before .before in
+    let c2 = c1 .before .before .before .before .before .before .before .before .before .before .before .before .before .before .before .before .before in
+    let c3 = c2 .before .before .before .before .before .before .before .before .before .before .before .before .before .before .before .before .before in
+    let c4 = c3 .before in
+    let c5 = c4 .before .before in
+    let c6 = c5 .before in
+    let c7 = c6 .before .before .before .before in
+    falls (c7 .loop .inv .0) (c6 .top-unmarked .ensures) (c5 .if1 .left) refl refl (is-code _ _ (sym (c4 .is-code .ensures) ∙ not-false _ (c3 .if2 .left))) (c7 .loop .inv .1)
+    (c2 .visit .ensures (c7 .loop .inv .0 .conditions) (c7 .loop .inv .0 .holding)) (c1 .if4 .left)
 
--- src/lib.rt:72:5
 loop-again : tie.Need-loop-again Inv-loop μ-loop
-loop-again c = (turns (c .before .before .before .before .before .before .before .before .before .before .before .before .before .before .before .before .before .before .before .before .before .before .before .before .before .before .before .before .before .before .before .before .before .before .before .before .before .before .before .before .before .before .before .before .before .before .loop .inv .0) (c .before .before .before .before .before .before .before .before .before .before .before .before .before .before .before .before .before .before .before .before .before .before .before .before .before .before .before .before .before .before .before .before .before .before .before .before .before .before .before .before .before .before .top-unmarked .ensures) (c .before .before .before .before .before .before .before .before .before .before .before .before .before .before .before .before .before .before .before .before .before .before .before .before .before .before .before .before .before .before .before .before .before .before .before .before .before .before .before .before .before .if1 .left) refl refl (is-code _ _ (sym (c .before .before .before .before .before .before .before .before .before .before .before .before .before .before .before .before .before .before .before .before .before .before .before .before .before .before .before .before .before .before .before .before .before .before .before .before .before .before .before .is-code .ensures) ∙ not-false _ (c .before .before .before .before .before .before .before .before .before .before .before .before .before .before .before .before .before .before .before .before .before .before .before .before .before .before .before .before .before .before .before .before .before .before .before .before .before .before .if2 .left))) (c .before .before .before .before .before .before .before .before .before .before .before .before .before .before .before .before .before .before .before .before .before .before .before .before .before .before .before .before .before .before .before .before .before .before .before .before .before .before .before .before .before .before .before .before .before .before .loop .inv .1) (c .before .before .before .before .before .before .before .before .before .before .before .before .before .before .before .before .before .before .before .before .before .visit .ensures (c .before .before .before .before .before .before .before .before .before .before .before .before .before .before .before .before .before .before .before .before .before .before .before .before .before .before .before .before .before .before .before .before .before .before .before .before .before .before .before .before .before .before .before .before .before .before .loop .inv .0 .conditions) (c .before .before .before .before .before .before .before .before .before .before .before .before .before .before .before .before .before .before .before .before .before .before .before .before .before .before .before .before .before .before .before .before .before .before .before .before .before .before .before .before .before .before .before .before .before .before .loop .inv .0 .holding)) (c .before .before .before .before .if4 .left) (c .before .before .push .ensures) (omega (arith, c .before .before .before .before .before .before .before .before .before .before .before .before .before .before .before .before .before .before .before .before .before .before .before .before .before .before .before .before .before .before .before .before .before .before .before .before .before .if3 .left)) (c .before .stack .given), record { keys = c .before .before .before .before .before .before .before .before .before .before .before .before .before .before .before .before .before .before .before .before .keys .given ∙ c .before .before .before .before .before .before .before .before .before .before .before .before .before .before .before .before .before .before .before .before .before .before .before .before .before .before .before .before .before .before .before .before .before .before .before .before .before .before .before .before .before .before .before .before .before .before .loop .inv .1 .keys; kids = c .before .before .before .before .before .before .before .before .before .before .before .before .before .before .before .before .before .before .kids .given ∙ c .before .before .before .before .before .before .before .before .before .before .before .before .before .before .before .before .before .before .before .before .before .before .before .before .before .before .before .before .before .before .before .before .before .before .before .before .before .before .before .before .before .before .before .before .before .before .loop .inv .1 .kids; companions = c .before .before .before .before .before .before .before .before .before .before .before .before .before .before .before .before .companions .given ∙ c .before .before .before .before .before .before .before .before .before .before .before .before .before .before .before .before .before .before .before .before .before .before .before .before .before .before .before .before .before .before .before .before .before .before .before .before .before .before .before .before .before .before .before .before .before .before .loop .inv .1 .companions; list = c .before .before .before .before .before .before .before .before .before .before .before .before .before .before .list .given ∙ c .before .before .before .before .before .before .before .before .before .before .before .before .before .before .before .before .before .before .before .before .before .before .before .before .before .before .before .before .before .before .before .before .before .before .before .before .before .before .before .before .before .before .before .before .before .before .loop .inv .1 .list; seen = c .before .before .before .before .before .before .before .before .before .before .before .before .seen .given ∙ c .before .before .before .before .before .before .before .before .before .before .before .before .before .before .before .before .before .before .before .before .before .before .before .before .before .before .before .before .before .before .before .before .before .before .before .before .before .before .before .before .before .before .before .before .before .before .loop .inv .1 .seen; alive = c .before .before .before .before .before .before .before .before .before .before .alive .given ∙ c .before .before .before .before .before .before .before .before .before .before .before .before .before .before .before .before .before .before .before .before .before .before .before .before .before .before .before .before .before .before .before .before .before .before .before .before .before .before .before .before .before .before .before .before .before .before .loop .inv .1 .alive; cells = c .before .before .before .before .before .before .before .before .cells .given ∙ c .before .before .before .before .before .before .before .before .before .before .before .before .before .before .before .before .before .before .before .before .before .before .before .before .before .before .before .before .before .before .before .before .before .before .before .before .before .before .before .before .before .before .before .before .before .before .loop .inv .1 .cells; entries = c .before .stack .given ∙ c .before .before .before .before .before .before .before .before .before .before .before .before .before .before .before .before .before .before .before .before .before .before .before .before .before .before .before .before .before .before .before .before .before .before .before .before .before .before .before .before .before .before .before .before .before .before .loop .inv .1 .entries })
+loop-again c =
+    let c1 = c .before in
+    let c2 = c1 .before in
+    let c3 = c2 .before .before in
+    let c4 = c3 .before .before .before .before in
+    let c5 = c4 .before .before in
+    let c6 = c5 .before .before in
+    let c7 = c6 .before .before in
+    let c8 = c7 .before .before in
+    let c9 = c8 .before .before in
+    let c10 = c9 .before .before in
+    let c11 = c10 .before in
+    let c12 = c11 .before .before .before .before .before .before .before .before .before .before .before .before .before .before .before .before in
+    let c13 = c12 .before in
+    let c14 = c13 .before in
+    let c15 = c14 .before .before in
+    let c16 = c15 .before in
+    let c17 = c16 .before .before .before .before in (
+      turns (c17 .loop .inv .0) (c16 .top-unmarked .ensures) (c15 .if1 .left) refl refl (is-code _ _ (sym (c14 .is-code .ensures) ∙ not-false _ (c13 .if2 .left))) (c17 .loop .inv .1)
+          (c11 .visit .ensures (c17 .loop .inv .0 .conditions) (c17 .loop .inv .0 .holding)) (c3 .if4 .left) (c2 .push .ensures) (omega (arith, c12 .if3 .left))
+          (c1 .stack .given),
+      record {
+        keys = c10 .keys .given ∙ c17 .loop .inv .1 .keys;
+        kids = c9 .kids .given ∙ c17 .loop .inv .1 .kids;
+        companions = c8 .companions .given
+            ∙ c17 .loop .inv .1 .companions;
+        list = c7 .list .given ∙ c17 .loop .inv .1 .list;
+        seen = c6 .seen .given ∙ c17 .loop .inv .1 .seen;
+        alive = c5 .alive .given ∙ c17 .loop .inv .1 .alive;
+        cells = c4 .cells .given ∙ c17 .loop .inv .1 .cells;
+        entries = c1 .stack .given ∙ c17 .loop .inv .1 .entries;
+      },
+    )
 
--- src/lib.rt:40:1
 same-length-33 : tie.Need-same-length-33 Inv-loop μ-loop
 same-length-33 c = c .before .loop .inv .1 .keys
 
--- src/lib.rt:40:1
 same-length-34 : tie.Need-same-length-34 Inv-loop μ-loop
 same-length-34 c = c .before .loop .inv .1 .kids
 
--- src/lib.rt:40:1
 same-length-35 : tie.Need-same-length-35 Inv-loop μ-loop
 same-length-35 c = c .before .loop .inv .1 .companions
 
--- src/lib.rt:40:1
 same-length-36 : tie.Need-same-length-36 Inv-loop μ-loop
 same-length-36 c = c .before .loop .inv .1 .list
 
--- src/lib.rt:40:1
 same-length-37 : tie.Need-same-length-37 Inv-loop μ-loop
 same-length-37 c = c .before .loop .inv .1 .seen
 
--- src/lib.rt:40:1
 same-length-38 : tie.Need-same-length-38 Inv-loop μ-loop
 same-length-38 c = c .before .loop .inv .1 .alive
 
--- src/lib.rt:40:1
 same-length-39 : tie.Need-same-length-39 Inv-loop μ-loop
 same-length-39 c = c .before .loop .inv .1 .cells
 
--- src/lib.rt:40:1
 same-length-40 : tie.Need-same-length-40 Inv-loop μ-loop
 same-length-40 c = c .before .loop .inv .1 .entries
 
--- src/lib.rt:40:1
 returns-5 : tie.Need-returns-5 Inv-loop μ-loop
 returns-5 c = ends-none (c .before .loop .inv .0) (omega (arith, top-most (take (c .before .before .before .before .before .before .before .before .before .before .before .args .k .blocks) (c .before .loop .marks)) (c .before .loop .stack) (c .before .loop .depth), c .loop-test .left))
 

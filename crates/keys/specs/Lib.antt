@@ -1,5 +1,0 @@
-pub mod Entries
-pub mod Turns
-pub mod Search
-pub mod Reads
-pub mod Sheets

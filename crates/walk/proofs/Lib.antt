@@ -1,4 +1,0 @@
--- What the proofs of several functions use.
-pub mod Stacks
-pub mod Turns
-pub mod Starts

@@ -1,4 +1,0 @@
-pub mod Marks
-pub mod Dfs
-pub mod Steps
-pub mod Walks
