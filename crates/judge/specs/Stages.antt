@@ -7,7 +7,6 @@ use Prim.Native.Nat.{ℕ, _+_, _*_, _≤_, _<_}
 use lib.IntN.{ℤ}
 use lib.ListN.{length}
 use Rattle.memory.specs.declared.Counts.{Counts}
-use Rattle.model.specs.Limits.{commandLimit, nodeLimit}
 use Rattle.model.specs.Reading.{Answer, got, refused, onward, word}
 use Rattle.model.specs.Script.{Block, blockNodes, blockCommands}
 use Rattle.model.specs.Image.{image, readLink}
@@ -34,11 +33,6 @@ KeptBy k = Kept (k .nodes) (k .commands) (k .blocks)
 pub record Within (k : Counts) (b : Bool) : Type 0 where
   pub kept : b ≡ true → KeptBy k
   pub over : b ≡ false → (ws : List ℕ) (vs : List ℤ) (cw bw : List ℕ) → limitsKept (memoryBy ws vs cw bw k) ≡ false
-
--- tables for the nodes and commands of a script within its limits
-pub record Tables (k : Counts) (table runs : ℕ) : Type 0 where
-  pub nodes : k .nodes ≤ nodeLimit → 3 * k .nodes ≤ table
-  pub commands : k .commands ≤ commandLimit → k .commands ≤ runs
 
 -- ---- commands and blocks
 

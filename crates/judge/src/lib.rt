@@ -2,20 +2,19 @@
 ghost use mathlib.Core.List.{_++_};
 ghost use Prim.Native.Nat.{_*_, _≤_, _<_};
 ghost use lib.ListN.{length};
+ghost use Rattle.model.specs.Limits.{commandLimit};
 ghost use Rattle.model.specs.Reading.{word};
 ghost use Rattle.model.specs.Script.{commandNodes, commandsNodes};
 ghost use Rattle.model.specs.Image.{readBlockNo, readLink, commandOf, readCommand, readCommands, setOf, blockOf, readBlock};
 ghost use Rattle.model.specs.Memory.{memoryIn};
 ghost use Rattle.model.specs.Record.{rootImage, commandTail, commandImageIn, commandsImageIn, blockTail};
 ghost use Rattle.terms.specs.Told.{Told, limitsBy, nodesBy, ReadyBy};
-ghost use Rattle.terms.specs.Measures.{Table};
-ghost use Rattle.judge.specs.Stages.{codedBy, memoryBy, KeptBy, uncounted, readLinks, StandingBy, Staged, blockImageIn, Within, Tables, JudgedAs, WalkedAs};
+ghost use Rattle.judge.specs.Stages.{codedBy, memoryBy, KeptBy, uncounted, readLinks, StandingBy, Staged, blockImageIn, Within, JudgedAs, WalkedAs};
 use held::held_kept;
 use memory::Counts;
 use memory::index_of;
 use terms::Step;
 use terms::judge_term;
-use terms::measure_nodes;
 use terms::short_length;
 
 // Judged fine, with the length of the image in bytes, or the refusal's number.
@@ -58,19 +57,18 @@ fn judge_link(k: u16, blocks: u16, n: u16, at: usize) -> Step
 fn judge_pair(
     ws: &[u16; 98304],
     val: &[i32; 32768],
-    table: &[u32],
     counts: Counts,
     i: u16,
     j: u16,
     n: u16,
     at: usize,
 ) -> Step
-    requires { ⌜ ReadyBy counts n at 200000 × Table (now ws) (now val) (now table) (counts .nodes) ⌝ }
+    requires { ⌜ ReadyBy counts n at 200000 ⌝ }
     ensures { λ r. ⌜ Told (setOf (limitsBy counts) n 0) commandNodes (rootImage (nodesBy (now (ws .entry)) (now (val .entry)) counts) i ++ rootImage (nodesBy (now (ws .entry)) (now (val .entry)) counts) j) (counts .nodes) 0 n at r ⌝ }
 {
-    let a = judge_term(ws, val, table, counts, i, n, at);
+    let a = judge_term(ws, val, counts, i, n, at);
     match a {
-        Step::Fine(m, p) => judge_term(ws, val, table, counts, j, m, p),
+        Step::Fine(m, p) => judge_term(ws, val, counts, j, m, p),
         Step::No(e) => Step::No(e),
     }
 }
@@ -79,31 +77,21 @@ fn judge_pair(
 fn judge_set(
     ws: &[u16; 98304],
     val: &[i32; 32768],
-    table: &[u32],
     cw: &[u16; 65536],
     counts: Counts,
     i: usize,
     n: u16,
     at: usize,
 ) -> Step
-    requires { ⌜ (i < counts .commands) × (ReadyBy counts n at 199000 × Table (now ws) (now val) (now table) (counts .nodes)) ⌝ }
+    requires { ⌜ (i < counts .commands) × ReadyBy counts n at 199000 ⌝ }
     ensures { λ r. ⌜ Told (commandOf (limitsBy counts) n 2) commandNodes (commandTail (codedBy (now (ws .entry)) (now (val .entry)) (now (cw .entry)) counts) i 2) (counts .nodes) 3 n at r ⌝ }
 {
     let target = cw[4 * i + 3];
     if target == 0 {
-        return judge_pair(
-            ws,
-            val,
-            table,
-            counts,
-            cw[4 * i + 1],
-            cw[4 * i + 2],
-            n,
-            at + 1,
-        );
+        return judge_pair(ws, val, counts, cw[4 * i + 1], cw[4 * i + 2], n, at + 1);
     }
     if target == 1 {
-        return judge_term(ws, val, table, counts, cw[4 * i + 2], n, at + 1);
+        return judge_term(ws, val, counts, cw[4 * i + 2], n, at + 1);
     }
     Step::No(2)
 }
@@ -112,17 +100,16 @@ fn judge_set(
 fn judge_if(
     ws: &[u16; 98304],
     val: &[i32; 32768],
-    table: &[u32],
     cw: &[u16; 65536],
     counts: Counts,
     i: usize,
     n: u16,
     at: usize,
 ) -> Step
-    requires { ⌜ (i < counts .commands) × (ReadyBy counts n at 199000 × Table (now ws) (now val) (now table) (counts .nodes)) ⌝ }
+    requires { ⌜ (i < counts .commands) × ReadyBy counts n at 199000 ⌝ }
     ensures { λ r. ⌜ Told (commandOf (limitsBy counts) n 3) commandNodes (commandTail (codedBy (now (ws .entry)) (now (val .entry)) (now (cw .entry)) counts) i 3) (counts .nodes) 3 n at r ⌝ }
 {
-    let a = judge_term(ws, val, table, counts, cw[4 * i + 1], n, at);
+    let a = judge_term(ws, val, counts, cw[4 * i + 1], n, at);
     match a {
         Step::Fine(m, p) => judge_block_no(cw[4 * i + 3], counts.blocks, m, p),
         Step::No(e) => Step::No(e),
@@ -133,7 +120,6 @@ fn judge_if(
 fn judge_tail(
     ws: &[u16; 98304],
     val: &[i32; 32768],
-    table: &[u32],
     cw: &[u16; 65536],
     counts: Counts,
     i: usize,
@@ -141,14 +127,14 @@ fn judge_tail(
     n: u16,
     at: usize,
 ) -> Step
-    requires { ⌜ (i < counts .commands) × (ReadyBy counts n at 199000 × Table (now ws) (now val) (now table) (counts .nodes)) ⌝ }
+    requires { ⌜ (i < counts .commands) × ReadyBy counts n at 199000 ⌝ }
     ensures { λ r. ⌜ Told (commandOf (limitsBy counts) n k) commandNodes (commandTail (codedBy (now (ws .entry)) (now (val .entry)) (now (cw .entry)) counts) i k) (counts .nodes) 3 n at r ⌝ }
 {
     match k {
         0 => Step::Fine(n, at),
         1 => judge_block_no(cw[4 * i + 3], counts.blocks, n, at),
-        2 => judge_set(ws, val, table, cw, counts, i, n, at),
-        3 => judge_if(ws, val, table, cw, counts, i, n, at),
+        2 => judge_set(ws, val, cw, counts, i, n, at),
+        3 => judge_if(ws, val, cw, counts, i, n, at),
         4 => judge_block_no(cw[4 * i + 3], counts.blocks, n, at),
         _ => Step::Fine(n, at),
     }
@@ -158,14 +144,13 @@ fn judge_tail(
 fn judge_command(
     ws: &[u16; 98304],
     val: &[i32; 32768],
-    table: &[u32],
     cw: &[u16; 65536],
     counts: Counts,
     i: usize,
     n: u16,
     at: usize,
 ) -> Step
-    requires { ⌜ ReadyBy counts n at 198000 × Table (now ws) (now val) (now table) (counts .nodes) ⌝ }
+    requires { ⌜ ReadyBy counts n at 198000 ⌝ }
     ensures { λ r. ⌜ Told (readCommand (limitsBy counts) n) commandNodes (commandImageIn (codedBy (now (ws .entry)) (now (val .entry)) (now (cw .entry)) counts) i) (counts .nodes) 4 n at r ⌝ }
 {
     let there = index_of(counts.commands);
@@ -176,14 +161,13 @@ fn judge_command(
     if k >= 6 {
         return Step::No(2);
     }
-    judge_tail(ws, val, table, cw, counts, i, k, n, at + 1)
+    judge_tail(ws, val, cw, counts, i, k, n, at + 1)
 }
 
 // So many commands, from the first on; they may run past the arrays.
 fn judge_commands(
     ws: &[u16; 98304],
     val: &[i32; 32768],
-    table: &[u32],
     cw: &[u16; 65536],
     counts: Counts,
     first: u16,
@@ -191,7 +175,7 @@ fn judge_commands(
     n: u16,
     at: usize,
 ) -> Step
-    requires { ⌜ (held ≤ 16384) × (ReadyBy counts n at 110000 × Table (now ws) (now val) (now table) (counts .nodes)) ⌝ }
+    requires { ⌜ (held ≤ 16384) × ReadyBy counts n at 110000 ⌝ }
     ensures { λ r. ⌜ Told (readCommands (limitsBy counts) held n) commandsNodes (commandsImageIn (codedBy (now (ws .entry)) (now (val .entry)) (now (cw .entry)) counts) held first) (counts .nodes) (4 * held) n at r ⌝ }
 {
     let f = index_of(first);
@@ -200,7 +184,7 @@ fn judge_commands(
     let mut p = at;
     let mut i: usize = 0;
     while i < end {
-        let r = judge_command(ws, val, table, cw, counts, f + i, k, p);
+        let r = judge_command(ws, val, cw, counts, f + i, k, p);
         match r {
             Step::Fine(k1, p1) => {
                 k = k1;
@@ -231,7 +215,6 @@ fn judge_links(x: u16, y: u16, blocks: u16, n: u16, at: usize) -> Step
 fn judge_code(
     ws: &[u16; 98304],
     val: &[i32; 32768],
-    table: &[u32],
     cw: &[u16; 65536],
     bw: &[u16; 20480],
     counts: Counts,
@@ -240,7 +223,7 @@ fn judge_code(
     m: u16,
     at: usize,
 ) -> Stage
-    requires { ⌜ StandingBy counts i n m at 109000 × Table (now ws) (now val) (now table) (counts .nodes) ⌝ }
+    requires { ⌜ StandingBy counts i n m at 109000 ⌝ }
     ensures { λ r. ⌜ Staged (blockOf (limitsBy counts) m n 1) (blockTail (memoryBy (now (ws .entry)) (now (val .entry)) (now (cw .entry)) (now (bw .entry)) counts) i 1) (counts .nodes) (counts .commands) 9 n m at r ⌝ }
 {
     let held = bw[5 * i + 2];
@@ -249,7 +232,7 @@ fn judge_code(
     if held > room {
         return Stage::No(3);
     }
-    let a = judge_commands(ws, val, table, cw, counts, bw[5 * i + 1], held, n, at + len);
+    let a = judge_commands(ws, val, cw, counts, bw[5 * i + 1], held, n, at + len);
     match a {
         Step::Fine(k, p) => {
             let b = judge_links(bw[5 * i + 3], bw[5 * i + 4], counts.blocks, k, p);
@@ -266,7 +249,6 @@ fn judge_code(
 fn judge_block(
     ws: &[u16; 98304],
     val: &[i32; 32768],
-    table: &[u32],
     cw: &[u16; 65536],
     bw: &[u16; 20480],
     counts: Counts,
@@ -275,13 +257,13 @@ fn judge_block(
     m: u16,
     at: usize,
 ) -> Stage
-    requires { ⌜ StandingBy counts i n m at 108000 × Table (now ws) (now val) (now table) (counts .nodes) ⌝ }
+    requires { ⌜ StandingBy counts i n m at 108000 ⌝ }
     ensures { λ r. ⌜ Staged (readBlock (limitsBy counts) m n) (blockImageIn (memoryBy (now (ws .entry)) (now (val .entry)) (now (cw .entry)) (now (bw .entry)) counts) i) (counts .nodes) (counts .commands) 10 n m at r ⌝ }
 {
     let kind = bw[5 * i];
     match kind {
         0 => Stage::Fine(n, m, at + 1),
-        1 => judge_code(ws, val, table, cw, bw, counts, i, n, m, at + 1),
+        1 => judge_code(ws, val, cw, bw, counts, i, n, m, at + 1),
         2 => Stage::Fine(n, m, at + 1),
         _ => Stage::No(2),
     }
@@ -291,12 +273,11 @@ fn judge_block(
 fn judge_blocks(
     ws: &[u16; 98304],
     val: &[i32; 32768],
-    table: &[u32],
     cw: &[u16; 65536],
     bw: &[u16; 20480],
     counts: Counts,
 ) -> Judged
-    requires { ⌜ KeptBy counts × Table (now ws) (now val) (now table) (counts .nodes) ⌝ }
+    requires { ⌜ KeptBy counts ⌝ }
     ensures { λ r. ⌜ WalkedAs (memoryBy (now (ws .entry)) (now (val .entry)) (now (cw .entry)) (now (bw .entry)) counts) r ⌝ }
 {
     let end = index_of(counts.blocks);
@@ -305,7 +286,7 @@ fn judge_blocks(
     let mut p = short_length(counts.blocks);
     let mut i: usize = 0;
     while i < end {
-        let r = judge_block(ws, val, table, cw, bw, counts, i, n, m, p);
+        let r = judge_block(ws, val, cw, bw, counts, i, n, m, p);
         match r {
             Stage::Fine(n1, m1, p1) => {
                 n = n1;
@@ -338,20 +319,18 @@ fn within_limits(counts: Counts) -> bool
 fn judge_by(
     ws: &[u16; 98304],
     val: &[i32; 32768],
-    table: &mut [u32],
     runs: &mut [u16],
     cw: &[u16; 65536],
     bw: &[u16; 20480],
     counts: Counts,
 ) -> Judged
-    requires { ⌜ Tables counts (length (now table)) (length (now runs)) ⌝ }
+    requires { ⌜ commandLimit ≤ length (now runs) ⌝ }
     ensures { λ r. ⌜ JudgedAs (memoryBy (now (ws .entry)) (now (val .entry)) (now (cw .entry)) (now (bw .entry)) counts) r ⌝ }
 {
     if !within_limits(counts) {
         return Judged::No(3);
     }
-    measure_nodes(ws, val, table, index_of(counts.nodes));
-    let walked = judge_blocks(ws, val, table, cw, bw, counts);
+    let walked = judge_blocks(ws, val, cw, bw, counts);
     match walked {
         Judged::Fine(len) => Judged::Fine(len),
         Judged::No(k) => {
@@ -363,55 +342,8 @@ fn judge_by(
     }
 }
 
-// With tables for 64 nodes and commands: to clear large ones takes longer than to judge a small script.
-fn judge_up_to_64(
-    ws: &[u16; 98304],
-    val: &[i32; 32768],
-    cw: &[u16; 65536],
-    bw: &[u16; 20480],
-    counts: Counts,
-) -> Judged
-    requires { ⌜ (counts .nodes ≤ 64) × (counts .commands ≤ 64) ⌝ }
-    ensures { λ r. ⌜ JudgedAs (memoryBy (now (ws .entry)) (now (val .entry)) (now (cw .entry)) (now (bw .entry)) counts) r ⌝ }
-{
-    let mut table = [0u32; 192];
-    let mut runs = [0u16; 64];
-    judge_by(ws, val, &mut table, &mut runs, cw, bw, counts)
-}
-
-// With tables for 1,024 nodes and commands.
-fn judge_up_to_1024(
-    ws: &[u16; 98304],
-    val: &[i32; 32768],
-    cw: &[u16; 65536],
-    bw: &[u16; 20480],
-    counts: Counts,
-) -> Judged
-    requires { ⌜ (counts .nodes ≤ 1024) × (counts .commands ≤ 1024) ⌝ }
-    ensures { λ r. ⌜ JudgedAs (memoryBy (now (ws .entry)) (now (val .entry)) (now (cw .entry)) (now (bw .entry)) counts) r ⌝ }
-{
-    let mut table = [0u32; 3072];
-    let mut runs = [0u16; 1024];
-    judge_by(ws, val, &mut table, &mut runs, cw, bw, counts)
-}
-
-// With tables for any script.
-fn judge_any(
-    ws: &[u16; 98304],
-    val: &[i32; 32768],
-    cw: &[u16; 65536],
-    bw: &[u16; 20480],
-    counts: Counts,
-) -> Judged
-    ensures { λ r. ⌜ JudgedAs (memoryBy (now (ws .entry)) (now (val .entry)) (now (cw .entry)) (now (bw .entry)) counts) r ⌝ }
-{
-    let mut table = [0u32; 98304];
-    let mut runs = [0u16; 16384];
-    judge_by(ws, val, &mut table, &mut runs, cw, bw, counts)
-}
-
 // The judgement of a script record, in the place of refusals 2 to 5: the kept counts first, then block by block as its image would be read.
-// Each way leads to tables, which are made before anything is looked at: a way out before a large array is what the back end may get wrong.
+// The table is made before anything is looked at: a way out before a large array is what the back end may get wrong.
 pub fn judge_record(
     ws: &[u16; 98304],
     val: &[i32; 32768],
@@ -421,11 +353,6 @@ pub fn judge_record(
 ) -> Judged
     ensures { λ r. ⌜ JudgedAs (memoryIn (now (ws .entry)) (now (val .entry)) (now (cw .entry)) (now (bw .entry)) (counts .nodes) (counts .commands) (counts .blocks)) r ⌝ }
 {
-    if counts.nodes > 1024 || counts.commands > 1024 {
-        return judge_any(ws, val, cw, bw, counts);
-    }
-    if counts.nodes > 64 || counts.commands > 64 {
-        return judge_up_to_1024(ws, val, cw, bw, counts);
-    }
-    judge_up_to_64(ws, val, cw, bw, counts)
+    let mut runs = [0u16; 16384];
+    judge_by(ws, val, &mut runs, cw, bw, counts)
 }

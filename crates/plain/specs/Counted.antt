@@ -14,7 +14,7 @@ use Rattle.terms.specs.Told.{Told, limitsBy}
 use Rattle.terms.specs.declared.Step.the-variants.{Fine}
 use Rattle.judge.specs.Stages.{codedBy, memoryBy, KeptBy, Staged, blockImageIn}
 use Rattle.judge.specs.declared.Stage.the-variants.{Fine as Passed}
-use Rattle.trees.specs.Trees.{Trees, Reads}
+use Rattle.trees.specs.Trees.{Trees, Shallow, Reads}
 use Rattle.plain.specs.Chain.{Chain}
 
 -- ---- what callers have to bring
@@ -36,10 +36,17 @@ pub record Stands (f : List ℕ → Answer Block) (w : List ℕ) (l c x n m at r
   pub to : ℕ
   pub staged : Staged f w l c x n m at (Passed (n + r) (m + h) to)
 
--- an expression whose root is node i
+-- an expression whose root is node i: fewer than 64 nodes have no 65 levels
 pub record TermCount (t : List ℕ) (l i r : ℕ) : Type 0 where
   pub few : r < 65536
-  pub reads : (ws : List ℕ) (vs : List ℤ) → Trees ws vs t l → (n at : ℕ) → n + r ≤ l → Reads ws vs l l i n at 0 r
+  pub narrow : r < 64 → (ws : List ℕ) (vs : List ℤ) → Trees ws vs t l → Shallow ws 64 i
+  pub reads : (ws : List ℕ) (vs : List ℤ) → Trees ws vs t l → Shallow ws 64 i → (n at : ℕ) → n + r ≤ l → Reads ws vs l l i n at 0 r
+
+-- the expressions after the code c of command i have at most 64 levels
+pub record Levels (ws cw : List ℕ) (i c : ℕ) : Type 0 where
+  pub target : c ≡ 2 → getD cw (4 * i + 3) 0 ≡ 0 → Shallow ws 64 (getD cw (4 * i + 1) 0)
+  pub value : c ≡ 2 → Shallow ws 64 (getD cw (4 * i + 2) 0)
+  pub condition : c ≡ 3 → Shallow ws 64 (getD cw (4 * i + 1) 0)
 
 -- block k is there, or too many
 pub record Named (k b r : ℕ) : Type 0 where
@@ -50,14 +57,29 @@ pub record Named (k b r : ℕ) : Type 0 where
 -- what follows the code c of command i
 pub record TailCount (t cw : List ℕ) (k : Counts) (i c r : ℕ) : Type 0 where
   pub few : r ≤ 131072
-  pub reads : (ws : List ℕ) (vs : List ℤ) → Trees ws vs t (k .nodes) → (n at : ℕ) → n + r ≤ k .nodes
+  pub narrow : r < 64 → (ws : List ℕ) (vs : List ℤ) → Trees ws vs t (k .nodes) → Levels ws cw i c
+  pub reads : (ws : List ℕ) (vs : List ℤ) → Trees ws vs t (k .nodes) → Levels ws cw i c → (n at : ℕ) → n + r ≤ k .nodes
       → Passes (commandOf (limitsBy k) n c) commandNodes (commandTail (codedBy ws vs cw k) i c) (k .nodes) 3 n at r
+
+-- the trees are told, and the expressions of all commands have at most 64 levels
+pub record Given (ws : List ℕ) (vs : List ℤ) (t cw : List ℕ) (k : Counts) : Type 0 where
+  pub trees : Trees ws vs t (k .nodes)
+  pub low : (j : ℕ) → j < k .commands → Levels ws cw j (getD cw (4 * j) 0)
 
 -- command i
 pub record CommandCount (t cw : List ℕ) (k : Counts) (i r : ℕ) : Type 0 where
   pub few : r ≤ 131072
-  pub reads : (ws : List ℕ) (vs : List ℤ) → Trees ws vs t (k .nodes) → (n at : ℕ) → n + r ≤ k .nodes
+  pub narrow : r < 64 → (ws : List ℕ) (vs : List ℤ) → Trees ws vs t (k .nodes) → Levels ws cw i (getD cw (4 * i) 0)
+  pub reads : (ws : List ℕ) (vs : List ℤ) → Given ws vs t cw k → (n at : ℕ) → n + r ≤ k .nodes
       → Passes (readCommand (limitsBy k) n) commandNodes (commandImageIn (codedBy ws vs cw k) i) (k .nodes) 4 n at r
+
+-- the expressions of command i have at most 64 levels, by what the table tells
+pub record LowCommand (ws t cw : List ℕ) (k : Counts) (i : ℕ) : Type 0 where
+  pub levels : (vs : List ℤ) → Trees ws vs t (k .nodes) → Levels ws cw i (getD cw (4 * i) 0)
+
+-- the same of the first i commands
+pub record LowCommands (ws t cw : List ℕ) (k : Counts) (i : ℕ) : Type 0 where
+  pub each : (j : ℕ) → j < i → LowCommand ws t cw k j
 
 -- command i is counted: its nodes come on top of n
 pub record Adds (t cw : List ℕ) (k : Counts) (i n n′ : ℕ) : Type 0 where
@@ -65,19 +87,20 @@ pub record Adds (t cw : List ℕ) (k : Counts) (i n n′ : ℕ) : Type 0 where
   pub count : CommandCount t cw k i nodes
   pub sum : n′ ≡ n + nodes
 
--- the first i commands
-pub record AllCount (t cw : List ℕ) (k : Counts) (i r : ℕ) : Type 0 where
-  pub few : r ≤ 131072 * i
+-- the first i commands, of which none has more than w nodes
+pub record SumCount (t cw : List ℕ) (k : Counts) (i r w : ℕ) : Type 0 where
+  pub few : r ≤ 40000 * i
   pub sums : Chain (Adds t cw k) i r
+  pub narrow : w < 64 → (ws : List ℕ) → LowCommands ws t cw k i
 
 -- h commands from the first on
 pub record CommandsCount (t cw : List ℕ) (k : Counts) (first h r : ℕ) : Type 0 where
-  pub reads : (ws : List ℕ) (vs : List ℤ) → Trees ws vs t (k .nodes) → (n at : ℕ) → n + r ≤ k .nodes
+  pub reads : (ws : List ℕ) (vs : List ℤ) → Given ws vs t cw k → (n at : ℕ) → n + r ≤ k .nodes
       → Passes (readCommands (limitsBy k) h n) commandsNodes (commandsImageIn (codedBy ws vs cw k) h first) (k .nodes) (4 * h) n at r
 
 -- what follows the kind of block i, which is code
 pub record CodeCount (t cw bw : List ℕ) (k : Counts) (i r : ℕ) : Type 0 where
-  pub reads : (ws : List ℕ) (vs : List ℤ) → Trees ws vs t (k .nodes) → (n m at : ℕ) → n + r ≤ k .nodes → m + getD bw (5 * i + 2) 0 ≤ k .commands
+  pub reads : (ws : List ℕ) (vs : List ℤ) → Given ws vs t cw k → (n m at : ℕ) → n + r ≤ k .nodes → m + getD bw (5 * i + 2) 0 ≤ k .commands
       → Stands (blockOf (limitsBy k) m n 1) (blockTail (memoryBy ws vs cw bw k) i 1) (k .nodes) (k .commands) 9 n m at r (getD bw (5 * i + 2) 0)
 
 -- the commands of block i: none where it is not code
@@ -87,7 +110,7 @@ pub record Held (bw : List ℕ) (i h : ℕ) : Type 0 where
 
 -- block i
 pub record BlockCount (t cw bw : List ℕ) (k : Counts) (i r : ℕ) : Type 0 where
-  pub reads : (ws : List ℕ) (vs : List ℤ) → Trees ws vs t (k .nodes) → (n m h at : ℕ) → Held bw i h → n + r ≤ k .nodes → m + h ≤ k .commands
+  pub reads : (ws : List ℕ) (vs : List ℤ) → Given ws vs t cw k → (n m h at : ℕ) → Held bw i h → n + r ≤ k .nodes → m + h ≤ k .commands
       → Stands (readBlock (limitsBy k) m n) (blockImageIn (memoryBy ws vs cw bw k) i) (k .nodes) (k .commands) 10 n m at r h
 
 -- the links of block i are there, or none

@@ -1,11 +1,14 @@
 -- A record whose commands all have room, each held by one block at most, is judged fine. Assumes nothing.
 use mathlib.Core.Path.{_≡_, refl, sym, ap, subst}
+use mathlib.Core.Bool.{Bool, true, false}
 use mathlib.Core.List.{List}
 use Prim.Native.Nat.{ℕ, zero, suc, _+_, _-_, _*_, _≤_, _<_}
 use native.Mathlib.Omega.{arith}
 use native.Mathlib.Numerals.{add-one}
+use lib.Dec.{ltb}
 use lib.IntN.{ℤ}
 use lib.ListN.{length, getD}
+use borrow.Author.Tests.{ltb-true, ltb-false}
 use Rattle.memory.specs.declared.Counts.{Counts}
 use Rattle.model.specs.Reading.{word}
 use Rattle.model.specs.Memory.{Memory}
@@ -15,7 +18,7 @@ use Rattle.judge.specs.Whole.{Passing, pass-start, pass-next, pass-done}
 use Rattle.judge.specs.declared.Judged.the-variants.{Fine}
 use Rattle.trees.specs.Trees.{Trees}
 use Rattle.plain.specs.Chain.{Chain}
-use Rattle.plain.specs.Counted.{Adds, AllCount, Linked, Ends, none, some, Follows, placeholder, code, dataBlock, Within, Apart, Held, BlockCount, Plain}
+use Rattle.plain.specs.Counted.{Given, Adds, LowCommands, SumCount, Linked, Ends, none, some, Follows, placeholder, code, dataBlock, Within, Apart, Held, BlockCount, Plain}
 use Rattle.plain.specs.Commands.{WalkCount, count-start, count-next, count-done}
 use Rattle.plain.specs.Blocks.{code-count, count-placeholder, count-data, count-code, held-code, held-none}
 
@@ -26,7 +29,7 @@ record Passage (me : Memory) (i n m : ℕ) : Type 0 where
 
 -- i blocks were counted: n nodes and m commands
 record PassCount (t cw bw : List ℕ) (k : Counts) (i n m : ℕ) : Type 0 where
-  passes : (ws : List ℕ) (vs : List ℤ) → Trees ws vs t (k .nodes) → n ≤ k .nodes → m ≤ k .commands → Passage (memoryBy ws vs cw bw k) i n m
+  passes : (ws : List ℕ) (vs : List ℤ) → Given ws vs t cw k → n ≤ k .nodes → m ≤ k .commands → Passage (memoryBy ws vs cw bw k) i n m
 
 accepted : (me : Memory) {to : ℕ} → JudgedAs me (Fine to) → Accepted me to
 unfolding JudgedAs
@@ -49,7 +52,7 @@ module _ (t cw bw : List ℕ) (k : Counts) (K : KeptBy k) where
         record { to = q .to; passing = pass-next (memoryBy ws vs cw bw k) K (p .passing) lt (q .staged) refl };
   }
 
-  pass-plain : {i n m : ℕ} → PassCount t cw bw k i n m → k .blocks ≤ i → n ≤ k .nodes → m ≤ k .commands → (ws : List ℕ) (vs : List ℤ) → Trees ws vs t (k .nodes) → Plain (memoryBy ws vs cw bw k)
+  pass-plain : {i n m : ℕ} → PassCount t cw bw k i n m → k .blocks ≤ i → n ≤ k .nodes → m ≤ k .commands → (ws : List ℕ) (vs : List ℤ) → Given ws vs t cw k → Plain (memoryBy ws vs cw bw k)
   pass-plain P ge few room ws vs T =
       let p = P .passes ws vs T few room in
       let a = accepted (memoryBy ws vs cw bw k) (pass-done (memoryBy ws vs cw bw k) K (p .passing) ge) in
@@ -143,13 +146,17 @@ module _ (t cw bw : List ℕ) (k : Counts) (K : KeptBy k) {r : ℕ} (C : Chain (
     reached zero le = subst (λ (e : ℕ). Reached t cw bw k (C .mark) 0 e) (sym (A .first)) reached-none
     reached (suc i) le = reached-more i le (reached i (below i (k .blocks) le))
 
--- the nodes of all commands have room, and no command is held twice
-pub plain-apart : (t cw bw : List ℕ) (k : Counts) → KeptBy k → {r : ℕ} → AllCount t cw k (k .commands) r → r ≤ k .nodes → Apart bw k → (ws : List ℕ) (vs : List ℤ) → Trees ws vs t (k .nodes) → Plain (memoryBy ws vs cw bw k)
-plain-apart t cw bw k K S le A ws vs T =
+-- the nodes of all commands have room, none has too many levels, and no command is held twice
+pub plain-apart : (ws t cw bw : List ℕ) (k : Counts) → KeptBy k → {r w : ℕ} → SumCount t cw k (k .commands) r w → r ≤ k .nodes → (64 ≤ w → LowCommands ws t cw k (k .commands)) → Apart bw k → (vs : List ℤ) → Trees ws vs t (k .nodes) → Plain (memoryBy ws vs cw bw k)
+plain-apart ws t cw bw k K {w = w} S le low A vs T =
     let C = S .sums in
     let R = reached t cw bw k K C (A .ends) (k .blocks) (omega arith) in
     let a = R .nodes in
     let b = R .commands in
     let d = R .kept in
     let u = marks-up t cw k C (A .ends .mark (k .blocks)) (k .commands) d (omega arith) in
-    pass-plain t cw bw k K (R .count) (omega arith) (omega (arith, C .last)) (omega arith) ws vs T
+    pass-plain t cw bw k K (R .count) (omega arith) (omega (arith, C .last)) (omega arith) ws vs (record { trees = T; low = λ j h. all (ltb w 64) refl .each j h .levels vs T })
+  where
+    all : (b : Bool) → ltb w 64 ≡ b → LowCommands ws t cw k (k .commands)
+    all true e = S .narrow (ltb-true w 64 e) ws
+    all false e = low (ltb-false w 64 e)

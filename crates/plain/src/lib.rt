@@ -1,20 +1,20 @@
 // Whether a script record is plainly fine: one pass over its commands that sums the nodes of their expressions out of a table, one over its blocks.
-// A command that is not plainly fine counts more nodes than a script may have, so that the sum is too large at the end.
+// A command that is not plainly fine counts more nodes than a script may have. Levels are asked of large commands alone: fewer than 64 nodes have no 65 levels.
 ghost use mathlib.Core.Path.{_≡_};
 ghost use mathlib.Core.Bool.{true};
 ghost use mathlib.Core.List.{List};
-ghost use Prim.Native.Nat.{ℕ, _*_, _≤_, _<_};
+ghost use Prim.Native.Nat.{_*_, _≤_, _<_};
 ghost use lib.IntN.{ℤ};
 ghost use lib.ListN.{length, getD};
 ghost use Rattle.model.specs.Limits.{nodeLimit};
 ghost use Rattle.model.specs.Memory.{memoryIn};
 ghost use Rattle.trees.specs.Trees.{Trees};
 ghost use Rattle.judge.specs.Stages.{memoryBy, KeptBy};
-ghost use Rattle.plain.specs.Counted.{Ready, TermCount, Named, TailCount, CommandCount, AllCount, Follows, Apart, Plain};
+ghost use Rattle.plain.specs.Counted.{Ready, TermCount, Named, TailCount, CommandCount, SumCount, Levels, LowCommand, LowCommands, Follows, Apart, Plain};
 use memory::Counts;
 use memory::index_of;
+use trees::is_shallow;
 use trees::measure_trees;
-use trees::nodes_of;
 
 // More nodes, and more commands, than a script may have: a command that is not plainly fine counts so many, the commands of such a block end there.
 const TOO_MANY: usize = 40000;
@@ -27,12 +27,12 @@ fn element(x: u16) -> usize
 }
 
 // The nodes of the expression i of a command, or too many.
-fn term_nodes(table: &[u32], nodes: u16, i: u16) -> usize
-    requires { ⌜ (nodes ≤ nodeLimit) × (nodes ≤ length (now table)) ⌝ }
-    ensures { λ r. ⌜ TermCount (now (table .entry)) nodes i r ⌝ }
+fn term_nodes(sizes: &[u16], nodes: u16, i: u16) -> usize
+    requires { ⌜ (nodes ≤ nodeLimit) × (nodes ≤ length (now sizes)) ⌝ }
+    ensures { λ r. ⌜ TermCount (now (sizes .entry)) nodes i r ⌝ }
 {
     if i < nodes {
-        return nodes_of(table[index_of(i)]);
+        return element(sizes[index_of(i)]);
     }
     TOO_MANY
 }
@@ -48,62 +48,153 @@ fn named_block(k: u16, blocks: u16) -> usize
 }
 
 // What follows the code of a Set: target and value.
-fn set_nodes(table: &[u32], cw: &[u16; 65536], counts: Counts, i: usize) -> usize
-    requires { ⌜ (i < counts .commands) × Ready counts (now table) ⌝ }
-    ensures { λ r. ⌜ TailCount (now (table .entry)) (now (cw .entry)) counts i 2 r ⌝ }
+fn set_nodes(sizes: &[u16], cw: &[u16; 65536], counts: Counts, i: usize) -> usize
+    requires { ⌜ (i < counts .commands) × Ready counts (now sizes) ⌝ }
+    ensures { λ r. ⌜ TailCount (now (sizes .entry)) (now (cw .entry)) counts i 2 r ⌝ }
 {
     let target = cw[4 * i + 3];
     if target == 0 {
-        let a = term_nodes(table, counts.nodes, cw[4 * i + 1]);
-        let b = term_nodes(table, counts.nodes, cw[4 * i + 2]);
+        let a = term_nodes(sizes, counts.nodes, cw[4 * i + 1]);
+        let b = term_nodes(sizes, counts.nodes, cw[4 * i + 2]);
         return a + b;
     }
     if target == 1 {
-        return term_nodes(table, counts.nodes, cw[4 * i + 2]);
+        return term_nodes(sizes, counts.nodes, cw[4 * i + 2]);
     }
     TOO_MANY
 }
 
 // What follows the code of an If: condition and else block.
-fn if_nodes(table: &[u32], cw: &[u16; 65536], counts: Counts, i: usize) -> usize
-    requires { ⌜ (i < counts .commands) × Ready counts (now table) ⌝ }
-    ensures { λ r. ⌜ TailCount (now (table .entry)) (now (cw .entry)) counts i 3 r ⌝ }
+fn if_nodes(sizes: &[u16], cw: &[u16; 65536], counts: Counts, i: usize) -> usize
+    requires { ⌜ (i < counts .commands) × Ready counts (now sizes) ⌝ }
+    ensures { λ r. ⌜ TailCount (now (sizes .entry)) (now (cw .entry)) counts i 3 r ⌝ }
 {
-    let a = term_nodes(table, counts.nodes, cw[4 * i + 1]);
+    let a = term_nodes(sizes, counts.nodes, cw[4 * i + 1]);
     let b = named_block(cw[4 * i + 3], counts.blocks);
     a + b
 }
 
 // Command i.
-fn command_nodes(table: &[u32], cw: &[u16; 65536], counts: Counts, i: usize) -> usize
-    requires { ⌜ (i < counts .commands) × Ready counts (now table) ⌝ }
-    ensures { λ r. ⌜ CommandCount (now (table .entry)) (now (cw .entry)) counts i r ⌝ }
+fn command_nodes(sizes: &[u16], cw: &[u16; 65536], counts: Counts, i: usize) -> usize
+    requires { ⌜ (i < counts .commands) × Ready counts (now sizes) ⌝ }
+    ensures { λ r. ⌜ CommandCount (now (sizes .entry)) (now (cw .entry)) counts i r ⌝ }
 {
     let k = cw[4 * i];
-    match k {
-        0 => 0,
-        1 => named_block(cw[4 * i + 3], counts.blocks),
-        2 => set_nodes(table, cw, counts, i),
-        3 => if_nodes(table, cw, counts, i),
-        4 => named_block(cw[4 * i + 3], counts.blocks),
-        5 => 0,
-        _ => TOO_MANY,
+    if k < 4 {
+        if k == 2 {
+            return set_nodes(sizes, cw, counts, i);
+        }
+        if k == 3 {
+            return if_nodes(sizes, cw, counts, i);
+        }
+        if k == 0 {
+            return 0;
+        }
+        return named_block(cw[4 * i + 3], counts.blocks);
     }
+    if k == 4 {
+        return named_block(cw[4 * i + 3], counts.blocks);
+    }
+    if k == 5 {
+        return 0;
+    }
+    TOO_MANY
 }
 
-// The nodes of all commands that are kept, whether a block holds them or not.
-fn commands_nodes(table: &[u32], cw: &[u16; 65536], counts: Counts) -> usize
-    requires { ⌜ Ready counts (now table) ⌝ }
-    ensures { λ r. ⌜ AllCount (now (table .entry)) (now (cw .entry)) counts (counts .commands) r ⌝ }
+// The nodes of all commands, and a number that is at least those of each command.
+struct Sum {
+    nodes: usize,
+    most: usize,
+}
+
+// The nodes of all commands that are kept, whether a block holds them or not; too many where one is not plainly fine.
+fn commands_nodes(sizes: &[u16], cw: &[u16; 65536], counts: Counts) -> Sum
+    requires { ⌜ Ready counts (now sizes) ⌝ }
+    ensures { λ r. ⌜ (r .nodes ≤ counts .nodes → SumCount (now (sizes .entry)) (now (cw .entry)) counts (counts .commands) (r .nodes) (r .most)) ⌝ }
 {
     let end = index_of(counts.commands);
     let mut n: usize = 0;
+    let mut most: usize = 0;
     let mut i: usize = 0;
     while i < end {
-        n += command_nodes(table, cw, counts, i);
+        let r = command_nodes(sizes, cw, counts, i);
+        if r >= TOO_MANY {
+            return Sum {
+                nodes: TOO_MANY,
+                most: 0,
+            };
+        }
+        n += r;
+        most = most | r;
         i += 1;
     }
-    n
+    Sum {
+        nodes: n,
+        most: most,
+    }
+}
+
+// Target and value of a Set have at most 64 levels.
+fn set_shallow(ws: &[u16; 98304], cw: &[u16; 65536], i: usize) -> bool
+    requires { ⌜ i < 16384 ⌝ }
+    ensures { λ r. ⌜ (r ≡ true → Levels (now (ws .entry)) (now (cw .entry)) i 2) ⌝ }
+{
+    if !is_shallow(ws, index_of(cw[4 * i + 2]), 64) {
+        return false;
+    }
+    if cw[4 * i + 3] == 0 {
+        return is_shallow(ws, index_of(cw[4 * i + 1]), 64);
+    }
+    true
+}
+
+// Whether the expressions of command i have at most 64 levels each.
+fn command_shallow(
+    ws: &[u16; 98304],
+    sizes: &[u16],
+    cw: &[u16; 65536],
+    counts: Counts,
+    i: usize,
+) -> bool
+    requires { ⌜ (i < counts .commands) × Ready counts (now sizes) ⌝ }
+    ensures { λ r. ⌜ (r ≡ true → LowCommand (now (ws .entry)) (now (sizes .entry)) (now (cw .entry)) counts i) ⌝ }
+{
+    if command_nodes(sizes, cw, counts, i) < 64 {
+        return true;
+    }
+    let k = cw[4 * i];
+    if k == 2 {
+        return set_shallow(ws, cw, i);
+    }
+    if k == 3 {
+        return is_shallow(ws, index_of(cw[4 * i + 1]), 64);
+    }
+    true
+}
+
+// The same of all commands, where one of them may have more levels: at most so many nodes has each.
+fn commands_shallow(
+    ws: &[u16; 98304],
+    sizes: &[u16],
+    cw: &[u16; 65536],
+    counts: Counts,
+    most: usize,
+) -> bool
+    requires { ⌜ Ready counts (now sizes) ⌝ }
+    ensures { λ r. ⌜ (r ≡ true → 64 ≤ most → LowCommands (now (ws .entry)) (now (sizes .entry)) (now (cw .entry)) counts (counts .commands)) ⌝ }
+{
+    if most < 64 {
+        return true;
+    }
+    let end = index_of(counts.commands);
+    let mut i: usize = 0;
+    while i < end {
+        if !command_shallow(ws, sizes, cw, counts, i) {
+            return false;
+        }
+        i += 1;
+    }
+    true
 }
 
 // Where the commands of block i end, which is code: they begin where those of the blocks before it end, or later, and its links are there.
@@ -134,12 +225,16 @@ fn block_end(bw: &[u16; 20480], counts: Counts, i: usize, end: usize) -> usize
     ensures { λ r. ⌜ (r ≤ counts .commands → Follows (now (bw .entry)) counts i end r) ⌝ }
 {
     let kind = bw[5 * i];
-    match kind {
-        0 => end,
-        1 => code_end(bw, counts, i, end),
-        2 => end,
-        _ => TOO_MANY,
+    if kind == 1 {
+        return code_end(bw, counts, i, end);
     }
+    if kind == 0 {
+        return end;
+    }
+    if kind == 2 {
+        return end;
+    }
+    TOO_MANY
 }
 
 // Whether no command is held twice and every block is fine but for its commands.
@@ -162,79 +257,37 @@ fn blocks_apart(bw: &[u16; 20480], counts: Counts) -> bool
 }
 
 // All commands and blocks, by a table of the trees.
-fn plain_by(table: &[u32], cw: &[u16; 65536], bw: &[u16; 20480], counts: Counts) -> bool
-    requires { ⌜ Ready counts (now table) ⌝ }
-    ensures { λ r. ⌜ (r ≡ true → (ws : List ℕ) (vs : List ℤ) → Trees ws vs (now (table .entry)) (counts .nodes) → Plain (memoryBy ws vs (now (cw .entry)) (now (bw .entry)) counts)) ⌝ }
+fn plain_by(
+    ws: &[u16; 98304],
+    sizes: &[u16],
+    cw: &[u16; 65536],
+    bw: &[u16; 20480],
+    counts: Counts,
+) -> bool
+    requires { ⌜ Ready counts (now sizes) ⌝ }
+    ensures { λ r. ⌜ (r ≡ true → (vs : List ℤ) → Trees (now (ws .entry)) vs (now (sizes .entry)) (counts .nodes) → Plain (memoryBy (now (ws .entry)) vs (now (cw .entry)) (now (bw .entry)) counts)) ⌝ }
 {
-    if index_of(counts.nodes) < commands_nodes(table, cw, counts) {
+    let sum = commands_nodes(sizes, cw, counts);
+    if index_of(counts.nodes) < sum.nodes {
+        return false;
+    }
+    if !commands_shallow(ws, sizes, cw, counts, sum.most) {
         return false;
     }
     blocks_apart(bw, counts)
 }
 
-// With a table for 64 nodes: to clear a large one takes longer than to go over a small script.
-fn plain_up_to_64(
+// The same with a table that is still to be filled, with room for every node that a script may keep.
+fn plain_with(
     ws: &[u16; 98304],
     val: &[i32; 32768],
     cw: &[u16; 65536],
     bw: &[u16; 20480],
+    sizes: &mut [u16],
     counts: Counts,
 ) -> bool
-    requires { ⌜ (counts .nodes ≤ 64) × KeptBy counts ⌝ }
+    requires { ⌜ (counts .nodes ≤ 32768 → counts .nodes ≤ length (now sizes)) ⌝ }
     ensures { λ r. ⌜ (r ≡ true → Plain (memoryBy (now (ws .entry)) (now (val .entry)) (now (cw .entry)) (now (bw .entry)) counts)) ⌝ }
-{
-    let mut table = [0u32; 64];
-    if !measure_trees(ws, val, &mut table, index_of(counts.nodes)) {
-        return false;
-    }
-    plain_by(&table, cw, bw, counts)
-}
-
-// With a table for 1,024 nodes.
-fn plain_up_to_1024(
-    ws: &[u16; 98304],
-    val: &[i32; 32768],
-    cw: &[u16; 65536],
-    bw: &[u16; 20480],
-    counts: Counts,
-) -> bool
-    requires { ⌜ (counts .nodes ≤ 1024) × KeptBy counts ⌝ }
-    ensures { λ r. ⌜ (r ≡ true → Plain (memoryBy (now (ws .entry)) (now (val .entry)) (now (cw .entry)) (now (bw .entry)) counts)) ⌝ }
-{
-    let mut table = [0u32; 1024];
-    if !measure_trees(ws, val, &mut table, index_of(counts.nodes)) {
-        return false;
-    }
-    plain_by(&table, cw, bw, counts)
-}
-
-// With a table for any script.
-fn plain_any(
-    ws: &[u16; 98304],
-    val: &[i32; 32768],
-    cw: &[u16; 65536],
-    bw: &[u16; 20480],
-    counts: Counts,
-) -> bool
-    requires { ⌜ KeptBy counts ⌝ }
-    ensures { λ r. ⌜ (r ≡ true → Plain (memoryBy (now (ws .entry)) (now (val .entry)) (now (cw .entry)) (now (bw .entry)) counts)) ⌝ }
-{
-    let mut table = [0u32; 32768];
-    if !measure_trees(ws, val, &mut table, index_of(counts.nodes)) {
-        return false;
-    }
-    plain_by(&table, cw, bw, counts)
-}
-
-// True says that the record is judged fine, false says nothing.
-pub fn is_plain(
-    ws: &[u16; 98304],
-    val: &[i32; 32768],
-    cw: &[u16; 65536],
-    bw: &[u16; 20480],
-    counts: Counts,
-) -> bool
-    ensures { λ r. ⌜ (r ≡ true → Plain (memoryIn (now (ws .entry)) (now (val .entry)) (now (cw .entry)) (now (bw .entry)) (counts .nodes) (counts .commands) (counts .blocks))) ⌝ }
 {
     if counts.blocks > 4096 {
         return false;
@@ -245,6 +298,67 @@ pub fn is_plain(
     if counts.nodes > 32768 {
         return false;
     }
+    if !measure_trees(ws, val, sizes, index_of(counts.nodes)) {
+        return false;
+    }
+    plain_by(ws, sizes, cw, bw, counts)
+}
+
+// With a table for 64 nodes: to clear a large one takes longer than to go over a small script.
+fn plain_up_to_64(
+    ws: &[u16; 98304],
+    val: &[i32; 32768],
+    cw: &[u16; 65536],
+    bw: &[u16; 20480],
+    counts: Counts,
+) -> bool
+    requires { ⌜ counts .nodes ≤ 64 ⌝ }
+    ensures { λ r. ⌜ (r ≡ true → Plain (memoryBy (now (ws .entry)) (now (val .entry)) (now (cw .entry)) (now (bw .entry)) counts)) ⌝ }
+{
+    let mut sizes = [0u16; 64];
+    plain_with(ws, val, cw, bw, &mut sizes, counts)
+}
+
+// With a table for 1,024 nodes.
+fn plain_up_to_1024(
+    ws: &[u16; 98304],
+    val: &[i32; 32768],
+    cw: &[u16; 65536],
+    bw: &[u16; 20480],
+    counts: Counts,
+) -> bool
+    requires { ⌜ counts .nodes ≤ 1024 ⌝ }
+    ensures { λ r. ⌜ (r ≡ true → Plain (memoryBy (now (ws .entry)) (now (val .entry)) (now (cw .entry)) (now (bw .entry)) counts)) ⌝ }
+{
+    let mut sizes = [0u16; 1024];
+    plain_with(ws, val, cw, bw, &mut sizes, counts)
+}
+
+// With a table for any script.
+fn plain_any(
+    ws: &[u16; 98304],
+    val: &[i32; 32768],
+    cw: &[u16; 65536],
+    bw: &[u16; 20480],
+    counts: Counts,
+) -> bool
+    ensures { λ r. ⌜ (r ≡ true → Plain (memoryBy (now (ws .entry)) (now (val .entry)) (now (cw .entry)) (now (bw .entry)) counts)) ⌝ }
+{
+    let mut sizes = [0u16; 32768];
+    plain_with(ws, val, cw, bw, &mut sizes, counts)
+}
+
+// True says that the record is judged fine, false says nothing. There is no way out before a table: the kept counts are held against
+// their limits behind it (docs/DECISIONS.md, "Large arrays").
+pub fn is_plain(
+    ws: &[u16; 98304],
+    val: &[i32; 32768],
+    cw: &[u16; 65536],
+    bw: &[u16; 20480],
+    counts: Counts,
+) -> bool
+    ensures { λ r. ⌜ (r ≡ true → Plain (memoryIn (now (ws .entry)) (now (val .entry)) (now (cw .entry)) (now (bw .entry)) (counts .nodes) (counts .commands) (counts .blocks))) ⌝ }
+{
     if counts.nodes > 1024 {
         return plain_any(ws, val, cw, bw, counts);
     }

@@ -3,4 +3,3 @@ pub mod Told
 pub mod Numbers
 pub mod Pieces
 pub mod Nodes
-pub mod Measures

@@ -1,18 +1,14 @@
-// Expressions judged: numbers, the measures of nodes from the lowest on, and the walk where a measure shows no room.
+// Expressions judged: numbers, and the walk over the nodes of an expression as its image would be read.
 ghost use mathlib.Core.Path.{_≡_};
-ghost use mathlib.Core.List.{List};
-ghost use Prim.Native.Nat.{ℕ, _-_, _*_, _≤_, _<_};
-ghost use lib.IntN.{ℤ};
+ghost use Prim.Native.Nat.{_-_, _≤_, _<_};
 ghost use lib.ListN.{length};
 ghost use Rattle.model.specs.Reading.{word, zig};
 ghost use Rattle.model.specs.Expr.{size};
 ghost use Rattle.model.specs.Image.{readExpr, readTerm};
 ghost use Rattle.model.specs.Memory.{nodesIn};
 ghost use Rattle.model.specs.Record.{nodeImage, rootImage};
-ghost use Rattle.terms.specs.Measures.{unfitMeasure, leafMeasure, aboveMeasure, immMeasure, least, highest, Table, Fits, Stands};
 ghost use Rattle.terms.specs.Told.{Told, ShortWord, limitsBy, nodesBy, ReadyBy, Walking, immJudged};
 use memory::Counts;
-use memory::index_of;
 use memory::kind_of;
 use model::Kind;
 
@@ -73,134 +69,6 @@ fn judge_imm(z: i32, limit: u64, n: u16, at: usize) -> Step
     Step::No(2)
 }
 
-// What is known of a node's tree: its nodes, levels and bytes; more nodes than a script can have where it is not fine by itself.
-struct Measure {
-    nodes: u32,
-    levels: u32,
-    bytes: u32,
-}
-
-fn unfit() -> Measure
-    ensures { λ r. ⌜ r ≡ unfitMeasure ⌝ }
-{
-    Measure {
-        nodes: 40000,
-        levels: 1,
-        bytes: 1,
-    }
-}
-
-fn leaf(bytes: u32) -> Measure
-    ensures { λ r. ⌜ r ≡ leafMeasure bytes ⌝ }
-{
-    Measure {
-        nodes: 1,
-        levels: 1,
-        bytes,
-    }
-}
-
-// The operand i of node b, as it was measured.
-fn measured(table: &[u32], b: usize, i: u16) -> Measure
-    requires { ⌜ 3 * b ≤ length (now table) ⌝ }
-    ensures { λ r. ⌜ ((ws : List ℕ) (vs : List ℤ) → Table ws vs (now (table .entry)) b → Fits ws vs b i r) ⌝ }
-{
-    let j = index_of(i);
-    if j < b {
-        return Measure {
-            nodes: table[3 * j],
-            levels: table[3 * j + 1],
-            bytes: table[3 * j + 2],
-        };
-    }
-    unfit()
-}
-
-fn at_most(x: u32, most: u32) -> u32
-    ensures { λ r. ⌜ r ≡ least x most ⌝ }
-{
-    if x < most {
-        return x;
-    }
-    most
-}
-
-fn higher(x: u32, y: u32) -> u32
-    ensures { λ r. ⌜ r ≡ highest x y ⌝ }
-{
-    if x < y {
-        return y;
-    }
-    x
-}
-
-// One node above so many nodes, levels and bytes. The sums are capped, each above what a script can have, so that none wraps.
-fn above(nodes: u32, levels: u32, bytes: u32) -> Measure
-    requires { ⌜ (nodes ≤ 80000) × ((levels ≤ 65) × (bytes ≤ 480000)) ⌝ }
-    ensures { λ r. ⌜ r ≡ aboveMeasure nodes levels bytes ⌝ }
-{
-    Measure {
-        nodes: at_most(nodes + 1, 40000),
-        levels: at_most(levels + 1, 65),
-        bytes: at_most(bytes + 1, 240000),
-    }
-}
-
-fn measure_imm(z: i32, limit: u64) -> Measure
-    ensures { λ r. ⌜ r ≡ immMeasure (zig z) limit ⌝ }
-{
-    let v = folded(z);
-    if v < limit {
-        return leaf(1 + word_length(v) as u32);
-    }
-    unfit()
-}
-
-// Node i, what lies below it being measured.
-fn measure_node(ws: &[u16; 98304], val: &[i32; 32768], table: &[u32], i: usize) -> Measure
-    requires { ⌜ (i < 32768) × Table (now ws) (now val) (now table) i ⌝ }
-    ensures { λ r. ⌜ Stands (now (ws .entry)) (now (val .entry)) i r ⌝ }
-{
-    let code = ws[3 * i];
-    if code >= 19 {
-        return unfit();
-    }
-    let k = kind_of(code);
-    match k {
-        Kind::Two(_) => {
-            let a = measured(table, i, ws[3 * i + 1]);
-            let b = measured(table, i, ws[3 * i + 2]);
-            above(
-                a.nodes + b.nodes,
-                higher(a.levels, b.levels),
-                a.bytes + b.bytes,
-            )
-        }
-        Kind::One(_) => {
-            let a = measured(table, i, ws[3 * i + 1]);
-            above(a.nodes, a.levels, a.bytes)
-        }
-        Kind::Imm16 => measure_imm(val[i], 65536),
-        Kind::Imm32 => measure_imm(val[i], 4294967296),
-        Kind::Other => leaf(1),
-    }
-}
-
-// The first n nodes, from the lowest on, since operands lie below: three words of the table each.
-pub fn measure_nodes(ws: &[u16; 98304], val: &[i32; 32768], table: &mut [u32], n: usize)
-    requires { ⌜ (n ≤ 32768) × (3 * n ≤ length (now table)) ⌝ }
-    ensures { λ _. ⌜ Table (now (ws .entry)) (now (val .entry)) (now (table .exit)) n ⌝ }
-{
-    let mut i = 0;
-    while i < n {
-        let m = measure_node(ws, val, table, i);
-        table[3 * i] = m.nodes;
-        table[3 * i + 1] = m.levels;
-        table[3 * i + 2] = m.bytes;
-        i += 1;
-    }
-}
-
 // Node i, which has to be below b. Each node visited raises the count, so that the walk ends at the limit however nodes are shared.
 fn judge_expr(
     ws: &[u16; 98304],
@@ -246,28 +114,16 @@ fn judge_expr(
 }
 
 // An expression of a command: its root has to be below the kept count of nodes, which is also their limit.
-// The table answers where there is room for its tree; else the walk says which refusal is met first.
 pub fn judge_term(
     ws: &[u16; 98304],
     val: &[i32; 32768],
-    table: &[u32],
     counts: Counts,
     i: u16,
     n: u16,
     at: usize,
 ) -> Step
-    requires { ⌜ ReadyBy counts n at 200000 × Table (now ws) (now val) (now table) (counts .nodes) ⌝ }
+    requires { ⌜ ReadyBy counts n at 200000 ⌝ }
     ensures { λ r. ⌜ Told (readTerm (limitsBy counts) n) size (rootImage (nodesBy (now (ws .entry)) (now (val .entry)) counts) i) (counts .nodes) 0 n at r ⌝ }
 {
-    if i >= counts.nodes {
-        return Step::No(2);
-    }
-    let j = index_of(i);
-    let m = table[3 * j];
-    if table[3 * j + 1] < 65 {
-        if m <= (counts.nodes - n) as u32 {
-            return Step::Fine(n + (m as u16), at + table[3 * j + 2] as usize);
-        }
-    }
     judge_expr(ws, val, counts.nodes, i, n, at, counts.nodes, 0)
 }

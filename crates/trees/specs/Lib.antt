@@ -1,4 +1,5 @@
--- The specifications of `trees`. Assumes nothing.
+-- The specifications of `trees` and the laws that carry them. Assumes nothing.
 pub mod Trees
-pub mod Words
+pub mod Levels
+pub mod Codes
 pub mod Grown

@@ -1,142 +1,139 @@
-// The trees of nodes: how many nodes and levels each has, told by one pass from the lowest node up.
+// The trees of nodes that lie in one piece: how many nodes each has, told by one pass from the lowest node up.
 ghost use mathlib.Core.Path.{_≡_};
 ghost use mathlib.Core.Bool.{true};
-ghost use mathlib.Core.List.{List};
-ghost use Prim.Native.Nat.{ℕ, _≤_, _<_};
-ghost use lib.ListN.{length};
+ghost use Prim.Native.Nat.{_≤_, _<_};
+ghost use lib.IntN.{pos};
+ghost use lib.ListN.{length, getD};
 ghost use Rattle.model.specs.Limits.{wide};
-ghost use Rattle.trees.specs.Trees.{nodesOf, Trees};
-ghost use Rattle.trees.specs.Words.{Capped, Words, AboveOne, AboveTwo, Number};
-ghost use Rattle.trees.specs.Grown.{Sound, Held, Node};
+ghost use Rattle.trees.specs.Trees.{Number, Tree, Trees, Shallow};
+ghost use Rattle.trees.specs.Codes.{Before, Next, Joined, High};
 use memory::index_of;
+use memory::kind_of;
+use model::Kind;
 
-// A word as high as this tells nothing: 65 levels, one more than an expression may have.
-const LIMIT: u32 = 4259840; // 65 * 65536
-
-// One level, one node.
-const NODE: u32 = 65537;
-
-// The nodes that a word tells.
-pub fn nodes_of(word: u32) -> usize
-    ensures { λ r. ⌜ r ≡ nodesOf word ⌝ }
-{
-    (word % 65536) as usize
-}
-
-// A tree of as many levels and nodes as it may have, or the limit.
-fn capped(x: u32) -> u32
-    ensures { λ r. ⌜ Capped x r ⌝ }
-{
-    if x >= LIMIT {
-        return LIMIT;
-    }
-    if x % 65536 >= 32768 {
-        return LIMIT;
-    }
-    x
-}
-
-// Node i above the tree of node a, which has to lie below it.
-fn above_one(table: &[u32], i: usize, a: u16) -> u32
-    requires { ⌜ Words (now table) i ⌝ }
-    ensures { λ r. ⌜ (r < 4259840 → AboveOne (now (table .entry)) i a r) ⌝ }
-{
-    let j = index_of(a);
-    if j >= i {
-        return LIMIT;
-    }
-    capped(table[j] + NODE)
-}
-
-// Node i above the trees of nodes a and b: the levels of the deeper one, the nodes of both.
-fn above_two(table: &[u32], i: usize, a: u16, b: u16) -> u32
-    requires { ⌜ Words (now table) i ⌝ }
-    ensures { λ r. ⌜ (r < 4259840 → AboveTwo (now (table .entry)) i a b r) ⌝ }
-{
-    let j = index_of(a);
-    if j >= i {
-        return LIMIT;
-    }
-    let k = index_of(b);
-    if k >= i {
-        return LIMIT;
-    }
-    let x = table[j];
-    let y = table[k];
-    if x < y {
-        return capped(y + x % 65536 + NODE);
-    }
-    capped(x + y % 65536 + NODE)
-}
+// More nodes than a tree can have: the node is not fine, or its tree does not lie in one piece.
+const NO: usize = 65535;
 
 // The number of an Imm16, which has to have 16 bits.
-fn imm16_tree(z: i32) -> u32
-    ensures { λ r. ⌜ (r < 4259840 → Number z 65536 r) ⌝ }
+fn imm16_size(z: i32) -> usize
+    ensures { λ r. ⌜ (r < 65535 → Number z 65536 r) ⌝ }
 {
     if z < -32768 {
-        return LIMIT;
+        return NO;
     }
     if 32767 < z {
-        return LIMIT;
+        return NO;
     }
-    NODE
+    1
 }
 
 // The number of an Imm32, of which each is fine.
-fn imm32_tree(z: i32) -> u32
+fn imm32_size(z: i32) -> usize
     ensures { λ r. ⌜ Number z wide r ⌝ }
 {
-    NODE
+    1
+}
+
+// Node i above node a, which has to be the one before it, of s nodes.
+fn above_one(i: usize, s: usize, a: u16) -> usize
+    requires { ⌜ (i < 32768) × (s ≤ i) ⌝ }
+    ensures { λ r. ⌜ (r < 65535 → Next i s a r) ⌝ }
+{
+    if index_of(a) + 1 == i {
+        return s + 1;
+    }
+    NO
+}
+
+// Node i above node b, which has to be the one before it, of s nodes, and node a, which has to be the one before b's tree.
+fn above_two(sizes: &[u16], i: usize, s: usize, a: u16, b: u16) -> usize
+    requires { ⌜ (i < 32768) × Before (now sizes) i s ⌝ }
+    ensures { λ r. ⌜ (r < 65535 → Joined (now (sizes .entry)) i s a b r) ⌝ }
+{
+    if index_of(b) + 1 != i {
+        return NO;
+    }
+    let j = index_of(a);
+    if j + s + 1 != i {
+        return NO;
+    }
+    index_of(sizes[j]) + s + 1
 }
 
 // A node whose code is above 11: Imm32, what has one operand, Other, or no code.
-fn high_tree(val: &[i32; 32768], table: &[u32], i: usize, code: u16, a: u16) -> u32
-    requires { ⌜ (i < 32768) × (11 < code) × Words (now table) i ⌝ }
-    ensures { λ r. ⌜ (r < 4259840 → (ws : List ℕ) → Node ws (now (val .entry)) (now (table .entry)) i code a → Sound ws (now (val .entry)) i r) ⌝ }
+fn high_size(val: &[i32; 32768], i: usize, s: usize, code: u16, a: u16) -> usize
+    requires { ⌜ (i < 32768) × ((11 < code) × (s ≤ i)) ⌝ }
+    ensures { λ r. ⌜ (r < 65535 → High (getD (now (val .entry)) i (pos 0)) i s code a r) ⌝ }
 {
     if code > 17 {
         if code == 18 {
-            return NODE;
+            return 1;
         }
-        return LIMIT;
+        return NO;
     }
     if code == 12 {
-        return imm32_tree(val[i]);
+        return imm32_size(val[i]);
     }
-    above_one(table, i, a)
+    above_one(i, s, a)
 }
 
-// Node i, the table telling what lies below it. The code 11, which most nodes have, is asked first.
-fn tree_of(ws: &[u16; 98304], val: &[i32; 32768], table: &[u32], i: usize) -> u32
-    requires { ⌜ (i < 32768) × Held (now ws) (now val) (now table) i ⌝ }
-    ensures { λ r. ⌜ (r < 4259840 → Sound (now (ws .entry)) (now (val .entry)) i r) ⌝ }
+// How many nodes the tree of node i has, s being the size of the node before it. The code 11, which most nodes have, is asked first.
+fn size_of(ws: &[u16; 98304], val: &[i32; 32768], sizes: &[u16], i: usize, s: usize) -> usize
+    requires { ⌜ (i < 32768) × Before (now sizes) i s ⌝ }
+    ensures { λ r. ⌜ (r < 65535 → Tree (now (ws .entry)) (now (val .entry)) (now (sizes .entry)) i r) ⌝ }
 {
     let code = ws[3 * i];
     if code == 11 {
-        return imm16_tree(val[i]);
+        return imm16_size(val[i]);
     }
     if code > 11 {
-        return high_tree(val, table, i, code, ws[3 * i + 1]);
+        return high_size(val, i, s, code, ws[3 * i + 1]);
     }
     if code == 6 {
-        return above_one(table, i, ws[3 * i + 1]);
+        return above_one(i, s, ws[3 * i + 1]);
     }
-    above_two(table, i, ws[3 * i + 1], ws[3 * i + 2])
+    above_two(sizes, i, s, ws[3 * i + 1], ws[3 * i + 2])
 }
 
-// The trees of the first n nodes, from the lowest on, since operands lie below; false where one is not fine by itself.
-pub fn measure_trees(ws: &[u16; 98304], val: &[i32; 32768], table: &mut [u32], n: usize) -> bool
-    requires { ⌜ (n ≤ 32768) × (n ≤ length (now table)) ⌝ }
-    ensures { λ r. ⌜ (r ≡ true → Trees (now (ws .entry)) (now (val .entry)) (now (table .exit)) n) ⌝ }
+// The trees of the first n nodes, from the lowest on, since operands lie below; false where one is not fine by itself or not in one piece.
+pub fn measure_trees(ws: &[u16; 98304], val: &[i32; 32768], sizes: &mut [u16], n: usize) -> bool
+    requires { ⌜ (n ≤ 32768) × (n ≤ length (now sizes)) ⌝ }
+    ensures { λ r. ⌜ (r ≡ true → Trees (now (ws .entry)) (now (val .entry)) (now (sizes .exit)) n) ⌝ }
 {
+    let mut s: usize = 0;
     let mut i = 0;
     while i < n {
-        let w = tree_of(ws, val, table, i);
-        if w >= LIMIT {
+        s = size_of(ws, val, sizes, i, s);
+        if s >= NO {
             return false;
         }
-        table[i] = w;
+        sizes[i] = s as u16;
         i += 1;
     }
     true
+}
+
+// Whether the tree of node i has at most so many levels. It goes over the whole tree: only for those that may be too deep.
+pub fn is_shallow(ws: &[u16; 98304], i: usize, levels: usize) -> bool
+    ensures { λ r. ⌜ (r ≡ true → Shallow (now (ws .entry)) levels i) ⌝ }
+{
+    if levels == 0 {
+        return false;
+    }
+    if i >= 32768 {
+        return false;
+    }
+    let kind = kind_of(ws[3 * i]);
+    match kind {
+        Kind::Two(_) => {
+            if !is_shallow(ws, index_of(ws[3 * i + 1]), levels - 1) {
+                return false;
+            }
+            is_shallow(ws, index_of(ws[3 * i + 2]), levels - 1)
+        }
+        Kind::One(_) => is_shallow(ws, index_of(ws[3 * i + 1]), levels - 1),
+        Kind::Imm16 => true,
+        Kind::Imm32 => true,
+        Kind::Other => true,
+    }
 }

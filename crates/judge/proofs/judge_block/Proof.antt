@@ -16,29 +16,29 @@ mul-kind-2 c = search needs
 element-copy-out-kind : tie.Need-element-copy-out-kind
 element-copy-out-kind c = search needs
 
-add-t18 : tie.Need-add-t18
-add-t18 c = search needs
+add-t17 : tie.Need-add-t17
+add-t17 c = search needs
 
 add-judge-code : tie.Need-add-judge-code
 add-judge-code c = search needs
 
 judge-code-requires : tie.Need-judge-code-requires
-judge-code-requires c κs = (search needs, search needs)
+judge-code-requires c κs = search needs
 
-add-t20 : tie.Need-add-t20
-add-t20 c = search needs
+add-t19 : tie.Need-add-t19
+add-t19 c = search needs
 
 returns : tie.Need-returns
-returns c = block-placeholder (limits (c .before .before .before .args .counts .blocks) (c .before .before .before .args .counts .commands) (c .before .before .before .args .counts .nodes)) (memoryIn (c .before .before .before .args .ws .now) (c .before .before .before .args .val .now) (c .before .before .before .args .cw .now) (c .before .before .before .args .bw .now) (c .before .before .before .args .counts .nodes) (c .before .before .before .args .counts .commands) (c .before .before .before .args .counts .blocks)) (c .before .before .before .args .i) (c .before .before .before .args .n) (c .before .before .before .args .m) (c .before .before .before .args .at) (c .match .keys1) (c .before .before .before .pre .0 .few) (c .before .before .before .pre .0 .room)
+returns c = block-placeholder (limits (c .before .before .args .counts .blocks) (c .before .before .args .counts .commands) (c .before .before .args .counts .nodes)) (memoryIn (c .before .before .args .ws .now) (c .before .before .args .val .now) (c .before .before .args .cw .now) (c .before .before .args .bw .now) (c .before .before .args .counts .nodes) (c .before .before .args .counts .commands) (c .before .before .args .counts .blocks)) (c .before .before .args .i) (c .before .before .args .n) (c .before .before .args .m) (c .before .before .args .at) (c .match .keys1) (c .before .before .pre .few) (c .before .before .pre .room)
 
 returns-2 : tie.Need-returns-2
-returns-2 c = block-code (limits (c .before .before .before .before .args .counts .blocks) (c .before .before .before .before .args .counts .commands) (c .before .before .before .before .args .counts .nodes)) (memoryIn (c .before .before .before .before .args .ws .now) (c .before .before .before .before .args .val .now) (c .before .before .before .before .args .cw .now) (c .before .before .before .before .args .bw .now) (c .before .before .before .before .args .counts .nodes) (c .before .before .before .before .args .counts .commands) (c .before .before .before .before .args .counts .blocks)) (c .before .before .before .before .args .i) (c .before .before .before .before .args .n) (c .before .before .before .before .args .m) (c .before .before .before .before .args .at) (c .before .match .keys2) (c .judge-code .ensures)
+returns-2 c = block-code (limits (c .before .before .before .args .counts .blocks) (c .before .before .before .args .counts .commands) (c .before .before .before .args .counts .nodes)) (memoryIn (c .before .before .before .args .ws .now) (c .before .before .before .args .val .now) (c .before .before .before .args .cw .now) (c .before .before .before .args .bw .now) (c .before .before .before .args .counts .nodes) (c .before .before .before .args .counts .commands) (c .before .before .before .args .counts .blocks)) (c .before .before .before .args .i) (c .before .before .before .args .n) (c .before .before .before .args .m) (c .before .before .before .args .at) (c .before .match .keys2) (c .judge-code .ensures)
 
 returns-3 : tie.Need-returns-3
-returns-3 c = block-data (limits (c .before .before .before .args .counts .blocks) (c .before .before .before .args .counts .commands) (c .before .before .before .args .counts .nodes)) (memoryIn (c .before .before .before .args .ws .now) (c .before .before .before .args .val .now) (c .before .before .before .args .cw .now) (c .before .before .before .args .bw .now) (c .before .before .before .args .counts .nodes) (c .before .before .before .args .counts .commands) (c .before .before .before .args .counts .blocks)) (c .before .before .before .args .i) (c .before .before .before .args .n) (c .before .before .before .args .m) (c .before .before .before .args .at) (c .match .keys3) (c .before .before .before .pre .0 .few) (c .before .before .before .pre .0 .room)
+returns-3 c = block-data (limits (c .before .before .args .counts .blocks) (c .before .before .args .counts .commands) (c .before .before .args .counts .nodes)) (memoryIn (c .before .before .args .ws .now) (c .before .before .args .val .now) (c .before .before .args .cw .now) (c .before .before .args .bw .now) (c .before .before .args .counts .nodes) (c .before .before .args .counts .commands) (c .before .before .args .counts .blocks)) (c .before .before .args .i) (c .before .before .args .n) (c .before .before .args .m) (c .before .before .args .at) (c .match .keys3) (c .before .before .pre .few) (c .before .before .pre .room)
 
 returns-4 : tie.Need-returns-4
-returns-4 c = block-unknown (limits (c .before .before .before .args .counts .blocks) (c .before .before .before .args .counts .commands) (c .before .before .before .args .counts .nodes)) (memoryIn (c .before .before .before .args .ws .now) (c .before .before .before .args .val .now) (c .before .before .before .args .cw .now) (c .before .before .before .args .bw .now) (c .before .before .before .args .counts .nodes) (c .before .before .before .args .counts .commands) (c .before .before .before .args .counts .blocks)) (c .before .before .before .args .i) (c .before .before .before .args .n) (c .before .before .before .args .m) (c .before .before .before .args .at) (omega arith)
+returns-4 c = block-unknown (limits (c .before .before .args .counts .blocks) (c .before .before .args .counts .commands) (c .before .before .args .counts .nodes)) (memoryIn (c .before .before .args .ws .now) (c .before .before .args .val .now) (c .before .before .args .cw .now) (c .before .before .args .bw .now) (c .before .before .args .counts .nodes) (c .before .before .args .counts .commands) (c .before .before .args .counts .blocks)) (c .before .before .args .i) (c .before .before .args .n) (c .before .before .args .m) (c .before .before .args .at) (omega arith)
 
 pub judge-block-spec : {M : Type 1} → statement M
 judge-block-spec =
@@ -47,10 +47,10 @@ judge-block-spec =
     mul-kind
     mul-kind-2
     element-copy-out-kind
-    add-t18
+    add-t17
     add-judge-code
     judge-code-requires
-    add-t20
+    add-t19
     returns
     returns-2
     returns-3

@@ -8,10 +8,10 @@ use Rattle.judge.proofs.judge_blocks.Statement.{statement}
 use Rattle.judge.proofs.judge_blocks.Tie as tie
 
 abbrev Inv-loop : tie.InvT-loop
-Inv-loop ws val table cw bw counts end n₀ m₀ p₀ i₀ n m p i = (i ≤ counts .blocks) × Passing (memoryIn ws val cw bw (counts .nodes) (counts .commands) (counts .blocks)) i m n p
+Inv-loop ws val cw bw counts end n₀ m₀ p₀ i₀ n m p i = (i ≤ counts .blocks) × Passing (memoryIn ws val cw bw (counts .nodes) (counts .commands) (counts .blocks)) i m n p
 
 abbrev μ-loop : tie.MeasureT-loop
-μ-loop ws val table cw bw counts end n₀ m₀ p₀ i₀ n m p i = counts .blocks - i
+μ-loop ws val cw bw counts end n₀ m₀ p₀ i₀ n m p i = counts .blocks - i
 
 index-of-requires : tie.Need-index-of-requires Inv-loop μ-loop
 index-of-requires c κs = search needs
@@ -20,10 +20,10 @@ short-length-requires : tie.Need-short-length-requires Inv-loop μ-loop
 short-length-requires c κs = search needs
 
 loop-holds : tie.Need-loop-holds Inv-loop μ-loop
-loop-holds c = (omega arith, pass-start (memoryIn (c .before .before .before .args .ws .now) (c .before .before .before .args .val .now) (c .before .before .before .args .cw .now) (c .before .before .before .args .bw .now) (c .before .before .before .args .counts .nodes) (c .before .before .before .args .counts .commands) (c .before .before .before .args .counts .blocks)) (c .before .before .before .pre .0) _ (c .short-length .ensures))
+loop-holds c = (omega arith, pass-start (memoryIn (c .before .before .args .ws .now) (c .before .before .args .val .now) (c .before .before .args .cw .now) (c .before .before .args .bw .now) (c .before .before .args .counts .nodes) (c .before .before .args .counts .commands) (c .before .before .args .counts .blocks)) (c .before .before .pre) _ (c .short-length .ensures))
 
 judge-block-requires : tie.Need-judge-block-requires Inv-loop μ-loop
-judge-block-requires c κs = (record { kept = c .before .before .before .before .before .pre .0; there = (omega (arith, c .loop-test .taken, c .before .before .before .index-of .ensures)); few = c .before .loop .inv .1 .low; room = c .before .loop .inv .1 .room; soon = omega (arith, c .before .loop .inv .1 .short, c .before .loop .inv .1 .room, c .before .before .before .before .before .pre .0 .commands, c .before .before .before .before .before .pre .0 .blocks, c .before .loop .inv .0) }, c .before .before .before .before .before .pre .1)
+judge-block-requires c κs = record { kept = c .before .before .before .before .pre; there = (omega (arith, c .loop-test .taken, c .before .before .before .index-of .ensures)); few = c .before .loop .inv .1 .low; room = c .before .loop .inv .1 .room; soon = omega (arith, c .before .loop .inv .1 .short, c .before .loop .inv .1 .room, c .before .before .before .before .pre .commands, c .before .before .before .before .pre .blocks, c .before .loop .inv .0) }
 
 enum-known-r : tie.Need-enum-known-r Inv-loop μ-loop
 enum-known-r c = search needs
@@ -32,7 +32,7 @@ enum-known-r-2 : tie.Need-enum-known-r-2 Inv-loop μ-loop
 enum-known-r-2 c = search needs
 
 returns : tie.Need-returns Inv-loop μ-loop
-returns c = pass-no (memoryIn (c .before .before .before .before .before .before .before .before .before .args .ws .now) (c .before .before .before .before .before .before .before .before .before .args .val .now) (c .before .before .before .before .before .before .before .before .before .args .cw .now) (c .before .before .before .before .before .before .before .before .before .args .bw .now) (c .before .before .before .before .before .before .before .before .before .args .counts .nodes) (c .before .before .before .before .before .before .before .before .before .args .counts .commands) (c .before .before .before .before .before .before .before .before .before .args .counts .blocks)) (c .before .before .before .before .before .before .before .before .before .pre .0) (c .before .before .before .before .before .loop .inv .1) (omega (arith, c .before .before .before .before .loop-test .taken, c .before .before .before .before .before .before .before .index-of .ensures)) (c .before .before .before .judge-block .ensures) (c .before .r2 .given .1)
+returns c = pass-no (memoryIn (c .before .before .before .before .before .before .before .before .args .ws .now) (c .before .before .before .before .before .before .before .before .args .val .now) (c .before .before .before .before .before .before .before .before .args .cw .now) (c .before .before .before .before .before .before .before .before .args .bw .now) (c .before .before .before .before .before .before .before .before .args .counts .nodes) (c .before .before .before .before .before .before .before .before .args .counts .commands) (c .before .before .before .before .before .before .before .before .args .counts .blocks)) (c .before .before .before .before .before .before .before .before .pre) (c .before .before .before .before .before .loop .inv .1) (omega (arith, c .before .before .before .before .loop-test .taken, c .before .before .before .before .before .before .before .index-of .ensures)) (c .before .before .before .judge-block .ensures) (c .before .r2 .given .1)
 
 add-i : tie.Need-add-i Inv-loop μ-loop
 add-i c = search needs
@@ -41,10 +41,10 @@ loop-less : tie.Need-loop-less Inv-loop μ-loop
 loop-less c = omega (arith, c .before .before .before .before .loop-test .taken, c .before .before .before .before .before .before .before .index-of .ensures)
 
 loop-again : tie.Need-loop-again Inv-loop μ-loop
-loop-again c = ((omega (arith, c .before .before .before .before .loop-test .taken, c .before .before .before .before .before .before .before .index-of .ensures)), pass-next (memoryIn (c .before .before .before .before .before .before .before .before .before .args .ws .now) (c .before .before .before .before .before .before .before .before .before .args .val .now) (c .before .before .before .before .before .before .before .before .before .args .cw .now) (c .before .before .before .before .before .before .before .before .before .args .bw .now) (c .before .before .before .before .before .before .before .before .before .args .counts .nodes) (c .before .before .before .before .before .before .before .before .before .args .counts .commands) (c .before .before .before .before .before .before .before .before .before .args .counts .blocks)) (c .before .before .before .before .before .before .before .before .before .pre .0) (c .before .before .before .before .before .loop .inv .1) (omega (arith, c .before .before .before .before .loop-test .taken, c .before .before .before .before .before .before .before .index-of .ensures)) (c .before .before .before .judge-block .ensures) (c .before .r .given .1))
+loop-again c = ((omega (arith, c .before .before .before .before .loop-test .taken, c .before .before .before .before .before .before .before .index-of .ensures)), pass-next (memoryIn (c .before .before .before .before .before .before .before .before .args .ws .now) (c .before .before .before .before .before .before .before .before .args .val .now) (c .before .before .before .before .before .before .before .before .args .cw .now) (c .before .before .before .before .before .before .before .before .args .bw .now) (c .before .before .before .before .before .before .before .before .args .counts .nodes) (c .before .before .before .before .before .before .before .before .args .counts .commands) (c .before .before .before .before .before .before .before .before .args .counts .blocks)) (c .before .before .before .before .before .before .before .before .pre) (c .before .before .before .before .before .loop .inv .1) (omega (arith, c .before .before .before .before .loop-test .taken, c .before .before .before .before .before .before .before .index-of .ensures)) (c .before .before .before .judge-block .ensures) (c .before .r .given .1))
 
 returns-2 : tie.Need-returns-2 Inv-loop μ-loop
-returns-2 c = walked-done _ _ (pass-done (memoryIn (c .before .before .before .before .before .args .ws .now) (c .before .before .before .before .before .args .val .now) (c .before .before .before .before .before .args .cw .now) (c .before .before .before .before .before .args .bw .now) (c .before .before .before .before .before .args .counts .nodes) (c .before .before .before .before .before .args .counts .commands) (c .before .before .before .before .before .args .counts .blocks)) (c .before .before .before .before .before .pre .0) (c .before .loop .inv .1) (omega (arith, c .loop-test .left, c .before .before .before .index-of .ensures)))
+returns-2 c = walked-done _ _ (pass-done (memoryIn (c .before .before .before .before .args .ws .now) (c .before .before .before .before .args .val .now) (c .before .before .before .before .args .cw .now) (c .before .before .before .before .args .bw .now) (c .before .before .before .before .args .counts .nodes) (c .before .before .before .before .args .counts .commands) (c .before .before .before .before .args .counts .blocks)) (c .before .before .before .before .pre) (c .before .loop .inv .1) (omega (arith, c .loop-test .left, c .before .before .before .index-of .ensures)))
 
 pub judge-blocks-spec : {M : Type 1} → statement M
 judge-blocks-spec =

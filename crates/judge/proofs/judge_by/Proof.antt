@@ -11,24 +11,10 @@ within-limits-requires : tie.Need-within-limits-requires
 within-limits-requires c κs = search needs
 
 returns : tie.Need-returns
-returns c =
-    let s = c .before .before .before .before in
-    let me = memoryIn (s .args .ws .now) (s .args .val .now) (s .args .cw .now) (s .args .bw .now) (s .args .counts .nodes) (s .args .counts .commands) (s .args .counts .blocks) in
-    limits-over me (c .before .within-limits .ensures .over (not-true _ (c .if1 .taken)) (s .args .ws .now) (s .args .val .now) (s .args .cw .now) (s .args .bw .now))
-
-index-of-requires : tie.Need-index-of-requires
-index-of-requires c κs = search needs
-
-measure-nodes-requires : tie.Need-measure-nodes-requires
-measure-nodes-requires c κs =
-    let s = c .before .before .before .before .before .before in
-    let K = c .before .before .before .within-limits .ensures .kept (not-false _ (c .before .before .if1 .left)) in
-    (omega (arith, c .index-of .ensures, K .nodes), omega (arith, c .index-of .ensures, s .pre .nodes (K .nodes)))
+returns c = let s = (c .before .before .before) in let me = memoryIn (s .args .ws .now) (s .args .val .now) (s .args .cw .now) (s .args .bw .now) (s .args .counts .nodes) (s .args .counts .commands) (s .args .counts .blocks) in limits-over me (c .before .within-limits .ensures .over (not-true _ (c .if1 .taken)) (s .args .ws .now) (s .args .val .now) (s .args .cw .now) (s .args .bw .now))
 
 judge-blocks-requires : tie.Need-judge-blocks-requires
-judge-blocks-requires c κs =
-    let K = c .before .before .before .before .before .before .before .within-limits .ensures .kept (not-false _ (c .before .before .before .before .before .before .if1 .left)) in
-    (K, rw (c .before .before .before .before .index-of .ensures) at (c .before .before .before .measure-nodes .ensures))
+judge-blocks-requires c κs = c .before .within-limits .ensures .kept (not-false _ (c .if1 .left))
 
 enum-known-walked : tie.Need-enum-known-walked
 enum-known-walked c = search needs
@@ -37,43 +23,22 @@ enum-known-walked-2 : tie.Need-enum-known-walked-2
 enum-known-walked-2 c = search needs
 
 held-kept-requires : tie.Need-held-kept-requires
-held-kept-requires c κs =
-    let s = c .before .before .before .before .before .before .before .before .before .before .before .before .before .before .before in
-    let K = c .before .before .before .before .before .before .before .before .before .before .before .before .within-limits .ensures .kept (not-false _ (c .before .before .before .before .before .before .before .before .before .before .before .if1 .left)) in
-    (K .blocks, K .commands, s .pre .commands (K .commands))
+held-kept-requires c κs = let K = c .before .before .before .before .before .before .within-limits .ensures .kept (not-false _ (c .before .before .before .before .before .if1 .left)) in (K .blocks, K .commands, omega (arith, K .commands, c .before .before .before .before .before .before .before .before .pre))
 
 same-length : tie.Need-same-length
 same-length c = search needs
 
+returns-2 : tie.Need-returns-2
+returns-2 c = let s = (c .before .before .before .before .before .before .before .before .before .before .before .before) in let me = memoryIn (s .args .ws .now) (s .args .val .now) (s .args .cw .now) (s .args .bw .now) (s .args .counts .nodes) (s .args .counts .commands) (s .args .counts .blocks) in walked-no me (c .before .before .before .before .before .before .before .before .judge-blocks .ensures) (c .before .before .before .before .before .before .walked2 .given .1) (c .before .before .before .held-kept .ensures (s .args .ws .now) (s .args .val .now)) (c .if2 .taken)
+
+returns-3 : tie.Need-returns-3
+returns-3 c = let s = (c .before .before .before .before .before .before .before) in let me = memoryIn (s .args .ws .now) (s .args .val .now) (s .args .cw .now) (s .args .bw .now) (s .args .counts .nodes) (s .args .counts .commands) (s .args .counts .blocks) in walked-fine me (c .before .before .before .judge-blocks .ensures) (c .before .walked .given .1)
+
 same-length-2 : tie.Need-same-length-2
 same-length-2 c = search needs
 
-returns-2 : tie.Need-returns-2
-returns-2 c =
-    let s = c .before .before .before .before .before .before .before .before .before .before .before .before .before .before .before .before .before .before .before in
-    let me = memoryIn (s .args .ws .now) (s .args .val .now) (s .args .cw .now) (s .args .bw .now) (s .args .counts .nodes) (s .args .counts .commands) (s .args .counts .blocks) in
-    walked-no me (c .before .before .before .before .before .before .before .before .judge-blocks .ensures) (c .before .before .before .before .before .before .walked2 .given .1) (c .before .before .before .held-kept .ensures (s .args .ws .now) (s .args .val .now)) (c .if2 .taken)
-
-same-length-3 : tie.Need-same-length-3
-same-length-3 c = search needs
-
-returns-3 : tie.Need-returns-3
-returns-3 c =
-    let s = c .before .before .before .before .before .before .before .before .before .before .before .before .before .before in
-    let me = memoryIn (s .args .ws .now) (s .args .val .now) (s .args .cw .now) (s .args .bw .now) (s .args .counts .nodes) (s .args .counts .commands) (s .args .counts .blocks) in
-    walked-fine me (c .before .before .before .judge-blocks .ensures) (c .before .walked .given .1)
-
-same-length-4 : tie.Need-same-length-4
-same-length-4 c = search needs
-
-same-length-5 : tie.Need-same-length-5
-same-length-5 c = search needs
-
 returns-4 : tie.Need-returns-4
-returns-4 c =
-    let s = c .before .before .before .before .before .before .before .before .before .before .before .before .before .before .before .before .before .before .before in
-    let me = memoryIn (s .args .ws .now) (s .args .val .now) (s .args .cw .now) (s .args .bw .now) (s .args .counts .nodes) (s .args .counts .commands) (s .args .counts .blocks) in
-    held-past me (c .before .before .before .held-kept .ensures (s .args .ws .now) (s .args .val .now)) (c .if2 .left)
+returns-4 c = let s = (c .before .before .before .before .before .before .before .before .before .before .before .before) in let me = memoryIn (s .args .ws .now) (s .args .val .now) (s .args .cw .now) (s .args .bw .now) (s .args .counts .nodes) (s .args .counts .commands) (s .args .counts .blocks) in held-past me (c .before .before .before .held-kept .ensures (s .args .ws .now) (s .args .val .now)) (c .if2 .left)
 
 pub judge-by-spec : {M : Type 1} → statement M
 judge-by-spec =
@@ -81,17 +46,12 @@ judge-by-spec =
     (tie.spec
     within-limits-requires
     returns
-    index-of-requires
-    measure-nodes-requires
     judge-blocks-requires
     enum-known-walked
     enum-known-walked-2
     held-kept-requires
     same-length
-    same-length-2
     returns-2
-    same-length-3
     returns-3
-    same-length-4
-    same-length-5
+    same-length-2
     returns-4)

@@ -27,7 +27,7 @@ short-length-requires : tie.Need-short-length-requires
 short-length-requires c κs = search needs
 
 returns : tie.Need-returns
-returns c = code-over (limits (c .before .before .before .before .before .args .counts .blocks) (c .before .before .before .before .before .args .counts .commands) (c .before .before .before .before .before .args .counts .nodes)) (memoryIn (c .before .before .before .before .before .args .ws .now) (c .before .before .before .before .before .args .val .now) (c .before .before .before .before .before .args .cw .now) (c .before .before .before .before .before .args .bw .now) (c .before .before .before .before .before .args .counts .nodes) (c .before .before .before .before .before .args .counts .commands) (c .before .before .before .before .before .args .counts .blocks)) (c .before .before .before .before .before .args .i) (c .before .before .before .before .before .args .n) (c .before .before .before .before .before .args .m) (c .before .before .before .before .before .args .at) _ (c .before .short-length .ensures) (omega (arith, c .if1 .taken, c .before .before .before .before .before .pre .0 .room))
+returns c = code-over (limits (c .before .before .before .before .args .counts .blocks) (c .before .before .before .before .args .counts .commands) (c .before .before .before .before .args .counts .nodes)) (memoryIn (c .before .before .before .before .args .ws .now) (c .before .before .before .before .args .val .now) (c .before .before .before .before .args .cw .now) (c .before .before .before .before .args .bw .now) (c .before .before .before .before .args .counts .nodes) (c .before .before .before .before .args .counts .commands) (c .before .before .before .before .args .counts .blocks)) (c .before .before .before .before .args .i) (c .before .before .before .before .args .n) (c .before .before .before .before .args .m) (c .before .before .before .before .args .at) _ (c .before .short-length .ensures) (omega (arith, c .if1 .taken, c .before .before .before .before .pre .room))
 
 mul-judge-commands : tie.Need-mul-judge-commands
 mul-judge-commands c = search needs
@@ -45,7 +45,7 @@ add-judge-commands-2 : tie.Need-add-judge-commands-2
 add-judge-commands-2 c = search needs
 
 judge-commands-requires : tie.Need-judge-commands-requires
-judge-commands-requires c κs = (search needs, (search needs, search needs))
+judge-commands-requires c κs = (search needs, search needs)
 
 enum-known-a : tie.Need-enum-known-a
 enum-known-a c = search needs
@@ -75,13 +75,13 @@ element-copy-out-judge-links-2 : tie.Need-element-copy-out-judge-links-2
 element-copy-out-judge-links-2 c = search needs
 
 judge-links-requires : tie.Need-judge-links-requires
-judge-links-requires c κs = omega (arith, good-of (c .before .before .before .before .before .judge-commands .ensures) (c .before .before .before .a .given .1) .short, good-of (c .before .before .before .before .before .judge-commands .ensures) (c .before .before .before .a .given .1) .low, c .before .before .before .before .before .before .before .before .short-length .ensures .short, c .before .before .before .before .before .before .before .before .short-length .ensures .low, c .before .before .before .before .before .before .before .before .before .before .before .before .pre .0 .soon, c .before .before .before .before .before .before .before .before .before .before .before .before .pre .0 .few, c .before .before .before .before .before .before .before .before .before .before .before .before .pre .0 .kept .nodes)
+judge-links-requires c κs = omega (arith, good-of (c .before .before .before .before .before .judge-commands .ensures) (c .before .before .before .a .given .1) .short, good-of (c .before .before .before .before .before .judge-commands .ensures) (c .before .before .before .a .given .1) .low, c .before .before .before .before .before .before .before .before .short-length .ensures .short, c .before .before .before .before .before .before .before .before .short-length .ensures .low, c .before .before .before .before .before .before .before .before .before .before .before .pre .soon, c .before .before .before .before .before .before .before .before .before .before .before .pre .few, c .before .before .before .before .before .before .before .before .before .before .before .pre .kept .nodes)
 
 enum-known-b : tie.Need-enum-known-b
 enum-known-b c = search needs
 
-add-t46 : tie.Need-add-t46
-add-t46 c = search needs
+add-t45 : tie.Need-add-t45
+add-t45 c = search needs
 
 enum-known-b-2 : tie.Need-enum-known-b-2
 enum-known-b-2 c = search needs
@@ -90,13 +90,13 @@ enum-known-a-2 : tie.Need-enum-known-a-2
 enum-known-a-2 c = search needs
 
 returns-2 : tie.Need-returns-2
-returns-2 c = code-told (limits (c .before .before .before .before .before .before .before .before .before .before .before .before .before .before .before .before .args .counts .blocks) (c .before .before .before .before .before .before .before .before .before .before .before .before .before .before .before .before .args .counts .commands) (c .before .before .before .before .before .before .before .before .before .before .before .before .before .before .before .before .args .counts .nodes)) (memoryIn (c .before .before .before .before .before .before .before .before .before .before .before .before .before .before .before .before .args .ws .now) (c .before .before .before .before .before .before .before .before .before .before .before .before .before .before .before .before .args .val .now) (c .before .before .before .before .before .before .before .before .before .before .before .before .before .before .before .before .args .cw .now) (c .before .before .before .before .before .before .before .before .before .before .before .before .before .before .before .before .args .bw .now) (c .before .before .before .before .before .before .before .before .before .before .before .before .before .before .before .before .args .counts .nodes) (c .before .before .before .before .before .before .before .before .before .before .before .before .before .before .before .before .args .counts .commands) (c .before .before .before .before .before .before .before .before .before .before .before .before .before .before .before .before .args .counts .blocks)) (c .before .before .before .before .before .before .before .before .before .before .before .before .before .before .before .before .args .i) (c .before .before .before .before .before .before .before .before .before .before .before .before .before .before .before .before .args .n) (c .before .before .before .before .before .before .before .before .before .before .before .before .before .before .before .before .args .m) (c .before .before .before .before .before .before .before .before .before .before .before .before .before .before .before .before .args .at) _ (c .before .before .before .before .before .before .before .before .before .before .before .before .short-length .ensures) (omega (arith, c .before .before .before .before .before .before .before .before .before .before .before .if1 .left, c .before .before .before .before .before .before .before .before .before .before .before .before .before .before .before .before .pre .0 .room)) (c .before .before .before .before .before .before .before .before .before .judge-commands .ensures) (c .before .before .before .before .before .before .before .a .given .1) (c .before .before .before .judge-links .ensures) (c .before .b .given .1)
+returns-2 c = code-told (limits (c .before .before .before .before .before .before .before .before .before .before .before .before .before .before .before .args .counts .blocks) (c .before .before .before .before .before .before .before .before .before .before .before .before .before .before .before .args .counts .commands) (c .before .before .before .before .before .before .before .before .before .before .before .before .before .before .before .args .counts .nodes)) (memoryIn (c .before .before .before .before .before .before .before .before .before .before .before .before .before .before .before .args .ws .now) (c .before .before .before .before .before .before .before .before .before .before .before .before .before .before .before .args .val .now) (c .before .before .before .before .before .before .before .before .before .before .before .before .before .before .before .args .cw .now) (c .before .before .before .before .before .before .before .before .before .before .before .before .before .before .before .args .bw .now) (c .before .before .before .before .before .before .before .before .before .before .before .before .before .before .before .args .counts .nodes) (c .before .before .before .before .before .before .before .before .before .before .before .before .before .before .before .args .counts .commands) (c .before .before .before .before .before .before .before .before .before .before .before .before .before .before .before .args .counts .blocks)) (c .before .before .before .before .before .before .before .before .before .before .before .before .before .before .before .args .i) (c .before .before .before .before .before .before .before .before .before .before .before .before .before .before .before .args .n) (c .before .before .before .before .before .before .before .before .before .before .before .before .before .before .before .args .m) (c .before .before .before .before .before .before .before .before .before .before .before .before .before .before .before .args .at) _ (c .before .before .before .before .before .before .before .before .before .before .before .before .short-length .ensures) (omega (arith, c .before .before .before .before .before .before .before .before .before .before .before .if1 .left, c .before .before .before .before .before .before .before .before .before .before .before .before .before .before .before .pre .room)) (c .before .before .before .before .before .before .before .before .before .judge-commands .ensures) (c .before .before .before .before .before .before .before .a .given .1) (c .before .before .before .judge-links .ensures) (c .before .b .given .1)
 
 returns-3 : tie.Need-returns-3
-returns-3 c = code-link-no (limits (c .before .before .before .before .before .before .before .before .before .before .before .before .before .before .before .before .args .counts .blocks) (c .before .before .before .before .before .before .before .before .before .before .before .before .before .before .before .before .args .counts .commands) (c .before .before .before .before .before .before .before .before .before .before .before .before .before .before .before .before .args .counts .nodes)) (memoryIn (c .before .before .before .before .before .before .before .before .before .before .before .before .before .before .before .before .args .ws .now) (c .before .before .before .before .before .before .before .before .before .before .before .before .before .before .before .before .args .val .now) (c .before .before .before .before .before .before .before .before .before .before .before .before .before .before .before .before .args .cw .now) (c .before .before .before .before .before .before .before .before .before .before .before .before .before .before .before .before .args .bw .now) (c .before .before .before .before .before .before .before .before .before .before .before .before .before .before .before .before .args .counts .nodes) (c .before .before .before .before .before .before .before .before .before .before .before .before .before .before .before .before .args .counts .commands) (c .before .before .before .before .before .before .before .before .before .before .before .before .before .before .before .before .args .counts .blocks)) (c .before .before .before .before .before .before .before .before .before .before .before .before .before .before .before .before .args .i) (c .before .before .before .before .before .before .before .before .before .before .before .before .before .before .before .before .args .n) (c .before .before .before .before .before .before .before .before .before .before .before .before .before .before .before .before .args .m) (c .before .before .before .before .before .before .before .before .before .before .before .before .before .before .before .before .args .at) _ (c .before .before .before .before .before .before .before .before .before .before .before .before .short-length .ensures) (omega (arith, c .before .before .before .before .before .before .before .before .before .before .before .if1 .left, c .before .before .before .before .before .before .before .before .before .before .before .before .before .before .before .before .pre .0 .room)) (c .before .before .before .before .before .before .before .before .before .judge-commands .ensures) (c .before .before .before .before .before .before .before .a .given .1) (c .before .before .before .judge-links .ensures) (c .before .b2 .given .1)
+returns-3 c = code-link-no (limits (c .before .before .before .before .before .before .before .before .before .before .before .before .before .before .before .args .counts .blocks) (c .before .before .before .before .before .before .before .before .before .before .before .before .before .before .before .args .counts .commands) (c .before .before .before .before .before .before .before .before .before .before .before .before .before .before .before .args .counts .nodes)) (memoryIn (c .before .before .before .before .before .before .before .before .before .before .before .before .before .before .before .args .ws .now) (c .before .before .before .before .before .before .before .before .before .before .before .before .before .before .before .args .val .now) (c .before .before .before .before .before .before .before .before .before .before .before .before .before .before .before .args .cw .now) (c .before .before .before .before .before .before .before .before .before .before .before .before .before .before .before .args .bw .now) (c .before .before .before .before .before .before .before .before .before .before .before .before .before .before .before .args .counts .nodes) (c .before .before .before .before .before .before .before .before .before .before .before .before .before .before .before .args .counts .commands) (c .before .before .before .before .before .before .before .before .before .before .before .before .before .before .before .args .counts .blocks)) (c .before .before .before .before .before .before .before .before .before .before .before .before .before .before .before .args .i) (c .before .before .before .before .before .before .before .before .before .before .before .before .before .before .before .args .n) (c .before .before .before .before .before .before .before .before .before .before .before .before .before .before .before .args .m) (c .before .before .before .before .before .before .before .before .before .before .before .before .before .before .before .args .at) _ (c .before .before .before .before .before .before .before .before .before .before .before .before .short-length .ensures) (omega (arith, c .before .before .before .before .before .before .before .before .before .before .before .if1 .left, c .before .before .before .before .before .before .before .before .before .before .before .before .before .before .before .pre .room)) (c .before .before .before .before .before .before .before .before .before .judge-commands .ensures) (c .before .before .before .before .before .before .before .a .given .1) (c .before .before .before .judge-links .ensures) (c .before .b2 .given .1)
 
 returns-4 : tie.Need-returns-4
-returns-4 c = code-no (limits (c .before .before .before .before .before .before .before .before .before .before .args .counts .blocks) (c .before .before .before .before .before .before .before .before .before .before .args .counts .commands) (c .before .before .before .before .before .before .before .before .before .before .args .counts .nodes)) (memoryIn (c .before .before .before .before .before .before .before .before .before .before .args .ws .now) (c .before .before .before .before .before .before .before .before .before .before .args .val .now) (c .before .before .before .before .before .before .before .before .before .before .args .cw .now) (c .before .before .before .before .before .before .before .before .before .before .args .bw .now) (c .before .before .before .before .before .before .before .before .before .before .args .counts .nodes) (c .before .before .before .before .before .before .before .before .before .before .args .counts .commands) (c .before .before .before .before .before .before .before .before .before .before .args .counts .blocks)) (c .before .before .before .before .before .before .before .before .before .before .args .i) (c .before .before .before .before .before .before .before .before .before .before .args .n) (c .before .before .before .before .before .before .before .before .before .before .args .m) (c .before .before .before .before .before .before .before .before .before .before .args .at) _ (c .before .before .before .before .before .before .short-length .ensures) (omega (arith, c .before .before .before .before .before .if1 .left, c .before .before .before .before .before .before .before .before .before .before .pre .0 .room)) (c .before .before .before .judge-commands .ensures) (c .before .a2 .given .1)
+returns-4 c = code-no (limits (c .before .before .before .before .before .before .before .before .before .args .counts .blocks) (c .before .before .before .before .before .before .before .before .before .args .counts .commands) (c .before .before .before .before .before .before .before .before .before .args .counts .nodes)) (memoryIn (c .before .before .before .before .before .before .before .before .before .args .ws .now) (c .before .before .before .before .before .before .before .before .before .args .val .now) (c .before .before .before .before .before .before .before .before .before .args .cw .now) (c .before .before .before .before .before .before .before .before .before .args .bw .now) (c .before .before .before .before .before .before .before .before .before .args .counts .nodes) (c .before .before .before .before .before .before .before .before .before .args .counts .commands) (c .before .before .before .before .before .before .before .before .before .args .counts .blocks)) (c .before .before .before .before .before .before .before .before .before .args .i) (c .before .before .before .before .before .before .before .before .before .args .n) (c .before .before .before .before .before .before .before .before .before .args .m) (c .before .before .before .before .before .before .before .before .before .args .at) _ (c .before .before .before .before .before .before .short-length .ensures) (omega (arith, c .before .before .before .before .before .if1 .left, c .before .before .before .before .before .before .before .before .before .pre .room)) (c .before .before .before .judge-commands .ensures) (c .before .a2 .given .1)
 
 pub judge-code-spec : {M : Type 1} → statement M
 judge-code-spec =
@@ -126,7 +126,7 @@ judge-code-spec =
     element-copy-out-judge-links-2
     judge-links-requires
     enum-known-b
-    add-t46
+    add-t45
     enum-known-b-2
     enum-known-a-2
     returns-2

@@ -11,7 +11,7 @@ index-of-requires : tie.Need-index-of-requires
 index-of-requires c κs = search needs
 
 returns : tie.Need-returns
-returns c = command-absent (limits (c .before .before .before .args .counts .blocks) (c .before .before .before .args .counts .commands) (c .before .before .before .args .counts .nodes)) (codedIn (c .before .before .before .args .ws .now) (c .before .before .before .args .val .now) (c .before .before .before .args .cw .now) (c .before .before .before .args .counts .nodes) (c .before .before .before .args .counts .commands)) (c .before .before .before .args .i) (c .before .before .before .args .n) (c .before .before .before .args .at) (omega (arith, c .if1 .taken, c .before .index-of .ensures))
+returns c = command-absent (limits (c .before .before .args .counts .blocks) (c .before .before .args .counts .commands) (c .before .before .args .counts .nodes)) (codedIn (c .before .before .args .ws .now) (c .before .before .args .val .now) (c .before .before .args .cw .now) (c .before .before .args .counts .nodes) (c .before .before .args .counts .commands)) (c .before .before .args .i) (c .before .before .args .n) (c .before .before .args .at) (omega (arith, c .if1 .taken, c .before .index-of .ensures))
 
 mul-k : tie.Need-mul-k
 mul-k c = search needs
@@ -23,16 +23,16 @@ element-copy-out-k : tie.Need-element-copy-out-k
 element-copy-out-k c = search needs
 
 returns-2 : tie.Need-returns-2
-returns-2 c = command-unknown (limits (c .before .before .before .before .before .args .counts .blocks) (c .before .before .before .before .before .args .counts .commands) (c .before .before .before .before .before .args .counts .nodes)) (codedIn (c .before .before .before .before .before .args .ws .now) (c .before .before .before .before .before .args .val .now) (c .before .before .before .before .before .args .cw .now) (c .before .before .before .before .before .args .counts .nodes) (c .before .before .before .before .before .args .counts .commands)) (c .before .before .before .before .before .args .i) (c .before .before .before .before .before .args .n) (c .before .before .before .before .before .args .at) (omega (arith, c .before .before .if1 .left, c .before .before .before .index-of .ensures)) (c .if2 .taken)
+returns-2 c = command-unknown (limits (c .before .before .before .before .args .counts .blocks) (c .before .before .before .before .args .counts .commands) (c .before .before .before .before .args .counts .nodes)) (codedIn (c .before .before .before .before .args .ws .now) (c .before .before .before .before .args .val .now) (c .before .before .before .before .args .cw .now) (c .before .before .before .before .args .counts .nodes) (c .before .before .before .before .args .counts .commands)) (c .before .before .before .before .args .i) (c .before .before .before .before .args .n) (c .before .before .before .before .args .at) (omega (arith, c .before .before .if1 .left, c .before .before .before .index-of .ensures)) (c .if2 .taken)
 
 add-judge-tail : tie.Need-add-judge-tail
 add-judge-tail c = search needs
 
 judge-tail-requires : tie.Need-judge-tail-requires
-judge-tail-requires c κs = (search needs, (search needs, search needs))
+judge-tail-requires c κs = (search needs, search needs)
 
 returns-3 : tie.Need-returns-3
-returns-3 c = command-told (limits (c .before .before .before .before .before .before .args .counts .blocks) (c .before .before .before .before .before .before .args .counts .commands) (c .before .before .before .before .before .before .args .counts .nodes)) (codedIn (c .before .before .before .before .before .before .args .ws .now) (c .before .before .before .before .before .before .args .val .now) (c .before .before .before .before .before .before .args .cw .now) (c .before .before .before .before .before .before .args .counts .nodes) (c .before .before .before .before .before .before .args .counts .commands)) (c .before .before .before .before .before .before .args .i) (c .before .before .before .before .before .before .args .n) (c .before .before .before .before .before .before .args .at) (omega (arith, c .before .before .before .if1 .left, c .before .before .before .before .index-of .ensures)) (c .before .if2 .left) (c .judge-tail .ensures)
+returns-3 c = command-told (limits (c .before .before .before .before .before .args .counts .blocks) (c .before .before .before .before .before .args .counts .commands) (c .before .before .before .before .before .args .counts .nodes)) (codedIn (c .before .before .before .before .before .args .ws .now) (c .before .before .before .before .before .args .val .now) (c .before .before .before .before .before .args .cw .now) (c .before .before .before .before .before .args .counts .nodes) (c .before .before .before .before .before .args .counts .commands)) (c .before .before .before .before .before .args .i) (c .before .before .before .before .before .args .n) (c .before .before .before .before .before .args .at) (omega (arith, c .before .before .before .if1 .left, c .before .before .before .before .index-of .ensures)) (c .before .if2 .left) (c .judge-tail .ensures)
 
 pub judge-command-spec : {M : Type 1} → statement M
 judge-command-spec =

@@ -21,7 +21,7 @@ element-copy-out-judge-term : tie.Need-element-copy-out-judge-term
 element-copy-out-judge-term c = search needs
 
 judge-term-requires : tie.Need-judge-term-requires
-judge-term-requires c κs = (search needs, search needs)
+judge-term-requires c κs = search needs
 
 enum-known-a : tie.Need-enum-known-a
 enum-known-a c = search needs
@@ -39,16 +39,16 @@ element-copy-out-judge-block-no : tie.Need-element-copy-out-judge-block-no
 element-copy-out-judge-block-no c = search needs
 
 judge-block-no-requires : tie.Need-judge-block-no-requires
-judge-block-no-requires c κs = omega (arith, c .before .before .before .before .before .before .before .pre .1 .0 .soon, c .before .before .before .before .before .before .before .pre .1 .0 .kept .nodes, good-of (c .before .before .before .before .judge-term .ensures) (c .before .before .a .given .1) .low, good-of (c .before .before .before .before .judge-term .ensures) (c .before .before .a .given .1) .short)
+judge-block-no-requires c κs = omega (arith, c .before .before .before .before .before .before .pre .1 .soon, c .before .before .before .before .before .before .pre .1 .kept .nodes, good-of (c .before .before .before .before .judge-term .ensures) (c .before .before .a .given .1) .low, good-of (c .before .before .before .before .judge-term .ensures) (c .before .before .a .given .1) .short)
 
 enum-known-a-2 : tie.Need-enum-known-a-2
 enum-known-a-2 c = search needs
 
 returns : tie.Need-returns
-returns c = if-told (limits (c .before .before .before .before .before .before .before .before .args .counts .blocks) (c .before .before .before .before .before .before .before .before .args .counts .commands) (c .before .before .before .before .before .before .before .before .args .counts .nodes)) (codedIn (c .before .before .before .before .before .before .before .before .args .ws .now) (c .before .before .before .before .before .before .before .before .args .val .now) (c .before .before .before .before .before .before .before .before .args .cw .now) (c .before .before .before .before .before .before .before .before .args .counts .nodes) (c .before .before .before .before .before .before .before .before .args .counts .commands)) (c .before .before .before .before .before .before .before .before .args .i) (c .before .before .before .before .before .before .before .before .args .n) (c .before .before .before .before .before .before .before .before .args .at) (c .before .before .before .before .before .judge-term .ensures) (c .before .before .before .a .given .1) (c .judge-block-no .ensures)
+returns c = if-told (limits (c .before .before .before .before .before .before .before .args .counts .blocks) (c .before .before .before .before .before .before .before .args .counts .commands) (c .before .before .before .before .before .before .before .args .counts .nodes)) (codedIn (c .before .before .before .before .before .before .before .args .ws .now) (c .before .before .before .before .before .before .before .args .val .now) (c .before .before .before .before .before .before .before .args .cw .now) (c .before .before .before .before .before .before .before .args .counts .nodes) (c .before .before .before .before .before .before .before .args .counts .commands)) (c .before .before .before .before .before .before .before .args .i) (c .before .before .before .before .before .before .before .args .n) (c .before .before .before .before .before .before .before .args .at) (c .before .before .before .before .before .judge-term .ensures) (c .before .before .before .a .given .1) (c .judge-block-no .ensures)
 
 returns-2 : tie.Need-returns-2
-returns-2 c = if-no (limits (c .before .before .before .before .before .before .args .counts .blocks) (c .before .before .before .before .before .before .args .counts .commands) (c .before .before .before .before .before .before .args .counts .nodes)) (codedIn (c .before .before .before .before .before .before .args .ws .now) (c .before .before .before .before .before .before .args .val .now) (c .before .before .before .before .before .before .args .cw .now) (c .before .before .before .before .before .before .args .counts .nodes) (c .before .before .before .before .before .before .args .counts .commands)) (c .before .before .before .before .before .before .args .i) (c .before .before .before .before .before .before .args .n) (c .before .before .before .before .before .before .args .at) (c .before .before .before .judge-term .ensures) (c .before .a2 .given .1)
+returns-2 c = if-no (limits (c .before .before .before .before .before .args .counts .blocks) (c .before .before .before .before .before .args .counts .commands) (c .before .before .before .before .before .args .counts .nodes)) (codedIn (c .before .before .before .before .before .args .ws .now) (c .before .before .before .before .before .args .val .now) (c .before .before .before .before .before .args .cw .now) (c .before .before .before .before .before .args .counts .nodes) (c .before .before .before .before .before .args .counts .commands)) (c .before .before .before .before .before .args .i) (c .before .before .before .before .before .args .n) (c .before .before .before .before .before .args .at) (c .before .before .before .judge-term .ensures) (c .before .a2 .given .1)
 
 pub judge-if-spec : {M : Type 1} → statement M
 judge-if-spec =

@@ -46,10 +46,10 @@ add-judge-pair-3 : tie.Need-add-judge-pair-3
 add-judge-pair-3 c = search needs
 
 judge-pair-requires : tie.Need-judge-pair-requires
-judge-pair-requires c κs = (search needs, search needs)
+judge-pair-requires c κs = search needs
 
 returns : tie.Need-returns
-returns c = set-variable (limits (c .before .before .before .before .before .before .args .counts .blocks) (c .before .before .before .before .before .before .args .counts .commands) (c .before .before .before .before .before .before .args .counts .nodes)) (codedIn (c .before .before .before .before .before .before .args .ws .now) (c .before .before .before .before .before .before .args .val .now) (c .before .before .before .before .before .before .args .cw .now) (c .before .before .before .before .before .before .args .counts .nodes) (c .before .before .before .before .before .before .args .counts .commands)) (c .before .before .before .before .before .before .args .i) (c .before .before .before .before .before .before .args .n) (c .before .before .before .before .before .before .args .at) (c .before .before .before .if1 .taken) (c .judge-pair .ensures)
+returns c = set-variable (limits (c .before .before .before .before .before .args .counts .blocks) (c .before .before .before .before .before .args .counts .commands) (c .before .before .before .before .before .args .counts .nodes)) (codedIn (c .before .before .before .before .before .args .ws .now) (c .before .before .before .before .before .args .val .now) (c .before .before .before .before .before .args .cw .now) (c .before .before .before .before .before .args .counts .nodes) (c .before .before .before .before .before .args .counts .commands)) (c .before .before .before .before .before .args .i) (c .before .before .before .before .before .args .n) (c .before .before .before .before .before .args .at) (c .before .before .before .if1 .taken) (c .judge-pair .ensures)
 
 mul-judge-term : tie.Need-mul-judge-term
 mul-judge-term c = search needs
@@ -67,13 +67,13 @@ add-judge-term-2 : tie.Need-add-judge-term-2
 add-judge-term-2 c = search needs
 
 judge-term-requires : tie.Need-judge-term-requires
-judge-term-requires c κs = (search needs, search needs)
+judge-term-requires c κs = search needs
 
 returns-2 : tie.Need-returns-2
-returns-2 c = set-other (limits (c .before .before .before .before .before .before .args .counts .blocks) (c .before .before .before .before .before .before .args .counts .commands) (c .before .before .before .before .before .before .args .counts .nodes)) (codedIn (c .before .before .before .before .before .before .args .ws .now) (c .before .before .before .before .before .before .args .val .now) (c .before .before .before .before .before .before .args .cw .now) (c .before .before .before .before .before .before .args .counts .nodes) (c .before .before .before .before .before .before .args .counts .commands)) (c .before .before .before .before .before .before .args .i) (c .before .before .before .before .before .before .args .n) (c .before .before .before .before .before .before .args .at) (c .before .before .if2 .taken) (c .judge-term .ensures)
+returns-2 c = set-other (limits (c .before .before .before .before .before .args .counts .blocks) (c .before .before .before .before .before .args .counts .commands) (c .before .before .before .before .before .args .counts .nodes)) (codedIn (c .before .before .before .before .before .args .ws .now) (c .before .before .before .before .before .args .val .now) (c .before .before .before .before .before .args .cw .now) (c .before .before .before .before .before .args .counts .nodes) (c .before .before .before .before .before .args .counts .commands)) (c .before .before .before .before .before .args .i) (c .before .before .before .before .before .args .n) (c .before .before .before .before .before .args .at) (c .before .before .if2 .taken) (c .judge-term .ensures)
 
 returns-3 : tie.Need-returns-3
-returns-3 c = set-unknown (limits (c .before .before .before .before .args .counts .blocks) (c .before .before .before .before .args .counts .commands) (c .before .before .before .before .args .counts .nodes)) (codedIn (c .before .before .before .before .args .ws .now) (c .before .before .before .before .args .val .now) (c .before .before .before .before .args .cw .now) (c .before .before .before .before .args .counts .nodes) (c .before .before .before .before .args .counts .commands)) (c .before .before .before .before .args .i) (c .before .before .before .before .args .n) (c .before .before .before .before .args .at) (c .before .if1 .left) (c .if2 .left)
+returns-3 c = set-unknown (limits (c .before .before .before .args .counts .blocks) (c .before .before .before .args .counts .commands) (c .before .before .before .args .counts .nodes)) (codedIn (c .before .before .before .args .ws .now) (c .before .before .before .args .val .now) (c .before .before .before .args .cw .now) (c .before .before .before .args .counts .nodes) (c .before .before .before .args .counts .commands)) (c .before .before .before .args .i) (c .before .before .before .args .n) (c .before .before .before .args .at) (c .before .if1 .left) (c .if2 .left)
 
 pub judge-set-spec : {M : Type 1} → statement M
 judge-set-spec =

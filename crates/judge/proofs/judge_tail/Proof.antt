@@ -23,10 +23,10 @@ judge-block-no-requires : tie.Need-judge-block-no-requires
 judge-block-no-requires c κs = search needs
 
 judge-set-requires : tie.Need-judge-set-requires
-judge-set-requires c κs = (search needs, (search needs, search needs))
+judge-set-requires c κs = (search needs, search needs)
 
 judge-if-requires : tie.Need-judge-if-requires
-judge-if-requires c κs = (search needs, (search needs, search needs))
+judge-if-requires c κs = (search needs, search needs)
 
 mul-judge-block-no-3 : tie.Need-mul-judge-block-no-3
 mul-judge-block-no-3 c = search needs
@@ -44,10 +44,10 @@ judge-block-no-requires-2 : tie.Need-judge-block-no-requires-2
 judge-block-no-requires-2 c κs = search needs
 
 returns : tie.Need-returns
-returns c = tail-return (limits (c .before .before .args .counts .blocks) (c .before .before .args .counts .commands) (c .before .before .args .counts .nodes)) (codedIn (c .before .before .args .ws .now) (c .before .before .args .val .now) (c .before .before .args .cw .now) (c .before .before .args .counts .nodes) (c .before .before .args .counts .commands)) (c .before .before .args .i) (c .before .before .args .n) (c .before .before .args .at) (c .before .before .pre .1 .0 .few) _ (c .match .keys1)
+returns c = tail-return (limits (c .before .args .counts .blocks) (c .before .args .counts .commands) (c .before .args .counts .nodes)) (codedIn (c .before .args .ws .now) (c .before .args .val .now) (c .before .args .cw .now) (c .before .args .counts .nodes) (c .before .args .counts .commands)) (c .before .args .i) (c .before .args .n) (c .before .args .at) (c .before .pre .1 .few) _ (c .match .keys1)
 
 returns-2 : tie.Need-returns-2
-returns-2 c = tail-goto (limits (c .before .before .before .before .args .counts .blocks) (c .before .before .before .before .args .counts .commands) (c .before .before .before .before .args .counts .nodes)) (codedIn (c .before .before .before .before .args .ws .now) (c .before .before .before .before .args .val .now) (c .before .before .before .before .args .cw .now) (c .before .before .before .before .args .counts .nodes) (c .before .before .before .before .args .counts .commands)) (c .before .before .before .before .args .i) (c .before .before .before .before .args .n) (c .before .before .before .before .args .at) (c .before .before .before .before .pre .1 .0 .few) (c .judge-block-no .ensures) _ (c .before .before .match .keys2)
+returns-2 c = tail-goto (limits (c .before .before .before .args .counts .blocks) (c .before .before .before .args .counts .commands) (c .before .before .before .args .counts .nodes)) (codedIn (c .before .before .before .args .ws .now) (c .before .before .before .args .val .now) (c .before .before .before .args .cw .now) (c .before .before .before .args .counts .nodes) (c .before .before .before .args .counts .commands)) (c .before .before .before .args .i) (c .before .before .before .args .n) (c .before .before .before .args .at) (c .before .before .before .pre .1 .few) (c .judge-block-no .ensures) _ (c .before .before .match .keys2)
 
 returns-3 : tie.Need-returns-3
 returns-3 c = rw (c .before .match .keys3) (c .judge-set .ensures)
@@ -56,10 +56,10 @@ returns-4 : tie.Need-returns-4
 returns-4 c = rw (c .before .match .keys4) (c .judge-if .ensures)
 
 returns-5 : tie.Need-returns-5
-returns-5 c = tail-endIf (limits (c .before .before .before .before .args .counts .blocks) (c .before .before .before .before .args .counts .commands) (c .before .before .before .before .args .counts .nodes)) (codedIn (c .before .before .before .before .args .ws .now) (c .before .before .before .before .args .val .now) (c .before .before .before .before .args .cw .now) (c .before .before .before .before .args .counts .nodes) (c .before .before .before .before .args .counts .commands)) (c .before .before .before .before .args .i) (c .before .before .before .before .args .n) (c .before .before .before .before .args .at) (c .before .before .before .before .pre .1 .0 .few) (c .judge-block-no2 .ensures) _ (c .before .before .match .keys5)
+returns-5 c = tail-endIf (limits (c .before .before .before .args .counts .blocks) (c .before .before .before .args .counts .commands) (c .before .before .before .args .counts .nodes)) (codedIn (c .before .before .before .args .ws .now) (c .before .before .before .args .val .now) (c .before .before .before .args .cw .now) (c .before .before .before .args .counts .nodes) (c .before .before .before .args .counts .commands)) (c .before .before .before .args .i) (c .before .before .before .args .n) (c .before .before .before .args .at) (c .before .before .before .pre .1 .few) (c .judge-block-no2 .ensures) _ (c .before .before .match .keys5)
 
 returns-6 : tie.Need-returns-6
-returns-6 c = tail-other (limits (c .before .before .args .counts .blocks) (c .before .before .args .counts .commands) (c .before .before .args .counts .nodes)) (codedIn (c .before .before .args .ws .now) (c .before .before .args .val .now) (c .before .before .args .cw .now) (c .before .before .args .counts .nodes) (c .before .before .args .counts .commands)) (c .before .before .args .i) (c .before .before .args .n) (c .before .before .args .at) (c .before .before .pre .1 .0 .few) _ (omega arith)
+returns-6 c = tail-other (limits (c .before .args .counts .blocks) (c .before .args .counts .commands) (c .before .args .counts .nodes)) (codedIn (c .before .args .ws .now) (c .before .args .val .now) (c .before .args .cw .now) (c .before .args .counts .nodes) (c .before .args .counts .commands)) (c .before .args .i) (c .before .args .n) (c .before .args .at) (c .before .pre .1 .few) _ (omega arith)
 
 pub judge-tail-spec : {M : Type 1} → statement M
 judge-tail-spec =

@@ -19,16 +19,16 @@ code-end-requires : tie.Need-code-end-requires
 code-end-requires c κs = search needs
 
 returns : tie.Need-returns
-returns c = λ q. placeholder (c .match .keys1) refl
+returns c = c .code-end .ensures
 
 returns-2 : tie.Need-returns-2
-returns-2 c = search needs
+returns-2 c = λ q. placeholder (c .if2 .taken) refl
 
 returns-3 : tie.Need-returns-3
-returns-3 c = λ q. dataBlock (c .match .keys3) refl
+returns-3 c = λ q. dataBlock (c .if3 .taken) refl
 
 returns-4 : tie.Need-returns-4
-returns-4 c = λ q. absurd (omega (arith, q, c .before .before .pre .1 .commands))
+returns-4 c = λ q. absurd (omega (arith, q, c .before .before .before .before .pre .1 .commands))
 
 pub block-end-spec : {M : Type 1} → statement M
 block-end-spec =

@@ -14,6 +14,21 @@ mul-k-2 c = search needs
 element-copy-out-k : tie.Need-element-copy-out-k
 element-copy-out-k c = search needs
 
+set-nodes-requires : tie.Need-set-nodes-requires
+set-nodes-requires c κs = search needs
+
+returns : tie.Need-returns
+returns c = let s = (c .before .before .before .before .before) in coded (s .args .sizes .now) (s .args .cw .now) (s .args .counts) (s .pre .1 .kept) (s .args .i) (s .pre .0) (c .before .if2 .taken) (omega arith) (c .set-nodes .ensures)
+
+if-nodes-requires : tie.Need-if-nodes-requires
+if-nodes-requires c κs = search needs
+
+returns-2 : tie.Need-returns-2
+returns-2 c = let s = (c .before .before .before .before .before .before) in coded (s .args .sizes .now) (s .args .cw .now) (s .args .counts) (s .pre .1 .kept) (s .args .i) (s .pre .0) (c .before .if3 .taken) (omega arith) (c .if-nodes .ensures)
+
+returns-3 : tie.Need-returns-3
+returns-3 c = let s = (c .before .before .before .before .before .before) in coded (s .args .sizes .now) (s .args .cw .now) (s .args .counts) (s .pre .1 .kept) (s .args .i) (s .pre .0) (c .if4 .taken) (omega arith) (tail-nothing (s .args .sizes .now) (s .args .cw .now) (s .args .counts) (s .pre .1 .kept) (s .args .i))
+
 mul-named-block : tie.Need-mul-named-block
 mul-named-block c = search needs
 
@@ -29,11 +44,8 @@ element-copy-out-named-block c = search needs
 named-block-requires : tie.Need-named-block-requires
 named-block-requires c κs = search needs
 
-set-nodes-requires : tie.Need-set-nodes-requires
-set-nodes-requires c κs = search needs
-
-if-nodes-requires : tie.Need-if-nodes-requires
-if-nodes-requires c κs = search needs
+returns-4 : tie.Need-returns-4
+returns-4 c = let s = (c .before .before .before .before .before .before .before .before) in coded (s .args .sizes .now) (s .args .cw .now) (s .args .counts) (s .pre .1 .kept) (s .args .i) (s .pre .0) {c = 1} (omega arith) (omega arith) (tail-jump (s .args .sizes .now) (s .args .cw .now) (s .args .counts) (s .pre .1 .kept) (s .args .i) (c .named-block .ensures))
 
 mul-named-block-3 : tie.Need-mul-named-block-3
 mul-named-block-3 c = search needs
@@ -50,26 +62,14 @@ element-copy-out-named-block-2 c = search needs
 named-block-requires-2 : tie.Need-named-block-requires-2
 named-block-requires-2 c κs = search needs
 
-returns : tie.Need-returns
-returns c = let s = c .before .before .before in coded (s .args .table .now) (s .args .cw .now) (s .args .counts) (s .pre .1 .kept) (s .args .i) (s .pre .0) (c .match .keys1) (omega arith) (tail-nothing (s .args .table .now) (s .args .cw .now) (s .args .counts) (s .pre .1 .kept) (s .args .i))
-
-returns-2 : tie.Need-returns-2
-returns-2 c = let s = c .before .before .before .before .before in coded (s .args .table .now) (s .args .cw .now) (s .args .counts) (s .pre .1 .kept) (s .args .i) (s .pre .0) (c .before .before .match .keys2) (omega arith) (tail-jump (s .args .table .now) (s .args .cw .now) (s .args .counts) (s .pre .1 .kept) (s .args .i) (c .named-block .ensures))
-
-returns-3 : tie.Need-returns-3
-returns-3 c = let s = c .before .before .before .before in coded (s .args .table .now) (s .args .cw .now) (s .args .counts) (s .pre .1 .kept) (s .args .i) (s .pre .0) (c .before .match .keys3) (omega arith) (c .set-nodes .ensures)
-
-returns-4 : tie.Need-returns-4
-returns-4 c = let s = c .before .before .before .before in coded (s .args .table .now) (s .args .cw .now) (s .args .counts) (s .pre .1 .kept) (s .args .i) (s .pre .0) (c .before .match .keys4) (omega arith) (c .if-nodes .ensures)
-
 returns-5 : tie.Need-returns-5
-returns-5 c = let s = c .before .before .before .before .before in coded (s .args .table .now) (s .args .cw .now) (s .args .counts) (s .pre .1 .kept) (s .args .i) (s .pre .0) (c .before .before .match .keys5) (omega arith) (tail-end (s .args .table .now) (s .args .cw .now) (s .args .counts) (s .pre .1 .kept) (s .args .i) (c .named-block2 .ensures))
+returns-5 c = let s = (c .before .before .before .before .before .before) in coded (s .args .sizes .now) (s .args .cw .now) (s .args .counts) (s .pre .1 .kept) (s .args .i) (s .pre .0) (c .before .before .if5 .taken) (omega arith) (tail-end (s .args .sizes .now) (s .args .cw .now) (s .args .counts) (s .pre .1 .kept) (s .args .i) (c .named-block2 .ensures))
 
 returns-6 : tie.Need-returns-6
-returns-6 c = let s = c .before .before .before in coded (s .args .table .now) (s .args .cw .now) (s .args .counts) (s .pre .1 .kept) (s .args .i) (s .pre .0) (c .match .keys6) (omega arith) (tail-rest (s .args .table .now) (s .args .cw .now) (s .args .counts) (s .pre .1 .kept) (s .args .i))
+returns-6 c = let s = (c .before .before .before .before .before) in coded (s .args .sizes .now) (s .args .cw .now) (s .args .counts) (s .pre .1 .kept) (s .args .i) (s .pre .0) (c .if6 .taken) (omega arith) (tail-rest (s .args .sizes .now) (s .args .cw .now) (s .args .counts) (s .pre .1 .kept) (s .args .i))
 
 returns-7 : tie.Need-returns-7
-returns-7 c = let s = c .before .before .before in command-past (s .args .table .now) (s .args .cw .now) (s .args .counts) (s .pre .1 .kept) (s .args .i)
+returns-7 c = let s = (c .before .before .before .before .before) in command-past (s .args .sizes .now) (s .args .cw .now) (s .args .counts) (s .pre .1 .kept) (s .args .i)
 
 pub command-nodes-spec : {M : Type 1} → statement M
 command-nodes-spec =
@@ -78,22 +78,22 @@ command-nodes-spec =
     mul-k
     mul-k-2
     element-copy-out-k
+    set-nodes-requires
+    returns
+    if-nodes-requires
+    returns-2
+    returns-3
     mul-named-block
     add-named-block
     mul-named-block-2
     element-copy-out-named-block
     named-block-requires
-    set-nodes-requires
-    if-nodes-requires
+    returns-4
     mul-named-block-3
     add-named-block-2
     mul-named-block-4
     element-copy-out-named-block-2
     named-block-requires-2
-    returns
-    returns-2
-    returns-3
-    returns-4
     returns-5
     returns-6
     returns-7)

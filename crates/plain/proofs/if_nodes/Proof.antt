@@ -39,7 +39,7 @@ add-result : tie.Need-add-result
 add-result c = search needs
 
 returns : tie.Need-returns
-returns c = let s = c .before .before .before .before .before in tail-if (s .args .table .now) (s .args .cw .now) (s .args .counts) (s .pre .1 .kept) (s .args .i) (c .before .before .term-nodes .ensures) (c .named-block .ensures) refl
+returns c = let s = c .before .before .before .before .before in tail-if (s .args .sizes .now) (s .args .cw .now) (s .args .counts) (s .pre .1 .kept) (s .args .i) (c .before .before .term-nodes .ensures) (c .named-block .ensures) refl
 
 pub if-nodes-spec : {M : Type 1} → statement M
 if-nodes-spec =

@@ -7,17 +7,17 @@ use Rattle.plain.proofs.term_nodes.Tie as tie
 index-of-requires : tie.Need-index-of-requires
 index-of-requires c κs = search needs
 
-mul-nodes-of : tie.Need-mul-nodes-of
-mul-nodes-of c = search needs
+mul-element : tie.Need-mul-element
+mul-element c = search needs
 
-shared-slice-read-nodes-of : tie.Need-shared-slice-read-nodes-of
-shared-slice-read-nodes-of c = search needs
+shared-slice-read-element : tie.Need-shared-slice-read-element
+shared-slice-read-element c = search needs
 
-nodes-of-requires : tie.Need-nodes-of-requires
-nodes-of-requires c κs = search needs
+element-requires : tie.Need-element-requires
+element-requires c κs = search needs
 
 returns : tie.Need-returns
-returns c = term-there _ _ _ _ _ (c .before .before .before .before .before .pre .0) (c .before .before .before .if1 .taken) (c .before .before .index-of .ensures) (c .nodes-of .ensures)
+returns c = term-there _ _ _ _ _ (c .before .before .before .if1 .taken) (c .before .before .index-of .ensures) (c .element .ensures .0) (c .element .ensures .1)
 
 returns-2 : tie.Need-returns-2
 returns-2 c = term-absent _ _ _ (c .before .before .pre .0)
@@ -27,8 +27,8 @@ term-nodes-spec =
     tie.close
     (tie.spec
     index-of-requires
-    mul-nodes-of
-    shared-slice-read-nodes-of
-    nodes-of-requires
+    mul-element
+    shared-slice-read-element
+    element-requires
     returns
     returns-2)
