@@ -5,13 +5,13 @@ use mathlib.Core.List.{List}
 use Prim.Native.Nat.{ℕ, zero, suc, _+_, _-_, _*_, _≤_, _<_}
 use native.Mathlib.Omega.{arith}
 use native.Mathlib.Decide.{ℕ-discrete}
-use lib.Dec.{leb, ltb, eqb, leb·suc-suc}
+use lib.Dec.{leb, eqb, leb·suc-suc}
 use lib.IntN.{ℤ}
 use lib.ListN.{getD, set, length}
 use lib.Seq.{getD-set-same, getD-set-other}
 use borrow.Author.Tests.{lt-ltb, le-ltb, le-leb, lt-leb, ne-eqb}
 use Rattle.memory.specs.declared.Counts.{Counts}
-use Rattle.model.specs.Memory.{Coded, Memory, codedIn, memoryIn, commandWord, blockWord}
+use Rattle.model.specs.Memory.{Coded, Memory, codedIn, memoryIn, commandWord}
 use Rattle.model.specs.Record.{rootKept, setKept, rootsKept, commandKept, commandsKept, blockKept, blocksKept, heldKept}
 
 -- of d commands from command c on, those before the first whose roots are not all below the kept count

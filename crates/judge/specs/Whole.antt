@@ -21,7 +21,7 @@ use Rattle.memory.specs.Kept.{sound-kept}
 use Rattle.memory.specs.Agree.{past-judged}
 use Rattle.terms.specs.Told.{Kept, ShortWord}
 use Rattle.judge.specs.Loop.{Part, Next, part-start, part-next, part-no, part-done, part-bytes}
-use Rattle.judge.specs.Stages.{memoryBy, KeptBy, Within, GoodBlock, Staged, JudgedAs, WalkedAs}
+use Rattle.judge.specs.Stages.{Within, GoodBlock, Staged, JudgedAs, WalkedAs}
 use Rattle.judge.specs.Blocks.{block-of, stop-of}
 use Rattle.judge.specs.declared.Stage.{Stage}
 use Rattle.judge.specs.declared.Stage.the-variants.{Fine as Passed, No as Stopped}

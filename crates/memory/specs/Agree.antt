@@ -1,22 +1,19 @@
 -- The judgement of a record and that of its script, where the kept counts are others than what the blocks hold. Assumes nothing.
-use mathlib.Core.Path.{_≡_, refl, ap, sym, _∙_, subst}
-use mathlib.Core.Bool.{Bool, true, false, cond, _&&_, and-false}
-use mathlib.Core.List.{List, []}
-use Prim.Native.Nat.{ℕ, _≤_, _<_}
+use mathlib.Core.Path.{_≡_, refl, sym, _∙_, subst}
+use mathlib.Core.Bool.{Bool, true, false, cond, and-false}
+use mathlib.Core.List.{List}
+use Prim.Native.Nat.{ℕ, _≤_}
 use native.Mathlib.Omega.{arith}
 use lib.Dec.{T}
-use lib.ListN.{length}
-use Rattle.model.specs.Limits.{wide}
 use Rattle.model.specs.Refusal.{overLimit}
-use Rattle.model.specs.Reading.{Answer, got, refused}
-use Rattle.model.specs.Script.{Block, Script, sumOf, blockCommands, blockNodes}
+use Rattle.model.specs.Reading.{got, refused}
+use Rattle.model.specs.Script.{Block, sumOf, blockCommands, blockNodes}
 use Rattle.model.specs.Image.{image, readWithin}
 use Rattle.model.specs.Judge.{countsOk, judged}
 use Rattle.model.specs.Memory.{Memory, scriptOf}
-use Rattle.model.specs.Record.{limitsKept, heldKept, keptOk, recordImage, judgedRecord}
+use Rattle.model.specs.Record.{heldKept, keptOk, judgedRecord}
 use Rattle.model.specs.Laws.Judged.{accepted-held, counts-low}
 use Rattle.model.specs.Laws.Over.{over-script}
-use Rattle.model.specs.Laws.Sound.{SoundBlocks}
 use Rattle.memory.specs.Sound.{Sound}
 use Rattle.memory.specs.RecordLaws.{judged-sound}
 use Rattle.memory.specs.Kept.{recounted, more-kept, kept-sound, script-same}

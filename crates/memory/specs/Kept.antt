@@ -1,6 +1,6 @@
 -- Kept counts and what the blocks hold: a sound record holds nothing past them, and one that was sound under other counts is sound where it holds nothing past its own. Assumes nothing.
 use mathlib.Core.Path.{_≡_, refl, ap, ap₂}
-use mathlib.Core.Bool.{Bool, true, false, _&&_}
+use mathlib.Core.Bool.{true}
 use mathlib.Core.List.{List, _∷_}
 use Prim.Native.Nat.{ℕ, zero, suc, _+_, _≤_, _<_}
 use native.Mathlib.Omega.{arith}
@@ -8,8 +8,7 @@ use lib.Dec.{ltb}
 use borrow.Author.Tests.{ltb-true, lt-ltb}
 use Rattle.model.specs.Expr.{Expr}
 use Rattle.model.specs.Script.{Command, Block, setVariable, setOther, ifElse, code}
-use Rattle.model.specs.Image.{kindOf}
-use Rattle.model.specs.Memory.{Nodes, Coded, Memory, codeAt, leftAt, rightAt, valueAt, nodeOf, operand, treeTo, tree, commandWord, setIn, commandBy, commandIn, commandsIn, blockWord, linkIn, blockBy, blockIn, blocksIn, scriptOf}
+use Rattle.model.specs.Memory.{Nodes, Coded, Memory, leftAt, rightAt, treeTo, tree, commandWord, setIn, commandBy, commandIn, commandsIn, blockWord, linkIn, blockBy, blockIn, blocksIn, scriptOf}
 use Rattle.model.specs.Record.{rootKept, setKept, rootsKept, commandKept, commandsKept, blockKept, blocksKept, heldKept}
 use Rattle.model.specs.Laws.Checks.{and-left, and-right}
 use Rattle.memory.specs.Sound.{Well, well-two, well-one, well-imm16, well-imm32, well-other, Root, SoundTarget, SoundBy, SoundCommand, SoundCommands, SoundKind, SoundBlock, Sound}

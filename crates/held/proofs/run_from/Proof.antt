@@ -1,6 +1,5 @@
 -- `held::run_from` meets its contract: one more than the next run, or none. Assumes nothing.
 use Rattle.held.specs.Runs.{run-more, run-stop}
-use native.Mathlib.Omega.{arith}
 use borrow.Author.Needs.{needs}
 use Rattle.held.proofs.run_from.Statement.{statement}
 use Rattle.held.proofs.run_from.Tie as tie

@@ -1,5 +1,5 @@
 -- Sound blocks that hold more commands or nodes than they may are refused with 3. Assumes nothing.
-use mathlib.Core.Path.{_≡_, _∙_}
+use mathlib.Core.Path.{_≡_}
 use mathlib.Core.List.{List, [], _∷_, _++_, append-assoc, append-nil}
 use Prim.Native.Nat.{ℕ, zero, suc, _+_, _≤_, _<_}
 use native.Mathlib.Omega.{arith}
@@ -8,7 +8,7 @@ use borrow.Author.Tests.{lt-ltb, le-ltb, le-leb, lt-leb}
 use lib.ListN.{length}
 use Rattle.model.specs.Limits.{blockLimit, depthLimit, wide}
 use Rattle.model.specs.Refusal.{overLimit}
-use Rattle.model.specs.Reading.{got, refused, word, zig}
+use Rattle.model.specs.Reading.{refused, word, zig}
 use Rattle.model.specs.Expr.{Expr, two, one, imm16, imm32, other, size}
 use Rattle.model.specs.Script.{Command, return, goto, setVariable, setOther, ifElse, endIf, otherCommand, Block, placeholder, code, dataBlock, commandNodes, commandsNodes, blockNodes, blockCommands, sumOf}
 use Rattle.model.specs.Image.{codeOf, exprImage, commandImage, commandsImage, linkImage, blockImage, blocksImage, image, readOperands, readExpr, Limits, limits, readTerm, setOf, commandOf, readCommand, readCommands, readCode, blockOf, readBlock, readBlocks, readWithin}
