@@ -12,9 +12,8 @@ use borrow.Author.Tests.{ltb-true, ltb-false}
 use Rattle.memory.specs.declared.Counts.{Counts}
 use Rattle.model.specs.Expr.{size}
 use Rattle.model.specs.Reading.{Answer, word}
-use Rattle.model.specs.Script.{commandNodes}
-use Rattle.model.specs.Image.{readTerm, readBlockNo, commandOf}
-use Rattle.model.specs.Record.{rootImage, commandTail}
+use Rattle.model.specs.Image.{readTerm, readBlockNo}
+use Rattle.model.specs.Record.{rootImage}
 use Rattle.terms.specs.Told.{Told, limitsBy, nodesBy}
 use Rattle.terms.specs.Numbers.{short-word}
 use Rattle.terms.specs.Nodes.{term-told}

@@ -17,7 +17,7 @@ use Rattle.model.specs.declared.Op2.{Op2}
 use Rattle.model.specs.declared.Op2.the-variants.{Equal, NotEqual, Less, LessEqual, Greater, GreaterEqual, Add, Subtract, BitAnd, BitOr}
 use Rattle.model.specs.declared.Op1.{Op1}
 use Rattle.model.specs.declared.Op1.the-variants.{Not, Flag, Variable, Item, Atc, Time}
-use Rattle.model.specs.declared.Kind.the-variants.{Two, One, Imm16, Imm32, Other}
+use Rattle.model.specs.declared.Kind.the-variants.{Two, One}
 use Rattle.terms.specs.Numbers.{zig-low}
 use Rattle.trees.specs.Trees.{Number, AboveOne, AboveTwo, two, one, imm16, imm32, other, Tree}
 

@@ -9,7 +9,7 @@ use lib.IntN.{ℤ}
 use lib.ListN.{length, getD, set, length-set}
 use lib.Seq.{getD-set-same, getD-set-other}
 use borrow.Author.Tests.{ltb-true, ltb-false}
-use Rattle.trees.specs.Trees.{AboveOne, AboveTwo, Node, two, one, imm16, imm32, other, Tree, Trees}
+use Rattle.trees.specs.Trees.{Node, two, one, imm16, imm32, other, Tree, Trees}
 use Rattle.trees.specs.Codes.{Before}
 
 -- the trees of the first i of n nodes are told, in a table as long as it was; s is the size of the last one

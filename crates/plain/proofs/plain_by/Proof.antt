@@ -26,7 +26,9 @@ blocks-apart-requires : tie.Need-blocks-apart-requires
 blocks-apart-requires c κs = search needs
 
 returns-3 : tie.Need-returns-3
-returns-3 c = λ e. plain-apart (c .before .before .before .before .before .before .before .before .args .ws .now) (c .before .before .before .before .before .before .before .before .args .sizes .now) (c .before .before .before .before .before .before .before .before .args .cw .now) (c .before .before .before .before .before .before .before .before .args .bw .now) (c .before .before .before .before .before .before .before .before .args .counts) (c .before .before .before .before .before .before .before .before .pre .kept) (c .before .before .before .before .before .before .commands-nodes .ensures (omega (arith, c .before .before .before .if1 .left, c .before .before .before .before .before .index-of .ensures))) (omega (arith, c .before .before .before .if1 .left, c .before .before .before .before .before .index-of .ensures)) (c .before .before .commands-shallow .ensures (not-false (c .before .before .commands-shallow .result) (c .before .if2 .left))) (c .blocks-apart .ensures e)
+returns-3 c =
+    let s = c .before .before .before .before .before .before .before .before in
+    λ e. plain-apart (s .args .ws .now) (s .args .sizes .now) (s .args .cw .now) (s .args .bw .now) (s .args .counts) (s .pre .kept) (c .before .before .before .before .before .before .commands-nodes .ensures (omega (arith, c .before .before .before .if1 .left, c .before .before .before .before .before .index-of .ensures))) (omega (arith, c .before .before .before .if1 .left, c .before .before .before .before .before .index-of .ensures)) (c .before .before .commands-shallow .ensures (not-false (c .before .before .commands-shallow .result) (c .before .if2 .left))) (c .blocks-apart .ensures e)
 
 pub plain-by-spec : {M : Type 1} → statement M
 plain-by-spec =

@@ -130,19 +130,29 @@ is-shallow-enum-told-5 : (t : ℕ) → is-shallow-lts.Need-enum-told-5 (is-shall
 is-shallow-enum-told-5 t c = search needs
 
 is-shallow-returns-4 : (t : ℕ) → is-shallow-lts.Need-returns-4 (is-shallow-claims t) (is-shallow-at t) is-shallow.Post
-is-shallow-returns-4 t c = λ e. shallow-two (c .before .before .before .before .before .before .before .before .before .before .before .before .before .args .ws .now) (c .before .before .before .before .before .before .before .before .before .before .before .before .before .args .levels) (c .before .before .before .before .before .before .before .before .before .before .before .before .before .args .levels - 1) (c .before .before .before .before .before .before .before .before .before .before .before .before .before .args .i) (c .before .before .before .before .before .before .before .before .before .kind-of .ensures) (omega (arith, c .before .before .before .before .before .before .before .before .before .before .before .before .if1 .left)) (c .before .before .before .before .before .before .before .enum-told .given .1) (c .before .before .before .before .before .index-of .ensures) (c .before .index-of2 .ensures) (c .before .before .before .before .is-shallow .ensures (not-false (c .before .before .before .before .is-shallow .result) (c .before .before .before .if3 .left))) (c .is-shallow2 .ensures e)
+is-shallow-returns-4 t c =
+    let s = c .before .before .before .before .before .before .before .before .before .before .before .before .before in
+    λ e. shallow-two (s .args .ws .now) (s .args .levels) (s .args .levels - 1) (s .args .i) (c .before .before .before .before .before .before .before .before .before .kind-of .ensures) (omega (arith, c .before .before .before .before .before .before .before .before .before .before .before .before .if1 .left)) (c .before .before .before .before .before .before .before .enum-told .given .1) (c .before .before .before .before .before .index-of .ensures) (c .before .index-of2 .ensures) (c .before .before .before .before .is-shallow .ensures (not-false (c .before .before .before .before .is-shallow .result) (c .before .before .before .if3 .left))) (c .is-shallow2 .ensures e)
 
 is-shallow-returns-5 : (t : ℕ) → is-shallow-lts.Need-returns-5 (is-shallow-claims t) (is-shallow-at t) is-shallow.Post
-is-shallow-returns-5 t c = λ e. shallow-one (c .before .before .before .before .before .before .before .before .before .args .ws .now) (c .before .before .before .before .before .before .before .before .before .args .levels) (c .before .before .before .before .before .before .before .before .before .args .levels - 1) (c .before .before .before .before .before .before .before .before .before .args .i) (c .before .before .before .before .before .kind-of .ensures) (omega (arith, c .before .before .before .before .before .before .before .before .if1 .left)) (c .before .before .before .enum-told2 .given .1) (c .before .index-of3 .ensures) (c .is-shallow3 .ensures e)
+is-shallow-returns-5 t c =
+    let s = c .before .before .before .before .before .before .before .before .before in
+    λ e. shallow-one (s .args .ws .now) (s .args .levels) (s .args .levels - 1) (s .args .i) (c .before .before .before .before .before .kind-of .ensures) (omega (arith, c .before .before .before .before .before .before .before .before .if1 .left)) (c .before .before .before .enum-told2 .given .1) (c .before .index-of3 .ensures) (c .is-shallow3 .ensures e)
 
 is-shallow-returns-6 : (t : ℕ) → is-shallow-lts.Need-returns-6 (is-shallow-claims t) (is-shallow-at t) is-shallow.Post
-is-shallow-returns-6 t c = λ e. shallow-imm16 (c .before .before .before .before .before .before .args .ws .now) (c .before .before .before .before .before .before .args .levels) (c .before .before .before .before .before .before .args .levels - 1) (c .before .before .before .before .before .before .args .i) (c .before .before .kind-of .ensures) (omega (arith, c .before .before .before .before .before .if1 .left)) (c .enum-told3 .given .1)
+is-shallow-returns-6 t c =
+    let s = c .before .before .before .before .before .before in
+    λ e. shallow-imm16 (s .args .ws .now) (s .args .levels) (s .args .levels - 1) (s .args .i) (c .before .before .kind-of .ensures) (omega (arith, c .before .before .before .before .before .if1 .left)) (c .enum-told3 .given .1)
 
 is-shallow-returns-7 : (t : ℕ) → is-shallow-lts.Need-returns-7 (is-shallow-claims t) (is-shallow-at t) is-shallow.Post
-is-shallow-returns-7 t c = λ e. shallow-imm32 (c .before .before .before .before .before .before .args .ws .now) (c .before .before .before .before .before .before .args .levels) (c .before .before .before .before .before .before .args .levels - 1) (c .before .before .before .before .before .before .args .i) (c .before .before .kind-of .ensures) (omega (arith, c .before .before .before .before .before .if1 .left)) (c .enum-told4 .given .1)
+is-shallow-returns-7 t c =
+    let s = c .before .before .before .before .before .before in
+    λ e. shallow-imm32 (s .args .ws .now) (s .args .levels) (s .args .levels - 1) (s .args .i) (c .before .before .kind-of .ensures) (omega (arith, c .before .before .before .before .before .if1 .left)) (c .enum-told4 .given .1)
 
 is-shallow-returns-8 : (t : ℕ) → is-shallow-lts.Need-returns-8 (is-shallow-claims t) (is-shallow-at t) is-shallow.Post
-is-shallow-returns-8 t c = λ e. shallow-other (c .before .before .before .before .before .before .args .ws .now) (c .before .before .before .before .before .before .args .levels) (c .before .before .before .before .before .before .args .levels - 1) (c .before .before .before .before .before .before .args .i) (c .before .before .kind-of .ensures) (omega (arith, c .before .before .before .before .before .if1 .left)) (c .enum-told5 .given .1)
+is-shallow-returns-8 t c =
+    let s = c .before .before .before .before .before .before in
+    λ e. shallow-other (s .args .ws .now) (s .args .levels) (s .args .levels - 1) (s .args .i) (c .before .before .kind-of .ensures) (omega (arith, c .before .before .before .before .before .if1 .left)) (c .enum-told5 .given .1)
 
 pub +is-shallow-spec : {M : Type 1} → statement M
 +is-shallow-spec = close μ-is-shallow λ t. is-shallow-lts.spec (is-shallow-claims t)
