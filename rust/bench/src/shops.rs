@@ -3,7 +3,7 @@
 use crate::cases::{self, Case};
 use crate::clock::{by_turns, row, time};
 use compare::{convert, meaning};
-use locustkeno::Shop;
+use locustkeno::{Shop, Slot};
 use oracle::calls::{self, Original};
 use std::cell::RefCell;
 use std::hint::black_box;
@@ -16,13 +16,14 @@ pub fn all(case: &Case) {
     preview(case);
 }
 
+/// Slots come out on both sides: the library's arrays are unpacked in the time that is taken.
 fn parse(case: &Case) {
     let sheet = convert::sheet(&case.sheet);
     let original = Original::new(&case.plain);
     let [ours, theirs] = by_turns(
         20,
         || (),
-        |()| drop(black_box(case.script.parse(&sheet, 0))),
+        |()| drop(black_box(case.script.parse(&sheet, 0).map(|shop| shop.slots()))),
         || (),
         |()| drop(black_box(original.parse(0))),
     );
@@ -43,9 +44,10 @@ const FRESH: [(&str, usize, bool); 4] = [
 
 /// Into the case's script, which has room for one shop more. It is read anew into arrays that are kept, or copied with all its
 /// arrays: twenty copies of half a megabyte each are more than the processor's nearer caches hold. The original's is made anew.
+/// Slots go in on both sides: packing them into the library's arrays is part of the time.
 fn compile(case: &Case) {
     let sheet = convert::sheet(&case.sheet);
-    let shop = Shop::with_slots(case.slots.iter().map(convert::slot));
+    let given: Vec<Slot> = case.slots.iter().map(convert::slot).collect();
     let slots = calls::original_slots(&case.slots);
     for (call, batch, read) in FRESH {
         let scripts = RefCell::new(vec![case.script.clone(); batch]);
@@ -57,13 +59,14 @@ fn compile(case: &Case) {
                 true => script.read_again(&case.bytes).expect("it is an image"),
                 false => *script = case.script.clone(),
             }
-            place
+            (place, given.clone())
         };
         let [ours, theirs] = by_turns(
             batch,
             fresh,
-            |place| {
+            |(place, slots)| {
                 let script = &mut scripts.borrow_mut()[*place];
+                let shop = Shop::with_slots(slots.drain(..));
                 script.compile(&sheet, 0, &shop).expect("it has room")
             },
             || Original::new(&case.plain),

@@ -56,10 +56,13 @@ impl Shop {
     /// A shop with these slots, however many: the library drops those past the twentieth unchecked and
     /// makes missing ones empty.
     pub fn with_slots(slots: impl IntoIterator<Item = Slot>) -> Self {
-        let mut given = Given::default();
-        // One past the twentieth is enough to be dropped: slots may come without end, as in the source.
-        let slots = slots.into_iter().take(NUM_SLOTS + 1);
-        slots.for_each(|slot| given.push(&slot));
+        let mut given = Given::new();
+        // Slots may come without end, as in the source.
+        let mut slots = slots.into_iter();
+        while given.has_room() {
+            let Some(slot) = slots.next() else { break };
+            given.push(&slot);
+        }
         let mut arrays = Box::new(ShopArrays::new());
         given.put(&mut arrays);
         Self { arrays }
@@ -107,13 +110,16 @@ mod crossing {
         pub lens: [u8; NUM_SLOTS],
     }
 
-    /// Any number of slots, each with 32 codes.
-    #[derive(Default)]
+    /// How many slots are handed to the library at most: one that it drops stands for all past the twentieth.
+    const GIVEN: usize = NUM_SLOTS + 1;
+
+    /// The slots given, each with 32 codes, where they lie: nothing is allocated.
     pub struct Given {
-        items: Vec<i32>,
-        limits: Vec<i16>,
-        codes: Vec<u64>,
-        lens: Vec<u8>,
+        count: usize,
+        items: [i32; GIVEN],
+        limits: [i16; GIVEN],
+        codes: [u64; GIVEN * ENTRIES],
+        lens: [u8; GIVEN],
     }
 
     /// The kind times 2^32, plus the number, plus 2^31.
@@ -169,31 +175,46 @@ mod crossing {
     }
 
     impl Given {
+        pub fn new() -> Self {
+            Self {
+                count: 0,
+                items: [-1; GIVEN],
+                limits: [0; GIVEN],
+                codes: [0; GIVEN * ENTRIES],
+                lens: [0; GIVEN],
+            }
+        }
+
+        pub fn has_room(&self) -> bool {
+            self.count < GIVEN
+        }
+
         /// One slot more. Entries past the 32nd have no place among the codes, but count.
         pub fn push(&mut self, slot: &Slot) {
-            self.items.push(slot.item.map_or(-1, |item| item.0.into()));
-            self.limits.push(slot.limit);
-            self.lens
-                .push(u8::try_from(slot.requirements.len()).unwrap_or(u8::MAX));
-            let end = self.codes.len() + ENTRIES;
-            let entries = slot.requirements.iter().take(ENTRIES);
-            self.codes.extend(entries.map(|entry| code(*entry)));
-            self.codes.resize(end, 0);
+            let i = self.count;
+            self.items[i] = slot.item.map_or(-1, |item| item.0.into());
+            self.limits[i] = slot.limit;
+            self.lens[i] = u8::try_from(slot.requirements.len()).unwrap_or(u8::MAX);
+            let row = &mut self.codes[ENTRIES * i..][..ENTRIES];
+            for (place, entry) in row.iter_mut().zip(&slot.requirements) {
+                *place = code(*entry);
+            }
+            self.count += 1;
         }
 
         /// The twenty slots of a shop into its arrays.
         pub fn put(&self, to: &mut ShopArrays) {
-            // SAFETY: the slices and the arrays are as the library takes them, and none overlaps.
+            // SAFETY: the parts handed in lie in the arrays, the library writes to arrays of its lengths, and none overlaps.
             unsafe {
                 ffi::lk_with_slots(
                     self.items.as_ptr(),
-                    self.items.len(),
+                    self.count,
                     self.limits.as_ptr(),
-                    self.limits.len(),
+                    self.count,
                     self.codes.as_ptr(),
-                    self.codes.len(),
+                    self.count * ENTRIES,
                     self.lens.as_ptr(),
-                    self.lens.len(),
+                    self.count,
                     &mut to.items,
                     &mut to.limits,
                     &mut to.codes,
