@@ -1,19 +1,17 @@
 -- The conditions of the blocks after a block: the block's own joined with its last If, negated for the else (01, Parser: condition joined only through If (negated for the else), otherwise none). Assumes nothing.
 use mathlib.Core.Path.{_≡_, refl, sym, ap, _∙_, subst}
 use mathlib.Core.Bool.{Bool, true, false}
-use mathlib.Core.Option.{Option, none, some}
+use mathlib.Core.Option.{Option, some}
 use mathlib.Core.List.{List}
-use Prim.Native.Nat.{ℕ, zero, suc, _+_, _*_, _-_, _/_, _%_, _≤_, _<_}
+use Prim.Native.Nat.{ℕ, zero, suc, _+_, _*_, _-_, _≤_, _<_}
 use native.Mathlib.Omega.{arith}
 use lib.IntN.{ℤ}
 use lib.ListN.{length}
 use Rattle.model.specs.Expr.{Expr, negate, size}
-use Rattle.model.specs.Sheet.{Sheet}
 use Rattle.model.specs.Memory.{Nodes, nodesIn, tree}
 use Rattle.model.specs.Parse.{join}
-use Rattle.expr.specs.Requirement.{Has}
 use Rattle.expr.specs.Tree.{treeBelow, below-in}
-use Rattle.parse_keys.specs.Tables.{Tables, Grown}
+use Rattle.parse_keys.specs.Tables.{Grown}
 use Rattle.parse_keys.specs.declared.Known.{Known}
 use Rattle.parse_conditions.specs.Gathered.{gathered}
 use Rattle.parse_conditions.specs.Gathers.{gathered-size}
