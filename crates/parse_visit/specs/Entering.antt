@@ -1,17 +1,17 @@
 -- A visit put together: the scan of the block's commands, the slots that they change, the conditions after it. Assumes nothing.
-use mathlib.Core.Path.{_≡_, refl, sym, ap, _∙_, subst}
+use mathlib.Core.Path.{_≡_, refl, sym, ap, _∙_}
 use mathlib.Core.Bool.{Bool, true, cond}
 use mathlib.Core.Option.{Option}
 use mathlib.Core.List.{List}
-use Prim.Native.Nat.{ℕ, suc, _+_, _*_, _≤_, _<_}
+use Prim.Native.Nat.{ℕ, _≤_, _<_}
 use native.Mathlib.Omega.{arith}
 use lib.IntN.{ℤ}
 use lib.ListN.{length, set}
 use lib.Seq.{take-set-lt}
 use Rattle.model.specs.Limits.{blockLimit, nodeLimit}
-use Rattle.model.specs.Expr.{Expr, size}
+use Rattle.model.specs.Expr.{Expr}
 use Rattle.model.specs.Sheet.{Sheet, all}
-use Rattle.model.specs.Memory.{Memory, tree, blockWord}
+use Rattle.model.specs.Memory.{Memory, blockWord}
 use Rattle.model.specs.Parse.{State, Scan, parseRequirements, updateSlots, fewEntries, visited}
 use Rattle.model.specs.Shop as Model
 use Rattle.model.specs.Refusal.{parseTooMany}
@@ -27,7 +27,7 @@ use Rattle.parse_scan.specs.Block.{scanOf, onNextOf, onElseOf, BlockScanned}
 use Rattle.parse_scan.specs.LastIf.{lastIf}
 use Rattle.parse_scan.specs.AllSlots.{slotsThen}
 use Rattle.parse_scan.specs.declared.Scanned.{Scanned}
-use Rattle.parse_visit.specs.State.{noRoom, scannedWalk, Stored, storedIn, Holding, stateOf, commandsOf, scanIn, stateAfter, Open, Entered, Roomy, nodesAt, Leaves}
+use Rattle.parse_visit.specs.State.{noRoom, scannedWalk, Stored, storedIn, Holding, stateOf, scanIn, stateAfter, Open, Entered, nodesAt, Leaves}
 use Rattle.parse_visit.specs.LastIf.{last-low, block-rooted, last-nodes}
 use Rattle.parse_visit.specs.Slots.{Moved, Slots, means, marks-hold}
 use Rattle.parse_visit.specs.Ways.{IfFits, Left, GoesOn}

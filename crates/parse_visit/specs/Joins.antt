@@ -1,37 +1,33 @@
 -- A cell more: what the tables hold after the last If of a block was read and joined to the block's condition. Assumes nothing.
-use mathlib.Core.Path.{_≡_, refl, sym, ap, ap₂, _∙_, subst}
-use mathlib.Core.Bool.{Bool, true, false, not, cond}
+use mathlib.Core.Path.{_≡_, refl, sym, _∙_}
+use mathlib.Core.Bool.{Bool, true, false, cond}
 use mathlib.Core.Option.{Option, none, some}
-use mathlib.Core.List.{List, [], _∷_, _++_, map}
-use Prim.Native.Nat.{ℕ, zero, suc, _+_, _*_, _-_, _/_, _%_, _≤_, _<_}
+use mathlib.Core.List.{List, _++_, map}
+use Prim.Native.Nat.{ℕ, _+_, _*_, _-_, _%_, _≤_, _<_}
 use native.Mathlib.Omega.{arith}
 use native.Mathlib.Decide.{decLe, ℕ-discrete}
-use lib.Dec.{leb, eqb}
-use lib.IntN.{ℤ}
-use lib.ListN.{getD, length, set, take, length-set, length-replicate, replicate}
+use lib.Dec.{eqb}
+use lib.ListN.{getD, length, set, length-set}
 use lib.Seq.{getD-set-same, getD-set-other, slice}
-use borrow.Author.Tests.{eq-eqb, ne-eqb, eqb-true, eqb-false}
+use borrow.Author.Tests.{eq-eqb, ne-eqb, eqb-false}
 use Rattle.model.specs.Expr.{Expr, negate}
-use Rattle.model.specs.Requirement.{Requirement, negateReq}
-use Rattle.model.specs.Sheet.{Sheet, itemCount}
-use Rattle.model.specs.Memory.{nodesIn}
+use Rattle.model.specs.Requirement.{negateReq}
+use Rattle.model.specs.Sheet.{Sheet}
 use Rattle.model.specs.Parse.{join}
 use Rattle.expr.specs.Requirement.{Has}
-use Rattle.expr.specs.Tree.{treeBelow}
-use Rattle.parse_keys.specs.Entries.{turned, Valid}
-use Rattle.parse_keys.specs.Tables.{Tables, Companions, Grown}
+use Rattle.parse_keys.specs.Entries.{Valid}
+use Rattle.parse_keys.specs.Tables.{Tables, Grown}
 use Rattle.parse_keys.specs.Turns.{turn-valid}
 use Rattle.parse_keys.specs.declared.Known.{Known}
 use Rattle.parse_conditions.specs.Gathered.{gathered}
 use Rattle.parse_conditions.specs.Gathers.{gathered-negated}
 use Rattle.parse_conditions.specs.Listing.{Listing}
-use Rattle.parse_filter.specs.Chains.{companionOf, has, cellOf, joinedTo, fromOf, toOf, isElse, signedPart, partOf, topOf, entriesIn, CellAt, Chains}
+use Rattle.parse_filter.specs.Chains.{cellOf, joinedTo, toOf, isElse, signedPart, topOf, entriesIn, CellAt, Chains}
 use Rattle.parse_filter.specs.ChainLaws.{entries-at}
 use Rattle.parse_filter.specs.Frames.{Kept, entries-frame, marked-frame}
 use Rattle.parse_filter.specs.Marks.{MarkedAs}
-use Rattle.parse_filter.specs.declared.Marked.{Marked}
 use Rattle.parse_visit.specs.Entries.{Reads, reads-append, reads-grown, reads-other, reads-plain, listing-reads, listing-valid}
-use Rattle.parse_visit.specs.State.{knownSheet, knows, Stored, storedIn, Sized, gatheredOf, Holding}
+use Rattle.parse_visit.specs.State.{knownSheet, knows, Stored, storedIn, gatheredOf, Holding}
 use Rattle.parse_visit.specs.declared.Walk.{Walk}
 
 -- cell n holds condition p and where the If's entries begin and end

@@ -1,5 +1,5 @@
 -- The last If of a block: its root lies below the kept count, and its nodes are among those of the block, as the judgement counts them. Assumes nothing.
-use mathlib.Core.Path.{_≡_, refl, ap, _∙_, subst}
+use mathlib.Core.Path.{_≡_, refl, ap, _∙_}
 use mathlib.Core.Bool.{Bool, true, false, cond}
 use mathlib.Core.List.{List}
 use Prim.Native.Nat.{ℕ, zero, suc, _+_, _*_, _≤_, _<_}
@@ -12,7 +12,7 @@ use borrow.Author.Tests.{eqb-true}
 use Rattle.model.specs.Reading.{got}
 use Rattle.model.specs.Limits.{nodeLimit}
 use Rattle.model.specs.Expr.{size}
-use Rattle.model.specs.Script.{Command, Block, blockAt, sumOf, commandNodes, commandsNodes, blockNodes}
+use Rattle.model.specs.Script.{Block, blockAt, sumOf, commandNodes, commandsNodes, blockNodes}
 use Rattle.model.specs.Memory.{Memory, Coded, tree, commandWord, commandBy, commandIn, commandsIn, blockWord, blockBy, blockIn, scriptOf}
 use Rattle.model.specs.Record.{judgedRecord}
 use Rattle.memory.specs.Sound.{Root, SoundBy, SoundCommand, SoundCommands, SoundKind}

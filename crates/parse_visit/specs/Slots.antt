@@ -2,26 +2,26 @@
 use mathlib.Core.Path.{_≡_, refl, sym, ap, _∙_}
 use mathlib.Core.Bool.{Bool, true, false, cond}
 use mathlib.Core.Option.{Option, none, some}
-use mathlib.Core.List.{List, [], _∷_, map}
-use Prim.Native.Nat.{ℕ, zero, suc, _*_, _≤_, _<_, max}
+use mathlib.Core.List.{List, [], map}
+use Prim.Native.Nat.{ℕ, _*_, _≤_, _<_, max}
 use native.Mathlib.Omega.{arith}
 use lib.IntN.{ℤ}
 use lib.ListN.{length, length-map}
-use Rattle.model.specs.Limits.{blockLimit, entryLimit, slotCount}
+use Rattle.model.specs.Limits.{blockLimit, slotCount}
 use Rattle.model.specs.Expr.{Expr}
 use Rattle.model.specs.Requirement.{Requirement, settled, extend}
 use Rattle.model.specs.Sheet.{Sheet, itemCount, all}
 use Rattle.model.specs.Shop as Model
 use Rattle.model.specs.Refusal.{parseTooMany}
-use Rattle.model.specs.Parse.{parseRequirements, fewEntries, blank}
+use Rattle.model.specs.Parse.{parseRequirements, fewEntries}
 use Rattle.expr.specs.Requirement.{Has}
 use Rattle.shop.specs.Good.{GoodShop}
 use Rattle.shop.specs.Shapes.{codeOf, slotsOf}
 use Rattle.shop.specs.declared.Shop.{Shop}
-use Rattle.parse_keys.specs.Entries.{entryReq, Valid}
+use Rattle.parse_keys.specs.Entries.{Valid}
 use Rattle.parse_keys.specs.Small.{key-small}
 use Rattle.parse_keys.specs.declared.Known.{Known}
-use Rattle.parse_conditions.specs.Gathered.{gathered, inserted}
+use Rattle.parse_conditions.specs.Gathered.{inserted}
 use Rattle.parse_conditions.specs.Gathers.{gather-inserts}
 use Rattle.parse_filter.specs.Chains.{has, entriesIn, Bounds}
 use Rattle.parse_filter.specs.Filter.{negatedCodes, Holds}
@@ -32,8 +32,8 @@ use Rattle.parse_filter.specs.declared.Filtered.{Filtered}
 use Rattle.parse_scan.specs.Slots.{Stands}
 use Rattle.parse_scan.specs.Table.{tableOf}
 use Rattle.parse_scan.specs.AllSlots.{slotsThen, UpdatedBy, SlotsUpdated}
-use Rattle.parse_visit.specs.Entries.{Reads, reads-map}
-use Rattle.parse_visit.specs.State.{Stored, storedIn, Sized, gatheredOf, Holding}
+use Rattle.parse_visit.specs.Entries.{reads-map}
+use Rattle.parse_visit.specs.State.{Stored, storedIn, gatheredOf, Holding}
 use Rattle.parse_visit.specs.declared.Walk.{Walk}
 use Rattle.parse_visit.specs.declared.Slotted.{Slotted}
 

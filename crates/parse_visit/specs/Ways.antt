@@ -1,19 +1,17 @@
 -- The conditions of the blocks after a block: the block's own joined with its last If, negated for the else (01, Parser: condition joined only through If (negated for the else), otherwise none). Assumes nothing.
 use mathlib.Core.Path.{_≡_, refl, sym, ap, _∙_, subst}
 use mathlib.Core.Bool.{Bool, true, false}
-use mathlib.Core.Option.{Option, none, some}
+use mathlib.Core.Option.{Option, some}
 use mathlib.Core.List.{List}
-use Prim.Native.Nat.{ℕ, zero, suc, _+_, _*_, _-_, _/_, _%_, _≤_, _<_}
+use Prim.Native.Nat.{ℕ, zero, suc, _+_, _*_, _-_, _≤_, _<_}
 use native.Mathlib.Omega.{arith}
 use lib.IntN.{ℤ}
 use lib.ListN.{length}
 use Rattle.model.specs.Expr.{Expr, negate, size}
-use Rattle.model.specs.Sheet.{Sheet}
 use Rattle.model.specs.Memory.{Nodes, nodesIn, tree}
 use Rattle.model.specs.Parse.{join}
-use Rattle.expr.specs.Requirement.{Has}
 use Rattle.expr.specs.Tree.{treeBelow, below-in}
-use Rattle.parse_keys.specs.Tables.{Tables, Grown}
+use Rattle.parse_keys.specs.Tables.{Grown}
 use Rattle.parse_keys.specs.declared.Known.{Known}
 use Rattle.parse_conditions.specs.Gathered.{gathered}
 use Rattle.parse_conditions.specs.Gathers.{gathered-size}
@@ -164,8 +162,9 @@ module _ (ws : List ℕ) (vs : List ℤ) (b : ℕ) (known : Known) (t : Stored) 
   here : r .answer ≡ 0 → r .answer ≡ noRoom → ⊥
   here z q = omega arith
 
-  pub left-joined : (nx el : ℕ) → Left (nodesIn ws vs b) known t w c last f (storedIn ks' kd' cs' ls' (t .seen) (t .alive) cells') (record { walk = r; next = nx; then = 2 * w .cells + 1; other = el; otherwise = 2 * w .cells + 2 })
-  left-joined nx el = record {
+  pub left-joined : (nx el th ot : ℕ) → th ≡ 2 * w .cells + 1 → ot ≡ 2 * w .cells + 2
+      → Left (nodesIn ws vs b) known t w c last f (storedIn ks' kd' cs' ls' (t .seen) (t .alive) cells') (record { walk = r; next = nx; then = th; other = el; otherwise = ot })
+  left-joined nx el th ot ht ho = record {
     conditions = withIf f (w .cells) c e;
     limit = j .limit;
     answer = λ q. rw (j .read q .walk);
@@ -176,8 +175,8 @@ module _ (ws : List ℕ) (vs : List ℤ) (b : ℕ) (known : Known) (t : Stored) 
         j .full q (g .rows) k b (knows known)
         (omega (arith, gathered-size k e false, e-fits n i, g .words, in-place))
         (omega (arith, gathered-size k e false, e-fits n i, g .words, g .keys, keys-place, hold .few));
-    onNext = λ n i z d. if-next f (w .cells) c e ∙ next-of n i;
-    onElse = λ n i z d. if-else f (w .cells) c e ∙ else-of n i;
+    onNext = λ n i z d. ap (withIf f (w .cells) c e) ht ∙ if-next f (w .cells) c e ∙ next-of n i;
+    onElse = λ n i z d. ap (withIf f (w .cells) c e) ho ∙ if-else f (w .cells) c e ∙ else-of n i;
     same = if-same f (w .cells) c e;
     more = λ q. omega (arith, count-after (j .read q));
     most = λ q. omega (arith, count-after (j .read q));

@@ -9,7 +9,7 @@ ghost use Rattle.model.specs.Memory.{memoryIn};
 ghost use Rattle.shop.specs.Good.{GoodShop};
 ghost use Rattle.shop_arrays.specs.Arrays.{arraysIn, shopFrom};
 ghost use Rattle.parse_conditions.specs.Listing.{Place};
-ghost use Rattle.parse_filter.specs.Chains.{entriesIn, Bounds};
+ghost use Rattle.parse_filter.specs.Chains.{Bounds};
 ghost use Rattle.parse_filter.specs.Marks.{MarkedAs};
 ghost use Rattle.parse_scan.specs.Table.{tableOf};
 ghost use Rattle.parse_visit.specs.State.{noRoom, withAnswer, oneCellMore, scannedWalk, storedIn, Held, Open, Visits};

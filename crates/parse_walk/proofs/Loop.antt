@@ -1,12 +1,10 @@
 -- The loop over Turning: where it ends, what a visit wants, and that a turn keeps it. Assumes nothing.
-use mathlib.Core.Path.{_≡_, refl, sym, _∙_}
-use mathlib.Core.Bool.{Bool, true, false}
-use mathlib.Core.Option.{Option}
+use mathlib.Core.Path.{_≡_, _∙_}
+use mathlib.Core.Bool.{Bool, false}
 use mathlib.Core.List.{List}
-use Prim.Native.Nat.{ℕ, suc, _+_, _*_, _-_, _≤_, _<_}
+use Prim.Native.Nat.{ℕ, _+_, _*_, _-_, _≤_, _<_}
 use native.Mathlib.Omega.{arith}
 use lib.ListN.{length, getD, take}
-use Rattle.model.specs.Limits.{blockLimit, nodeLimit}
 use Rattle.model.specs.Refusal.{parseNotCode}
 use Rattle.model.specs.Memory.{Memory}
 use Rattle.shop.specs.declared.Shop.{Shop}
@@ -16,7 +14,7 @@ use Rattle.parse_keys.specs.declared.Known.{Known}
 use Rattle.parse_visit.specs.declared.Walk.{Walk}
 use Rattle.parse_visit.specs.declared.Visited.{Visited}
 use Rattle.parse_visit.specs.State.{noRoom, knownSheet, knows, Stored, Held, Open, Entered, Roomy, nodesAt, Leaves, withAnswer}
-use Rattle.parse_walk.specs.Walks.{Ready, Turning, Lengths, Large, Ends}
+use Rattle.parse_walk.specs.Walks.{Turning, Lengths, Large, Ends}
 use Rattle.parse_walk.proofs.Turns.{few-blocks, Coded, came-end, came-stopped, came-refused, opens, weight-here, one-less, top-low, less, again, same}
 
 -- large tables stay large

@@ -5,12 +5,11 @@ use mathlib.Core.Option.{Option, none, some}
 use mathlib.Core.List.{List, [], _∷_, map}
 use Prim.Native.Nat.{ℕ, zero, suc, _+_, _*_, _-_, _≤_, _<_}
 use native.Mathlib.Nat.{add-zero}
-use native.Mathlib.Decide.{ℕ-discrete}
 use native.Mathlib.Omega.{arith}
 use lib.Dec.{ltb, eqb}
 use lib.ListN.{length, getD, set, take, length-set, List·getD-eq-default}
 use borrow.Author.Tests.{eq-eqb, ltb-true, ltb-false, eqb-true, eqb-false}
-use Rattle.model.specs.Limits.{blockLimit, nodeLimit}
+use Rattle.model.specs.Limits.{blockLimit}
 use Rattle.model.specs.Refusal.{parseNotCode}
 use Rattle.model.specs.Expr.{Expr}
 use Rattle.model.specs.Sheet.{Sheet}
@@ -20,17 +19,15 @@ use Rattle.model.specs.Parse.{State, refuse, scanned, visited}
 use Rattle.memory.specs.RecordLaws.{block-at}
 use Rattle.memory.specs.Transfer.{blocks-counted, judged-kept}
 use Rattle.shop.specs.declared.Shop.{Shop}
-use Rattle.expr.specs.Requirement.{Has}
 use Rattle.reach.specs.Dfs.{Entry, entry, Ways, nowhere, to, to-both, waysBy, pushed, walksA}
 use Rattle.reach.specs.Marks.{unmarked, unmarked-set}
 use Rattle.reach.specs.Weights.{weightOf, weight-set}
 use Rattle.reach.specs.Stacks.{stackOf, topOf, ways, grows, Pushed, isCodeAt, AllLow, top-most, top-free, low-top, low-pushed}
-use Rattle.parse_keys.specs.declared.Known.{Known}
 use Rattle.parse_visit.specs.declared.Walk.{Walk}
 use Rattle.parse_visit.specs.declared.Visited.{Visited}
-use Rattle.parse_visit.specs.State.{Accepted, noRoom, Stored, Holding, Held, stateOf, commandsOf, stateAfter, scanIn, Open, Entered, Roomy, nodesAt, Leaves}
+use Rattle.parse_visit.specs.State.{Accepted, stateOf, commandsOf, stateAfter, scanIn, Open, Entered, nodesAt}
 use Rattle.parse_walk.specs.Steps.{stepBy, step, walks, stack-skip, stack-visit, stack-off}
-use Rattle.parse_walk.specs.Walks.{under, walksIn, nodesLeft, Ready, Turning, Lengths, Large, Came, Walked, WalkedIf, Ends}
+use Rattle.parse_walk.specs.Walks.{under, walksIn, nodesLeft, Ready, Came}
 
 pub few-blocks : (m : Memory) → Accepted m → m .count ≤ blockLimit
 few-blocks m a = judged-kept m (a .blocks) (a .rest) (a .is) .0

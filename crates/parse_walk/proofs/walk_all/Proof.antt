@@ -1,7 +1,7 @@
 -- The loop's invariant: what is on the stack is still to be walked, from what there is so far; the measure is the number of unmarked blocks. Assumes nothing.
-use mathlib.Core.Path.{_≡_, refl, sym, _∙_}
+use mathlib.Core.Path.{refl, sym, _∙_}
 use native.Mathlib.Omega.{arith}
-use lib.ListN.{length, getD, take}
+use lib.ListN.{getD, take}
 use borrow.Author.Tests.{not-true, not-false}
 use Rattle.model.specs.Memory.{memoryIn}
 use Rattle.shop_arrays.specs.Arrays.{arraysIn, shopFrom}

@@ -3,7 +3,6 @@ use mathlib.Core.Path.{refl}
 use native.Mathlib.Omega.{arith}
 use Rattle.parse_walk.proofs.Turns.{few-blocks}
 use Rattle.parse_walk.proofs.Starts.{start-holds, first-block, first-under, large-start, walked-large}
-use lib.ListN.{length-set}
 use borrow.Author.Needs.{needs}
 use Rattle.parse_walk.proofs.walk_many.Statement.{statement}
 use Rattle.parse_walk.proofs.walk_many.Tie as tie
