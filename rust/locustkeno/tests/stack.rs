@@ -1,0 +1,138 @@
+//! Each call on a thread with just the stack that the header promises to be enough, on the largest and nastiest scripts.
+
+use locustkeno::{Item, Save, Script, Sheet, Shop, Slot};
+use std::thread;
+
+const KILOBYTE: usize = 1 << 10;
+const READ: usize = 32 * KILOBYTE;
+const PREVIEW: usize = 32 * KILOBYTE;
+const WRITE: usize = 160 * KILOBYTE;
+const RUN: usize = 160 * KILOBYTE;
+const COMPILE: usize = 160 * KILOBYTE;
+const PARSE: usize = 512 * KILOBYTE;
+
+fn sheet() -> Sheet {
+    Sheet::new(&[None; 3], 0, [Item(0), Item(1), Item(2)])
+}
+
+/// One block whose If tests 63 Nots over variable 0: as deep as an expression may be.
+fn deep() -> Vec<u8> {
+    let mut image = vec![1, 1, 1, 3];
+    image.extend([6; 62]);
+    image.extend([14, 11, 0, 0, 1, 1]);
+    image
+}
+
+/// As many blocks, commands and nodes as a script may have.
+fn largest() -> Vec<u8> {
+    let mut image = vec![0x80, 0x20];
+    for block in 0..4_096u32 {
+        image.extend([1, 4]);
+        for _ in 0..2 {
+            image.extend([2, 1, 6, 6, 6, 11, 0]);
+        }
+        image.extend([0, 0]);
+        image.extend(if block == 0 { [0, 0] } else { [1, 1] });
+    }
+    image
+}
+
+fn number(image: &mut Vec<u8>, mut value: usize) {
+    while value >= 128 {
+        image.push((value % 128) as u8 | 128);
+        value /= 128;
+    }
+    image.push(value as u8);
+}
+
+/// A chain of 4,095 Ifs, each on a flag of its own and with the block before the last as else, above a block that hides a slot.
+fn conditions() -> Vec<u8> {
+    let mut image = Vec::new();
+    number(&mut image, 4_096);
+    for block in 0..4_095 {
+        image.extend([1, 1, 3, 13, 11]);
+        number(&mut image, 2 * block);
+        number(&mut image, 4_094);
+        number(&mut image, block + 2);
+        number(&mut image, 4_095);
+    }
+    image.extend([1, 1, 2, 0, 11, 0xD8, 0x09, 11, 0, 0, 0]);
+    image
+}
+
+/// Two blocks that hold the same commands, and kept nodes that no command holds: judged step by step.
+fn shared() -> Script {
+    let mut arrays = Script::read(&deep()).unwrap().arrays().clone();
+    for word in 0..5 {
+        arrays.bw[5 + word] = arrays.bw[word];
+    }
+    arrays.blocks = 2;
+    arrays.commands = 2;
+    arrays.nodes = 200;
+    Script::from_arrays(arrays)
+}
+
+fn scripts() -> Vec<Script> {
+    let mut scripts: Vec<Script> = [deep(), largest(), conditions()]
+        .iter()
+        .map(|image| Script::read(image).unwrap())
+        .collect();
+    scripts.push(shared());
+    scripts
+}
+
+/// Runs the work on a thread with so much stack: too little ends the whole test program.
+fn on_stack(size: usize, work: impl FnOnce() + Send) {
+    thread::scope(|scope| {
+        let builder = thread::Builder::new().stack_size(size);
+        builder.spawn_scoped(scope, work).unwrap().join().unwrap();
+    });
+}
+
+#[test]
+fn read() {
+    for image in [deep(), largest(), conditions()] {
+        let mut script = Script::default();
+        on_stack(READ, || script.read_again(&image).unwrap());
+    }
+}
+
+#[test]
+fn write() {
+    for script in scripts() {
+        let mut long = vec![0; 400_000];
+        on_stack(WRITE, || drop(script.write_into(&mut long)));
+        on_stack(WRITE, || drop(script.write_into(&mut [0; 4])));
+    }
+}
+
+#[test]
+fn run() {
+    for script in scripts() {
+        let mut save = Save::new(&sheet());
+        on_stack(RUN, || drop(script.run(&sheet(), 0, &mut save, 5_000)));
+    }
+}
+
+#[test]
+fn compile() {
+    let slot = Slot { item: Some(Item(0)), limit: 1, requirements: vec![] };
+    let shop = Shop::with_slots(vec![slot; 20]);
+    for mut script in scripts() {
+        on_stack(COMPILE, || drop(script.compile(&sheet(), 0, &shop)));
+    }
+}
+
+#[test]
+fn parse() {
+    for script in scripts() {
+        on_stack(PARSE, || drop(script.parse(&sheet(), 0)));
+    }
+}
+
+#[test]
+fn preview() {
+    let shop = Shop::with_slots([]);
+    let save = Save::new(&sheet());
+    on_stack(PREVIEW, || drop(shop.preview(&sheet(), &save)));
+}
