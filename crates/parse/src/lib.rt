@@ -60,7 +60,7 @@ pub fn parse_arrays(
         lens,
         counts,
         known,
-        setup.0 as u16,
+        setup,
     );
     if w.answer != 0 {
         clear_arrays(items, limits, codes, lens);

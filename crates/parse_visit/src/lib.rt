@@ -18,6 +18,7 @@ ghost use Rattle.parse_visit.specs.Slots.{Under, Slots};
 ghost use Rattle.parse_visit.specs.Ways.{placeOf, Joined, ReadsOn, GoesOn};
 use memory::Counts;
 use memory::index_of;
+use model::BlockNo;
 use parse_conditions::FULL;
 use parse_conditions::read_condition;
 use parse_filter::Filtered;
@@ -251,11 +252,12 @@ fn join(
 }
 
 // Word j of block b.
-fn block_word(bw: &[u16; 20480], b: u16, j: usize) -> u16
-    requires { ⌜ (b < blockLimit) × (j < 5) ⌝ }
-    ensures { λ r. ⌜ r ≡ getD (now (bw .entry)) (5 * b + j) 0 ⌝ }
+fn block_word(bw: &[u16; 20480], b: BlockNo, j: usize) -> u16
+    requires { ⌜ (b .0 < blockLimit) × (j < 5) ⌝ }
+    ensures { λ r. ⌜ r ≡ getD (now (bw .entry)) (5 * b .0 + j) 0 ⌝ }
 {
-    bw[5 * index_of(b) + j]
+    let at = b.0 as usize;
+    bw[5 * at + j]
 }
 
 fn reads_on(answer: u8, last: u16, next: u16) -> bool
@@ -287,11 +289,11 @@ fn go_on(
     n: usize,
     last: u16,
     w: Walk,
-    b: u16,
+    b: BlockNo,
     c: u16,
 ) -> Visited
-    requires { ⌜ ((n ≤ 32768) × ((w .cells < blockLimit) × (b < blockLimit))) × ((w .answer ≡ noRoom → ⊥) × Place (now keys) (now kids) (now companions) (now list) (placeOf w)) ⌝ }
-    ensures { λ r. ⌜ GoesOn (now (ws .entry)) (now (val .entry)) n known (now (keys .entry)) (now (kids .entry)) (now (companions .entry)) (now (list .entry)) (now (cells .entry)) w c last (now (keys .exit)) (now (kids .exit)) (now (companions .exit)) (now (list .exit)) (now (cells .exit)) r × ((r .next ≡ getD (now (bw .entry)) (5 * b + 3) 0) × (r .other ≡ getD (now (bw .entry)) (5 * b + 4) 0)) ⌝ }
+    requires { ⌜ ((n ≤ 32768) × ((w .cells < blockLimit) × (b .0 < blockLimit))) × ((w .answer ≡ noRoom → ⊥) × Place (now keys) (now kids) (now companions) (now list) (placeOf w)) ⌝ }
+    ensures { λ r. ⌜ GoesOn (now (ws .entry)) (now (val .entry)) n known (now (keys .entry)) (now (kids .entry)) (now (companions .entry)) (now (list .entry)) (now (cells .entry)) w c last (now (keys .exit)) (now (kids .exit)) (now (companions .exit)) (now (list .exit)) (now (cells .exit)) r × ((r .next ≡ getD (now (bw .entry)) (5 * b .0 + 3) 0) × (r .other ≡ getD (now (bw .entry)) (5 * b .0 + 4) 0)) ⌝ }
 {
     let next = block_word(bw, b, 3);
     let other = block_word(bw, b, 4);
@@ -367,16 +369,17 @@ pub fn visit(
     k: Counts,
     known: Known,
     w: Walk,
-    b: u16,
+    b: BlockNo,
     c: u16,
 ) -> Visited
     requires { ⌜ Held known (storedIn (now keys) (now kids) (now companions) (now list) (now seen) (now alive) (now cells)) w ⌝ }
-    requires { ⌜ Open (memoryIn (now ws) (now val) (now cw) (now bw) (k .nodes) (k .commands) (k .blocks)) (shopFrom (arraysIn (now items) (now limits) (now codes) (now lens))) w b c ⌝ }
-    ensures { λ r. ⌜ Visits (memoryIn (now (ws .entry)) (now (val .entry)) (now (cw .entry)) (now (bw .entry)) (k .nodes) (k .commands) (k .blocks)) known (storedIn (now (keys .entry)) (now (kids .entry)) (now (companions .entry)) (now (list .entry)) (now (seen .entry)) (now (alive .entry)) (now (cells .entry))) (now (marks .entry)) (shopFrom (arraysIn (now (items .entry)) (now (limits .entry)) (now (codes .entry)) (now (lens .entry)))) w b c (storedIn (now (keys .exit)) (now (kids .exit)) (now (companions .exit)) (now (list .exit)) (now (seen .exit)) (now (alive .exit)) (now (cells .exit))) (now (marks .exit)) (shopFrom (arraysIn (now (items .exit)) (now (limits .exit)) (now (codes .exit)) (now (lens .exit)))) r ⌝ }
+    requires { ⌜ Open (memoryIn (now ws) (now val) (now cw) (now bw) (k .nodes) (k .commands) (k .blocks)) (shopFrom (arraysIn (now items) (now limits) (now codes) (now lens))) w (b .0) c ⌝ }
+    ensures { λ r. ⌜ Visits (memoryIn (now (ws .entry)) (now (val .entry)) (now (cw .entry)) (now (bw .entry)) (k .nodes) (k .commands) (k .blocks)) known (storedIn (now (keys .entry)) (now (kids .entry)) (now (companions .entry)) (now (list .entry)) (now (seen .entry)) (now (alive .entry)) (now (cells .entry))) (now (marks .entry)) (shopFrom (arraysIn (now (items .entry)) (now (limits .entry)) (now (codes .entry)) (now (lens .entry)))) w (b .0) c (storedIn (now (keys .exit)) (now (kids .exit)) (now (companions .exit)) (now (list .exit)) (now (seen .exit)) (now (alive .exit)) (now (cells .exit))) (now (marks .exit)) (shopFrom (arraysIn (now (items .exit)) (now (limits .exit)) (now (codes .exit)) (now (lens .exit)))) r ⌝ }
 {
     let first = block_word(bw, b, 1);
     let held = block_word(bw, b, 2);
-    marks[index_of(b)] = true;
+    let at = b.0 as usize;
+    marks[at] = true;
     let s = scan_block(ws, val, cw, ids, counts, first, held, w.limit);
     let old = w.marked;
     let a = slots_after(

@@ -11,6 +11,7 @@ ghost use Rattle.shop_arrays.specs.Arrays.{arraysIn, shopFrom};
 ghost use Rattle.parse_visit.specs.State.{Accepted, storedIn, Holding};
 ghost use Rattle.parse_walk.specs.Walks.{startWalk, noneYet, Walked, WalkedIf, Ends};
 use memory::Counts;
+use model::BlockNo;
 use parse_filter::Marked;
 use parse_keys::Known;
 use parse_visit::NO_ROOM;
@@ -72,7 +73,7 @@ fn walk_all(
             return w;
         }
         let d = top - 1;
-        let b = stack[2 * d];
+        let b = BlockNo(stack[2 * d] as u32);
         if !is_code(bw, k.blocks, b) {
             return answered(w, 10);
         }
@@ -125,10 +126,11 @@ fn walk_few(
     lens: &mut [u8; 20],
     k: Counts,
     known: Known,
-    setup: u16,
+    setup: BlockNo,
 ) -> Walk
     requires { ⌜ Accepted (memoryIn (now ws) (now val) (now cw) (now bw) (k .nodes) (k .commands) (k .blocks)) × (shopFrom (arraysIn (now items) (now limits) (now codes) (now lens)) ≡ noShop) ⌝ }
-    ensures { λ r. ⌜ WalkedIf known (memoryIn (now (ws .entry)) (now (val .entry)) (now (cw .entry)) (now (bw .entry)) (k .nodes) (k .commands) (k .blocks)) setup (shopFrom (arraysIn (now (items .exit)) (now (limits .exit)) (now (codes .exit)) (now (lens .exit)))) r ⌝ }
+    requires { ⌜ setup .0 < k .blocks ⌝ }
+    ensures { λ r. ⌜ WalkedIf known (memoryIn (now (ws .entry)) (now (val .entry)) (now (cw .entry)) (now (bw .entry)) (k .nodes) (k .commands) (k .blocks)) (setup .0) (shopFrom (arraysIn (now (items .exit)) (now (limits .exit)) (now (codes .exit)) (now (lens .exit)))) r ⌝ }
 {
     let mut keys = [0u64; 256];
     let mut kids = [0u16; 512];
@@ -139,7 +141,7 @@ fn walk_few(
     let mut cells = [0u16; 384];
     let mut stack = [0u16; 516];
     let mut marks = [false; 4096];
-    stack[0] = setup;
+    stack[0] = setup.0 as u16;
     walk_all(
         ws,
         val,
@@ -175,10 +177,11 @@ fn walk_many(
     lens: &mut [u8; 20],
     k: Counts,
     known: Known,
-    setup: u16,
+    setup: BlockNo,
 ) -> Walk
     requires { ⌜ Accepted (memoryIn (now ws) (now val) (now cw) (now bw) (k .nodes) (k .commands) (k .blocks)) × (shopFrom (arraysIn (now items) (now limits) (now codes) (now lens)) ≡ noShop) ⌝ }
-    ensures { λ r. ⌜ ((h : Sheet) → Has h (known .items) (known .atcs) → Walked h (memoryIn (now (ws .entry)) (now (val .entry)) (now (cw .entry)) (now (bw .entry)) (k .nodes) (k .commands) (k .blocks)) setup (shopFrom (arraysIn (now (items .exit)) (now (limits .exit)) (now (codes .exit)) (now (lens .exit)))) r) ⌝ }
+    requires { ⌜ setup .0 < k .blocks ⌝ }
+    ensures { λ r. ⌜ ((h : Sheet) → Has h (known .items) (known .atcs) → Walked h (memoryIn (now (ws .entry)) (now (val .entry)) (now (cw .entry)) (now (bw .entry)) (k .nodes) (k .commands) (k .blocks)) (setup .0) (shopFrom (arraysIn (now (items .exit)) (now (limits .exit)) (now (codes .exit)) (now (lens .exit)))) r) ⌝ }
 {
     let mut keys = [0u64; 12289];
     let mut kids = [0u16; 24578];
@@ -189,7 +192,7 @@ fn walk_many(
     let mut cells = [0u16; 12288];
     let mut stack = [0u16; 8194];
     let mut marks = [false; 4096];
-    stack[0] = setup;
+    stack[0] = setup.0 as u16;
     walk_all(
         ws,
         val,
@@ -225,10 +228,11 @@ pub fn walk(
     lens: &mut [u8; 20],
     k: Counts,
     known: Known,
-    setup: u16,
+    setup: BlockNo,
 ) -> Walk
     requires { ⌜ Accepted (memoryIn (now ws) (now val) (now cw) (now bw) (k .nodes) (k .commands) (k .blocks)) × (shopFrom (arraysIn (now items) (now limits) (now codes) (now lens)) ≡ noShop) ⌝ }
-    ensures { λ r. ⌜ ((h : Sheet) → Has h (known .items) (known .atcs) → Walked h (memoryIn (now (ws .entry)) (now (val .entry)) (now (cw .entry)) (now (bw .entry)) (k .nodes) (k .commands) (k .blocks)) setup (shopFrom (arraysIn (now (items .exit)) (now (limits .exit)) (now (codes .exit)) (now (lens .exit)))) r) ⌝ }
+    requires { ⌜ setup .0 < k .blocks ⌝ }
+    ensures { λ r. ⌜ ((h : Sheet) → Has h (known .items) (known .atcs) → Walked h (memoryIn (now (ws .entry)) (now (val .entry)) (now (cw .entry)) (now (bw .entry)) (k .nodes) (k .commands) (k .blocks)) (setup .0) (shopFrom (arraysIn (now (items .exit)) (now (limits .exit)) (now (codes .exit)) (now (lens .exit)))) r) ⌝ }
 {
     let w = walk_few(ws, val, cw, bw, items, limits, codes, lens, k, known, setup);
     if w.answer != NO_ROOM {

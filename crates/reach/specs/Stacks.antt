@@ -91,8 +91,8 @@ module _ (bw : List ℕ) (nb b : ℕ) where
   pub code-past : nb ≤ b → false ≡ isCodeAt bw nb b
   code-past h = rw (le-ltb b nb h)
 
-  pub code-read : (i : ℕ) → i ≡ b → b < nb → eqb (getD bw (5 * i) 0) 1 ≡ isCodeAt bw nb b
-  code-read i e h = rw (e, lt-ltb b nb h)
+  pub code-read : b < nb → eqb (getD bw (5 * b) 0) 1 ≡ isCodeAt bw nb b
+  code-read h = rw (lt-ltb b nb h)
 
 -- ---- the top
 

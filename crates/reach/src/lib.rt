@@ -6,6 +6,7 @@ ghost use lib.ListN.{length, getD, take};
 ghost use Rattle.reach.specs.Dfs.{entry, to};
 ghost use Rattle.reach.specs.Stacks.{isCodeAt, topOf, ways, Pushed};
 use memory::index_of;
+use model::BlockNo;
 
 // Whether block b is one of nb blocks and marked.
 fn is_marked(marks: &[bool; 4096], nb: u16, b: u16) -> bool
@@ -58,13 +59,14 @@ pub fn push(stack: &mut [u16], depth: usize, nx: u16, c: u16, el: u16, e: u16) -
 }
 
 // Whether block b is one of nb blocks and code.
-pub fn is_code(bw: &[u16; 20480], nb: u16, b: u16) -> bool
+pub fn is_code(bw: &[u16; 20480], nb: u16, b: BlockNo) -> bool
     requires { ⌜ nb ≤ 4096 ⌝ }
-    ensures { λ r. ⌜ r ≡ isCodeAt (now (bw .entry)) nb b ⌝ }
+    ensures { λ r. ⌜ r ≡ isCodeAt (now (bw .entry)) nb (b .0) ⌝ }
 {
-    if nb <= b {
+    let n = b.0;
+    if nb as u32 <= n {
         return false;
     }
-    let i = index_of(b);
+    let i = n as usize;
     bw[5 * i] == 1
 }

@@ -7,7 +7,6 @@ use Rattle.model.specs.Sheet as Model
 use Rattle.shop.specs.Shapes.{sheetOf}
 use Rattle.shop_arrays.specs.Arrays.{shopFrom}
 use Rattle.shop_arrays.specs.Slots.{shop-none}
-use Rattle.memory.specs.Transfer.{judged-kept}
 use Rattle.checks.specs.Calls.{callIn}
 use Rattle.checks.specs.Passed.{call-passed}
 use Rattle.parse.specs.Checked.{parse-refused, parse-stopped, parse-read, items-counted, atcs-counted, items-low}
@@ -34,20 +33,17 @@ check-call-requires c κs = search needs
 returns : tie.Need-returns
 returns c = let s = c .before .before .before .before .before .before .before .before in parse-refused (sheet s) (memory s) (s .args .setup .0) _ (c .before .check-call .ensures) (c .if1 .taken) _ (c .before .before .clear-arrays .ensures)
 
-cast-walk : tie.Need-cast-walk
-cast-walk c = let s = c .before .before .before .before .before .before .before .before in record { fits = omega (arith, items-low (s .args .attached .now) (s .args .sheet) (memory s) (s .args .setup .0) (passes (c))) }
-
-cast-walk-2 : tie.Need-cast-walk-2
-cast-walk-2 c = let s = c .before .before .before .before .before .before .before .before .before .before .before .before .before in let p = call-passed (sheet s) (memory s) (s .args .setup .0) (passes (c .before .before .before .before .before)) in record { fits = omega (arith, p .inside, judged-kept (memory s) (p .blocks) (p .rest) (p .judged) .0) }
+cast-t23 : tie.Need-cast-t23
+cast-t23 c = let s = c .before .before .before .before .before .before .before .before in record { fits = omega (arith, items-low (s .args .attached .now) (s .args .sheet) (memory s) (s .args .setup .0) (passes (c))) }
 
 walk-requires : tie.Need-walk-requires
 walk-requires c κs =
-    let c1 = c .before .before .before .before .before in
+    let c1 = c .before .before .before .before in
     let c2 = c1 .before .before in
     let c3 = c2 .before .before .before .before .before .before in
     let s = c3 in
     let p = call-passed (sheet s) (memory s) (s .args .setup .0) (passes (c1)) in
-    (record { blocks = p .blocks; rest = p .rest; is = p .judged }, ap shopFrom (c2 .clear-arrays .ensures) ∙ shop-none)
+    ((record { blocks = p .blocks; rest = p .rest; is = p .judged }, ap shopFrom (c2 .clear-arrays .ensures) ∙ shop-none), p .inside)
 
 clear-arrays-requires-2 : tie.Need-clear-arrays-requires-2
 clear-arrays-requires-2 c κs = search needs
@@ -56,7 +52,7 @@ returns-2 : tie.Need-returns-2
 returns-2 c =
     let c1 = c .before .before .before .before .before in
     let c2 = c1 .before .before in
-    let c3 = c2 .before .before .before .before .before .before in
+    let c3 = c2 .before .before .before .before .before in
     let c4 = c3 .before .before .before .before .before .before .before .before in
     let s = c4 in
     let w = c2 .walk .ensures (sheet s) (record { items = items-counted (s .args .attached .now) (s .args .sheet); atcs = atcs-counted (s .args .attached .now) (s .args .sheet) }) in
@@ -69,7 +65,7 @@ returns-3 : tie.Need-returns-3
 returns-3 c =
     let c1 = c .before .before .before .before .before in
     let c2 = c1 .before .before in
-    let c3 = c2 .before .before .before .before .before .before in
+    let c3 = c2 .before .before .before .before .before in
     let c4 = c3 .before .before .before .before .before .before .before .before in
     let s = c4 in
     let o = c1 .if2 .left in
@@ -83,8 +79,7 @@ parse-arrays-spec =
     clear-arrays-requires
     check-call-requires
     returns
-    cast-walk
-    cast-walk-2
+    cast-t23
     walk-requires
     clear-arrays-requires-2
     returns-2

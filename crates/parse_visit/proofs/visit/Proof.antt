@@ -17,27 +17,27 @@ block-word-requires c κs = (open-block (c .before .before .before .before .befo
 block-word-requires-2 : tie.Need-block-word-requires-2
 block-word-requires-2 c κs = (open-block (c .before .before .before .before .before .before .before .before .pre .1), omega arith)
 
-index-of-requires : tie.Need-index-of-requires
-index-of-requires c κs = search needs
+cast-at : tie.Need-cast-at
+cast-at c = search needs
 
 element-write-marks : tie.Need-element-write-marks
-element-write-marks c = let l = open-block (c .before .before .before .before .before .before .before .before .before .before .pre .1) in omega (arith, c .index-of .ensures)
+element-write-marks c = let l = open-block (c .before .before .before .before .before .before .before .before .before .before .pre .1) in omega arith
 
 scan-block-requires : tie.Need-scan-block-requires
 scan-block-requires c κs = open-ready (c .before .before .before .before .before .before .before .before .before .before .before .before .before .pre .1) _ _ (c .before .before .before .before .block-word2 .ensures) (c .before .before .before .before .before .block-word .ensures)
 
-index-of-requires-2 : tie.Need-index-of-requires-2
-index-of-requires-2 c κs = search needs
+index-of-requires : tie.Need-index-of-requires
+index-of-requires c κs = search needs
 
 slots-after-requires : tie.Need-slots-after-requires
 slots-after-requires c κs =
     let c1 = c .before .before .before .before .before .before .before .before .before .before .before .before .before .before .before .before .before .before .before .before .before .before .before .before .before .before .before .before in
     let o = c1 .pre .1 in
     let q = c1 .pre .0 .holding in
-    ((rw (c .index-of2 .ensures) (bounds _ _ _ _ q _ (o .low) (open-cells o)), q .marked), o .good)
+    ((rw (c .index-of .ensures) (bounds _ _ _ _ q _ (o .low) (open-cells o)), q .marked), o .good)
 
-index-of-requires-3 : tie.Need-index-of-requires-3
-index-of-requires-3 c κs = search needs
+index-of-requires-2 : tie.Need-index-of-requires-2
+index-of-requires-2 c κs = search needs
 
 scanned-requires : tie.Need-scanned-requires
 scanned-requires c κs = search needs
@@ -50,7 +50,7 @@ go-on-requires c κs =
     let o = c3 .pre .1 in
     let q = c3 .pre .0 .holding in
     let n = open-nodes o in (
-      (omega (arith, c1 .index-of3 .ensures), (rw (c .scanned .ensures) (open-cells o), open-block o)),
+      (omega (arith, c1 .index-of2 .ensures), (rw (c .scanned .ensures) (open-cells o), open-block o)),
       (
         (λ z. omega (
           arith,
@@ -94,15 +94,14 @@ returns c =
     let c7 = c6 .before in
     let c8 = c7 .before .before .before .before .before .before .before .before .before .before .before .before .before .before in
     let c9 = c8 .before in
-    let c10 = c9 .before .before .before in
+    let c10 = c9 .before .before .before .before in
     let c11 = c10 .before in
-    let c12 = c11 .before in
-    let c13 = c12 .before .before .before .before .before .before .before .before in
-    let a = c13 .args in
-    λ f hold. visits (c13 .pre .1) _ _ _ f hold _ _ (c11 .block-word2 .ensures) (c12 .block-word .ensures) _ (toZ-ofZ {w = w16} {z = a .w .limit} (record {
+    let c12 = c11 .before .before .before .before .before .before .before .before in
+    let a = c12 .args in
+    λ f hold. visits (c12 .pre .1) _ _ _ f hold _ _ (c10 .block-word2 .ensures) (c11 .block-word .ensures) _ (toZ-ofZ {w = w16} {z = a .w .limit} (record {
       sfits = c9 .struct-told .given .0 .1;
-    })) (c8 .scan-block .result) _ _ (c8 .scan-block .ensures) _ _ _ (c6 .slots-after .result) (rw (c7 .index-of2 .ensures) at (c6 .slots-after .ensures))
-    (c5 .seen .given) (c4 .alive .given) _ _ _ _ _ _ _ (c1 .go-on .result) (c3 .index-of3 .ensures) (c10 .index-of .ensures) (rw (c2 .scanned .ensures) at (c1 .go-on .ensures .0))
+    })) (c8 .scan-block .result) _ _ (c8 .scan-block .ensures) _ _ _ (c6 .slots-after .result) (rw (c7 .index-of .ensures) at (c6 .slots-after .ensures))
+    (c5 .seen .given) (c4 .alive .given) _ _ _ _ _ _ (c1 .go-on .result) (c3 .index-of2 .ensures) (rw (c2 .scanned .ensures) at (c1 .go-on .ensures .0))
     (c1 .go-on .ensures .1 .0) (c1 .go-on .ensures .1 .1)
 
 pub visit-spec : {M : Type 1} → statement M
@@ -111,12 +110,12 @@ visit-spec =
     (tie.spec
     block-word-requires
     block-word-requires-2
-    index-of-requires
+    cast-at
     element-write-marks
     scan-block-requires
-    index-of-requires-2
+    index-of-requires
     slots-after-requires
-    index-of-requires-3
+    index-of-requires-2
     scanned-requires
     go-on-requires
     same-length

@@ -16,7 +16,9 @@ clear-arrays-requires : tie.Need-clear-arrays-requires
 clear-arrays-requires c κs = search needs
 
 walk-many-requires : tie.Need-walk-many-requires
-walk-many-requires c κs = (c .before .before .before .before .before .before .before .before .before .before .before .before .before .before .before .before .pre .0, ap shopFrom (c .before .before .before .before .clear-arrays .ensures) ∙ shop-none)
+walk-many-requires c κs =
+    let a = c .before .before .before .before .before .before .before .before .before .before .before .before .before .before .before .before .pre in
+    ((a .0 .0, ap shopFrom (c .before .before .before .before .clear-arrays .ensures) ∙ shop-none), a .1)
 
 returns-2 : tie.Need-returns-2
 returns-2 c = search needs

@@ -1,5 +1,6 @@
 -- The loop's invariant: what is on the stack is still to be walked, from what there is so far; the measure is the number of unmarked blocks. Assumes nothing.
-use mathlib.Core.Path.{refl, sym, _∙_}
+use mathlib.Core.Path.{_≡_, refl, sym, _∙_}
+use Prim.Native.Nat.{_*_, _-_}
 use native.Mathlib.Omega.{arith}
 use lib.ListN.{getD, take}
 use borrow.Author.Tests.{not-true, not-false}
@@ -64,14 +65,17 @@ returns c = ends-none (c .before .before .before .before .before .loop .inv .0) 
 sub-d : tie.Need-sub-d Inv-loop μ-loop
 sub-d c = search needs
 
-mul-b : tie.Need-mul-b Inv-loop μ-loop
-mul-b c = omega (arith, top-few (c .before .before .before .before .before .loop .inv .0 .ready) (c .before .top-unmarked .ensures))
+mul-t32 : tie.Need-mul-t32 Inv-loop μ-loop
+mul-t32 c = omega (arith, top-few (c .before .before .before .before .before .loop .inv .0 .ready) (c .before .top-unmarked .ensures))
 
-mul-b-2 : tie.Need-mul-b-2 Inv-loop μ-loop
-mul-b-2 c = omega (arith, top-few (c .before .before .before .before .before .loop .inv .0 .ready) (c .before .top-unmarked .ensures))
+mul-t33 : tie.Need-mul-t33 Inv-loop μ-loop
+mul-t33 c = omega (arith, top-few (c .before .before .before .before .before .loop .inv .0 .ready) (c .before .top-unmarked .ensures))
 
-slice-read-b : tie.Need-slice-read-b Inv-loop μ-loop
-slice-read-b c = omega (arith, top-fits (c .before .before .before .before .before .before .loop .inv .0 .ready) (c .before .before .top-unmarked .ensures))
+slice-read-t35 : tie.Need-slice-read-t35 Inv-loop μ-loop
+slice-read-t35 c = omega (arith, top-fits (c .before .before .before .before .before .before .loop .inv .0 .ready) (c .before .before .top-unmarked .ensures))
+
+cast-t36 : tie.Need-cast-t36 Inv-loop μ-loop
+cast-t36 c = omega (arith, c .slice-known9 .given (2 * (c .before .before .top-unmarked .result - 1)))
 
 is-code-requires : tie.Need-is-code-requires Inv-loop μ-loop
 is-code-requires c κs = few-blocks _ (c .before .before .before .before .before .before .loop .inv .0 .ready .accepted)
@@ -335,9 +339,10 @@ walk-all-spec =
     same-length-8
     returns
     sub-d
-    mul-b
-    mul-b-2
-    slice-read-b
+    mul-t32
+    mul-t33
+    slice-read-t35
+    cast-t36
     is-code-requires
     answered-requires
     same-length-9

@@ -1,10 +1,14 @@
 -- Small tables: all zeros, and the setup block on the stack. Assumes nothing.
 use mathlib.Core.Path.{refl}
 use native.Mathlib.Omega.{arith}
+use Rattle.parse_walk.proofs.Turns.{few-blocks}
 use Rattle.parse_walk.proofs.Starts.{start-holds, first-block, first-under, walked-from}
 use borrow.Author.Needs.{needs}
 use Rattle.parse_walk.proofs.walk_few.Statement.{statement}
 use Rattle.parse_walk.proofs.walk_few.Tie as tie
+
+cast-stack : tie.Need-cast-stack
+cast-stack c = record { fits = omega (arith, few-blocks _ (c .before .pre .0 .0), c .before .pre .1) }
 
 array-write-stack : tie.Need-array-write-stack
 array-write-stack c = search needs
@@ -35,15 +39,15 @@ slice-aggregate-walk-all-8 c = search needs
 
 walk-all-requires : tie.Need-walk-all-requires
 walk-all-requires c κs =
-    let c1 = c .before .before .before .before .before .before .before .before .before .before .before .before .before in
-    let a = c1 .pre in (
+    let c1 = c .before .before .before .before .before .before .before .before .before .before .before .before .before .before in
+    let a = c1 .pre .0 in (
       (
         start-holds _ 256 512 512 512 512 512 384 (omega arith) (omega arith) (omega arith) (omega arith) (omega arith) (omega arith) (omega arith),
         (
           refl,
           (
             search needs,
-            first-under 516 (c1 .args .setup) (omega arith),
+            first-under 516 (c1 .args .setup .0) (omega arith),
           ),
         ),
       ),
@@ -51,12 +55,13 @@ walk-all-requires c κs =
     )
 
 returns : tie.Need-returns
-returns c = walked-from (c .before .before .before .before .before .before .before .before .walk-all .ensures) _ (first-block 516 (c .before .before .before .before .before .before .before .before .before .before .before .before .before .before .before .before .before .before .before .before .before .before .args .setup) (omega arith))
+returns c = walked-from (c .before .before .before .before .before .before .before .before .walk-all .ensures) _ (first-block 516 (c .before .before .before .before .before .before .before .before .before .before .before .before .before .before .before .before .before .before .before .before .before .before .before .args .setup .0) (omega arith))
 
 pub walk-few-spec : {M : Type 1} → statement M
 walk-few-spec =
     tie.close
     (tie.spec
+    cast-stack
     array-write-stack
     slice-aggregate-walk-all
     slice-aggregate-walk-all-2

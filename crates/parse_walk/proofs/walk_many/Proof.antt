@@ -7,6 +7,9 @@ use borrow.Author.Needs.{needs}
 use Rattle.parse_walk.proofs.walk_many.Statement.{statement}
 use Rattle.parse_walk.proofs.walk_many.Tie as tie
 
+cast-stack : tie.Need-cast-stack
+cast-stack c = record { fits = omega (arith, few-blocks _ (c .before .pre .0 .0), c .before .pre .1) }
+
 array-write-stack : tie.Need-array-write-stack
 array-write-stack c = search needs
 
@@ -36,13 +39,13 @@ slice-aggregate-walk-all-8 c = search needs
 
 walk-all-requires : tie.Need-walk-all-requires
 walk-all-requires c κs =
-    let c1 = c .before .before .before .before .before .before .before .before .before .before .before .before .before in
-    let a = c1 .pre in (
+    let c1 = c .before .before .before .before .before .before .before .before .before .before .before .before .before .before in
+    let a = c1 .pre .0 in (
       (
         start-holds _ 12289 24578 24578 12288 24578 12288 12288 (omega arith) (omega arith) (omega arith) (omega arith) (omega arith) (omega arith) (omega arith),
         (
           refl,
-          (search needs, first-under 8194 (c1 .args .setup) (omega arith)),
+          (search needs, first-under 8194 (c1 .args .setup .0) (omega arith)),
         ),
       ),
       a,
@@ -51,9 +54,9 @@ walk-all-requires c κs =
 returns : tie.Need-returns
 returns c =
     let c1 = c .before .before .before .before .before .before .before .before in
-    let c2 = c1 .before .before .before .before .before .before .before .before .before .before .before .before .before .before in
-    let b = few-blocks _ (c2 .pre .0) in
-    let s = c2 .args .setup in
+    let c2 = c1 .before .before .before .before .before .before .before .before .before .before .before .before .before .before .before in
+    let b = few-blocks _ (c2 .pre .0 .0) in
+    let s = c2 .args .setup .0 in
     λ h k. walked-large (c1 .walk-all .ensures) _ (first-block 8194 s (omega arith)) (large-start _ b 12289 24578 24578 12288 24578 12288 12288 8194 s (omega arith)
     (omega arith) (omega arith) (omega arith)) h k
 
@@ -61,6 +64,7 @@ pub walk-many-spec : {M : Type 1} → statement M
 walk-many-spec =
     tie.close
     (tie.spec
+    cast-stack
     array-write-stack
     slice-aggregate-walk-all
     slice-aggregate-walk-all-2

@@ -8,8 +8,8 @@ use Rattle.reach.proofs.is_code.Tie as tie
 returns : tie.Need-returns
 returns c = code-past (now (c .before .args .bw)) _ _ (c .if1 .taken)
 
-index-of-requires : tie.Need-index-of-requires
-index-of-requires c κs = search needs
+cast-i : tie.Need-cast-i
+cast-i c = search needs
 
 mul-result : tie.Need-mul-result
 mul-result c = search needs
@@ -21,9 +21,8 @@ element-copy-out-result : tie.Need-element-copy-out-result
 element-copy-out-result c = search needs
 
 returns-2 : tie.Need-returns-2
-returns-2 c = code-read (now (c .before .before .before .args .bw)) _ _ _ (c .before .index-of .ensures) (c .before .before .if1 .left)
+returns-2 c = code-read (now (c .before .before .args .bw)) _ _ (c .before .if1 .left)
 
 pub is-code-spec : {M : Type 1} → statement M
 is-code-spec =
-    tie.close
-    (tie.spec returns index-of-requires mul-result mul-result-2 element-copy-out-result returns-2)
+    tie.close (tie.spec returns cast-i mul-result mul-result-2 element-copy-out-result returns-2)
