@@ -1,6 +1,6 @@
 //! Each call on a thread with just the stack that the header promises to be enough, on the largest and nastiest scripts.
 
-use locustkeno::{Item, Save, Script, Sheet, Shop, Slot};
+use locustkeno::{Item, Refused, Save, Script, Sheet, Shop, Slot};
 use std::thread;
 
 const KILOBYTE: usize = 1 << 10;
@@ -87,6 +87,16 @@ fn on_stack(size: usize, work: impl FnOnce() + Send) {
         let builder = thread::Builder::new().stack_size(size);
         builder.spawn_scoped(scope, work).unwrap().join().unwrap();
     });
+}
+
+/// The scripts are what they are meant to be: accepted, and the conditions more than a slot takes.
+#[test]
+fn scripts_are_judged_fine() {
+    let answers: Vec<_> = scripts()
+        .iter()
+        .map(|script| script.parse(&sheet(), 0).err())
+        .collect();
+    assert_eq!(answers, [None, None, Some(Refused(11)), None]);
 }
 
 #[test]
