@@ -3,9 +3,10 @@
 //! Each hiding block asks for the requirements of the whole condition that leads to it, and every
 //! requirement there contradicts another one, so that none is left and the parse goes on. An If in
 //! each hiding block joins the condition on to the next one. Few blocks under a large condition and
-//! many under a small one are both quick; what lies between is tried in steps. Two other shapes are
+//! many under a small one are both quick; what lies between is tried in steps. Other shapes are
 //! blocks that hide all twenty slots under 32 requirements that stay, and a condition in which one
-//! flag is named again and again.
+//! flag is named again and again. Hiding blocks that stand beside each other, and not on each other, are one shape more: the marks
+//! of the condition before serve none of them.
 
 use crate::clock::{row, time};
 use compare::convert;
@@ -81,6 +82,24 @@ fn again(many: usize) -> Expr {
     Expr::binary(Binary::BitAnd, again(many / 2), again(many - many / 2))
 }
 
+/// Under a large condition a chain of Ifs, each with a hiding block beside the next If: by next, or by else, so that the
+/// deepest one comes first. No hiding block stands on the condition of the one before.
+fn siblings(hiding: usize, by_else: bool) -> plain::Script {
+    let mut blocks = vec![block(vec![Command::If(pairs(1, room(hiding)), 0)], Some(1))];
+    for k in 0..hiding {
+        let (hides, on) = (2 * k + 2, if k + 1 < hiding { 2 * k + 3 } else { 2 * k + 2 });
+        let (next, other) = if by_else { (on, hides) } else { (hides, on) };
+        blocks.push(Block::Code(Code {
+            commands: vec![Command::If(Expr::Other, other)],
+            next: Some(next),
+            else_block: Some(other),
+        }));
+        let count = Command::Set(Target::Variable(Expr::Imm16(620)), Expr::Imm16(0));
+        blocks.push(block(vec![count], None));
+    }
+    plain::Script { blocks }
+}
+
 /// How many flags a script with so many hiding blocks has room for: seven nodes each, and three for
 /// a hiding block.
 fn room(hiding: usize) -> usize {
@@ -126,11 +145,18 @@ pub fn all() {
     others();
 }
 
-/// The other two shapes.
+/// The other shapes.
 fn others() {
     let sheet = convert::sheet(&sheet());
-    let again = under(again(6_800), 4_000, 1);
-    for (name, plain) in [("all slots", all_slots()), ("one flag", again)] {
+    let shapes = [
+        ("all slots", all_slots()),
+        ("one flag", under(again(6_800), 4_000, 1)),
+        ("500 beside", siblings(500, false)),
+        ("1000 beside", siblings(1_000, false)),
+        ("2000 beside", siblings(2_000, false)),
+        ("2000 by else", siblings(2_000, true)),
+    ];
+    for (name, plain) in shapes {
         let script = Script::read(&image::write(&plain)).expect("it is within the limits");
         let ours = time(1, || (), |()| drop(black_box(script.parse(&sheet, 0))));
         row("parse", name, &[("library", ours)]);
