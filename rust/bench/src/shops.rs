@@ -3,7 +3,7 @@
 use crate::cases::{self, Case};
 use crate::clock::{by_turns, row, time};
 use compare::{convert, meaning};
-use locustkeno::{Shop, Slot};
+use locustkeno::Shop;
 use oracle::calls::{self, Original};
 use std::cell::RefCell;
 use std::hint::black_box;
@@ -44,10 +44,10 @@ const FRESH: [(&str, usize, bool); 4] = [
 
 /// Into the case's script, which has room for one shop more. It is read anew into arrays that are kept, or copied with all its
 /// arrays: twenty copies of half a megabyte each are more than the processor's nearer caches hold. The original's is made anew.
-/// Slots go in on both sides: packing them into the library's arrays is part of the time.
+/// Each side has its shop ready: the library's as a `Shop`, the original's as its slots.
 fn compile(case: &Case) {
     let sheet = convert::sheet(&case.sheet);
-    let given: Vec<Slot> = case.slots.iter().map(convert::slot).collect();
+    let shop = Shop::with_slots(case.slots.iter().map(convert::slot));
     let slots = calls::original_slots(&case.slots);
     for (call, batch, read) in FRESH {
         let scripts = RefCell::new(vec![case.script.clone(); batch]);
@@ -59,14 +59,13 @@ fn compile(case: &Case) {
                 true => script.read_again(&case.bytes).expect("it is an image"),
                 false => *script = case.script.clone(),
             }
-            (place, given.clone())
+            place
         };
         let [ours, theirs] = by_turns(
             batch,
             fresh,
-            |(place, slots)| {
+            |place| {
                 let script = &mut scripts.borrow_mut()[*place];
-                let shop = Shop::with_slots(slots.drain(..));
                 script.compile(&sheet, 0, &shop).expect("it has room")
             },
             || Original::new(&case.plain),
