@@ -12,7 +12,9 @@ fn main() {
     let archive = folder.join("libcapi.a");
     println!("cargo::rerun-if-changed={}", archive.display());
     if fs::exists(&archive).unwrap_or(false) {
-        let probes = Command::new(top.join("tools/probes")).arg(&archive).status();
+        let probes = Command::new(top.join("tools/probes"))
+            .arg(&archive)
+            .status();
         assert!(
             probes.expect("tools/probes runs").success(),
             "the library has a stack probe that does not stand at its function's entry"

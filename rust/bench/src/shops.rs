@@ -23,7 +23,11 @@ fn parse(case: &Case) {
     let [ours, theirs] = by_turns(
         20,
         || (),
-        |()| drop(black_box(case.script.parse(&sheet, 0).map(|shop| shop.slots()))),
+        |()| {
+            drop(black_box(
+                case.script.parse(&sheet, 0).map(|shop| shop.slots()),
+            ))
+        },
         || (),
         |()| drop(black_box(original.parse(0))),
     );

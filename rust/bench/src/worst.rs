@@ -87,7 +87,10 @@ fn again(many: usize) -> Expr {
 fn siblings(hiding: usize, by_else: bool) -> plain::Script {
     let mut blocks = vec![block(vec![Command::If(pairs(1, room(hiding)), 0)], Some(1))];
     for k in 0..hiding {
-        let (hides, on) = (2 * k + 2, if k + 1 < hiding { 2 * k + 3 } else { 2 * k + 2 });
+        let (hides, on) = (
+            2 * k + 2,
+            if k + 1 < hiding { 2 * k + 3 } else { 2 * k + 2 },
+        );
         let (next, other) = if by_else { (on, hides) } else { (hides, on) };
         blocks.push(Block::Code(Code {
             commands: vec![Command::If(Expr::Other, other)],
