@@ -18,10 +18,10 @@ use Rattle.model.specs.Shop.{Slot, emptySlot, padded, limitOf}
 use Rattle.model.specs.Script.{Command, Block, placeholder, code, dataBlock, Script, blockAt, return, ifElse, commandNodes, commandsNodes, blockNodes, blockCommands}
 use Rattle.model.specs.Reading.{Answer, got, refused, refusalOf, number, more, groups, under, word, wordTo, zig, zag}
 use Rattle.model.specs.Image.{image, blocksImage, blockImage, commandsImage, commandImage, exprImage, linkImage, code2, code1, kinds, kindOf, readKind, readOperands, readExpr, readTerm, setOf, commandOf, readCommand, readCommands, readCode, blockOf, readBlock, readBlocks, readBlockNo, linkOf, readLink, ended, readWithin, readImage}
-use Rattle.model.specs.Judge.{counted, countsOk, judged, callRefusal}
-use Rattle.model.specs.Compile.{Call, compiled, compileRefusal, appended, redirect, hasRoom, shopBlocks, slotsBlocks, slotBlocks, limitBlocks, uniqueBlocks, returnBlock, acquiredExpr, itemTest, atcTest, flagTest, test, joinTests, emitSet}
-use Rattle.model.specs.Run.{Ran, run, step, runCall}
-use Rattle.model.specs.Parse.{Parsed, parseCall, parse, parseBlock, visited, parseRequirements, gather, placeOf}
+use Rattle.model.specs.Judge.{counted, countsOk, judged, sharedRefusal}
+use Rattle.model.specs.Compile.{Call, compiled, compileChecks, compileRefusal, appended, redirect, hasRoom, shopBlocks, slotsBlocks, slotBlocks, limitBlocks, uniqueBlocks, returnBlock, acquiredExpr, itemTest, atcTest, flagTest, test, joinTests, emitSet}
+use Rattle.model.specs.Run.{Ran, run, step, runCall, runChecked}
+use Rattle.model.specs.Parse.{Parsed, parseCall, parseChecked, parse, parseBlock, visited, parseRequirements, gather, placeOf}
 use Rattle.model.specs.Printer.{slots, readSheet, readAtcs, readTimers, digitsTo, decimal, signedDecimal, letter, requirementsText, itemText, slotLine, slotLines, refusedText, Input, readInput, parsedText, inputText}
 
 -- sixteen items: 0, 1 and 2 the timers, 3 with atc 0, item 7 plain
@@ -119,7 +119,7 @@ bytes (n ∷ ns) = pos n ∷ bytes ns
 
 -- names all that the cases compute with
 unfoldable pub opened : ℕ
-unfolding sheet slotOf first with saved brief ranAt flat itemNumber readAs parsedAt nextOf oneBlock hidesUnder fills bothWays many emptyShopAt p1 timer5 p5 bytes wrap imm size sheetOk saveOk insert sorted member settled padded limitOf commandNodes commandsNodes blockNodes blockCommands number more groups under word wordTo zig zag image blocksImage blockImage commandsImage commandImage exprImage linkImage kinds kindOf readKind readOperands readExpr readTerm setOf commandOf readCommand readCommands readCode blockOf readBlock readBlocks readBlockNo linkOf readLink ended readWithin readImage countsOk judged callRefusal compiled compileRefusal appended redirect hasRoom shopBlocks slotsBlocks slotBlocks limitBlocks uniqueBlocks acquiredExpr itemTest atcTest flagTest test joinTests run step runCall parseCall parse parseBlock visited parseRequirements gather placeOf slots readSheet readAtcs readTimers digitsTo decimal signedDecimal letter requirementsText itemText slotLine slotLines refusedText readInput parsedText inputText
+unfolding sheet slotOf first with saved brief ranAt flat itemNumber readAs parsedAt nextOf oneBlock hidesUnder fills bothWays many emptyShopAt p1 timer5 p5 bytes wrap imm size sheetOk saveOk insert sorted member settled padded limitOf commandNodes commandsNodes blockNodes blockCommands number more groups under word wordTo zig zag image blocksImage blockImage commandsImage commandImage exprImage linkImage kinds kindOf readKind readOperands readExpr readTerm setOf commandOf readCommand readCommands readCode blockOf readBlock readBlocks readBlockNo linkOf readLink ended readWithin readImage countsOk judged sharedRefusal compiled compileChecks appended redirect hasRoom shopBlocks slotsBlocks slotBlocks limitBlocks uniqueBlocks acquiredExpr itemTest atcTest flagTest test joinTests run step runChecked parseChecked parse parseBlock visited parseRequirements gather placeOf slots readSheet readAtcs readTimers digitsTo decimal signedDecimal letter requirementsText itemText slotLine slotLines refusedText readInput parsedText inputText
 opened = 0
 
 -- ---- P1 to P10

@@ -1,5 +1,5 @@
 -- The compiler block by block, the exact count for 9, and the setup block's redirect (01, Compiler). Assumes nothing: these are definitions.
-use mathlib.Core.Bool.{Bool, true, false, cond, _&&_}
+use mathlib.Core.Bool.{Bool, cond, _&&_}
 use mathlib.Core.Option.{Option, none, some}
 use mathlib.Core.List.{List, [], _∷_, _++_}
 use Prim.Native.Nat.{ℕ, suc, _+_}
@@ -15,7 +15,7 @@ use Rattle.model.specs.Sheet.{Sheet, atcFor}
 use Rattle.model.specs.Requirement.{Requirement, haveItem, missingItem, haveAtc, missingAtc, haveFlag, missingFlag, sorted}
 use Rattle.model.specs.Shop.{Slot, withSlots, Timer, plain, five, ten, fifteen, timerOf, limitOf, shopRefusal}
 use Rattle.model.specs.Script.{Command, return, goto, setVariable, setOther, ifElse, endIf, otherCommand, Block, code, Script, blockCommands, blockNodes, sumOf}
-use Rattle.model.specs.Judge.{callRefusal}
+use Rattle.model.specs.Judge.{scriptRefusal, sharedRefusal}
 
 -- ---- tests: item[i] != 0, atc[a] != 0, flag[f]; Missing is the negation
 
@@ -187,7 +187,7 @@ returnBlock = emit none return []
 unfoldable pub shopBlocks : Sheet → ℕ → List Slot → List Block
 shopBlocks h n xs = returnBlock ∷ slotsBlocks h n 0 xs
 
--- ---- the call: 1 to 7, 8, 9
+-- ---- the call
 
 pub record Call : Type 0 where
   pub setup : ℕ
@@ -201,9 +201,13 @@ hasRoom sc xs =
     leb (length (sc .blocks) + length xs) blockLimit
     && (leb (sc .commands + sumOf blockCommands xs) commandLimit && leb (sc .nodes + sumOf blockNodes xs) nodeLimit)
 
-unfoldable pub compileRefusal : Sheet → Script → Call → ℕ
-compileRefusal h sc c =
-    firstOf (callRefusal h sc (c .setup) ∷ shopRefusal h (c .shop) ∷ check (hasRoom sc (freshBlocks h sc c)) noRoom ∷ [])
+-- 1 to 7, 8, 9; j is what the judgement of the script answered
+unfoldable pub compileChecks : Sheet → ℕ → Script → Call → ℕ
+compileChecks h j sc c =
+    firstOf (sharedRefusal h j sc (c .setup) ∷ shopRefusal h (c .shop) ∷ check (hasRoom sc (freshBlocks h sc c)) noRoom ∷ [])
+
+abbrev pub compileRefusal : Sheet → Script → Call → ℕ
+compileRefusal h sc c = compileChecks h (scriptRefusal sc) sc c
 
 -- the setup block becomes empty code, next the root
 unfoldable pub redirect : ℕ → Block

@@ -1,8 +1,8 @@
 -- Demand 3: one theorem about any list of compiles, in the terms of the calls with all their checks. Assumes nothing.
-use mathlib.Core.Path.{_≡_, refl, sym, ap, _∙_}
-use mathlib.Core.Option.{Option, none, some}
-use mathlib.Core.List.{List, [], _∷_, map}
-use Prim.Native.Nat.{ℕ, zero, suc, _<_, _≤_}
+use mathlib.Core.Path.{_≡_, sym, ap, _∙_}
+use mathlib.Core.Option.{none, some}
+use mathlib.Core.List.{List}
+use Prim.Native.Nat.{ℕ, _<_, _≤_}
 use native.Mathlib.Omega.{arith}
 use native.Mathlib.Decide.{decLe}
 use lib.ListN.{length}
@@ -11,20 +11,18 @@ use Rattle.model.specs.Save.{Save}
 use Rattle.model.specs.Sheet.{Sheet, saveRefusal}
 use Rattle.model.specs.Shop.{Slot}
 use Rattle.model.specs.Script.{Script, blockAt}
-use Rattle.model.specs.Judge.{callRefusal}
 use Rattle.model.specs.Compile.{Call}
-use Rattle.model.specs.Run.{Ran, run, runCall}
+use Rattle.model.specs.Run.{Ran, run, runCall, runChecked}
 use Rattle.model.specs.Meaning.{Means}
-use Rattle.model.specs.Parse.{parseCall}
+use Rattle.model.specs.Parse.{parseCall, parseChecked}
 use Rattle.model.specs.Normal.{normalShop}
-use Rattle.model.specs.Lists.{NoneAppended, afterAll, lastAt}
+use Rattle.model.specs.Lists.{NoneAppended, afterAll, compiles, lastAt}
 use Rattle.model.specs.Printer.{slots}
-use Rattle.model.specs.Laws.Calls.{accepted-all, call-passes}
+use Rattle.model.specs.Laws.Calls.{Accepted, accepted-all, call-passes, kept-blocks}
 use Rattle.model.specs.Laws.Checked.{save-fits, save-long, sheet-fits}
-use Rattle.model.specs.Laws.Lists.{kept-blocks, twenty}
 use Rattle.model.specs.Laws.Means.{writes-means}
-use Rattle.model.specs.Laws.ReadsAll.{parses-all}
-use Rattle.model.specs.Laws.RunsAll.{Served, runs-all}
+use Rattle.model.specs.Laws.ReadsAll.{linked-normal}
+use Rattle.model.specs.Laws.RunsAll.{Served, linked-run}
 use Rattle.model.specs.Laws.Writes.{writes}
 
 -- the answers of runs with any budget, each from the save s, at a block where xs was accepted last
@@ -40,11 +38,11 @@ pub record RunsAs (h : Sheet) (s : Save) (xs : List Slot) (answers : ℕ → Ran
 
 pub record Demand3 (h : Sheet) (sc : Script) (cs : List Call) : Type 0 where
   -- the run from any block where a compile was accepted, under any save that fits the sheet
-  pub runs : (b : ℕ) (xs : List Slot) → lastAt h sc cs b ≡ some xs → (s : Save) → saveRefusal h s ≡ 0 → RunsAs h s xs (λ budget. runCall h (afterAll h sc cs) b s budget)
+  pub runs : (b : ℕ) (xs : List Slot) → lastAt (compiles h) sc cs b ≡ some xs → (s : Save) → saveRefusal h s ≡ 0 → RunsAs h s xs (λ budget. runCall h (afterAll (compiles h) sc cs) b s budget)
   -- the parser reads there exactly that shop in normal form
-  pub parses : (b : ℕ) (xs : List Slot) → lastAt h sc cs b ≡ some xs → parseCall h (afterAll h sc cs) b ≡ record { answer = 0; slots = normalShop h xs }
+  pub parses : (b : ℕ) (xs : List Slot) → lastAt (compiles h) sc cs b ≡ some xs → parseCall h (afterAll (compiles h) sc cs) b ≡ record { answer = 0; slots = normalShop h xs }
   -- every block of the start where none was accepted is as it was
-  pub others : (b : ℕ) → b < length (sc .blocks) → lastAt h sc cs b ≡ none → blockAt (afterAll h sc cs .blocks) b ≡ blockAt (sc .blocks) b
+  pub others : (b : ℕ) → b < length (sc .blocks) → lastAt (compiles h) sc cs b ≡ none → blockAt (afterAll (compiles h) sc cs .blocks) b ≡ blockAt (sc .blocks) b
 
 module _ (h : Sheet) (s : Save) (xs : List Slot) (answers : ℕ → Ran) (v : Served h s xs (s .variables) answers) (twenty-slots : length xs ≡ slotCount) (long : length (s .variables) ≡ variableCount) where
   abbrev whole : Ran
@@ -65,37 +63,34 @@ module _ (h : Sheet) (s : Save) (xs : List Slot) (answers : ℕ → Ran) (v : Se
     same = λ budget a. ends budget a ∙ sym (v .served runBlocks (v .few));
   }
 
-module _ (h : Sheet) (sc : Script) (cs : List Call) (clean : NoneAppended h (length (sc .blocks)) sc cs) (b : ℕ) (xs : List Slot) (e : lastAt h sc cs b ≡ some xs) where
-  passes : callRefusal h (afterAll h sc cs) b ≡ 0
-  passes = call-passes h sc cs clean b xs e
-
+module _ (h : Sheet) (n : ℕ) (sc : Script) (b : ℕ) (xs : List Slot) (a : Accepted h n sc b xs) where
   -- with the checks passed the call is the run
-  run-call : (s : Save) → saveRefusal h s ≡ 0 → (budget : ℕ) → runCall h (afterAll h sc cs) b s budget ≡ run (afterAll h sc cs .blocks) s budget b (s .variables)
-  unfolding runCall
-  run-call s f budget = rw (passes, f)
+  run-call : (s : Save) → saveRefusal h s ≡ 0 → (budget : ℕ) → runCall h sc b s budget ≡ run (sc .blocks) s budget b (s .variables)
+  unfolding runChecked
+  run-call s f budget = rw (call-passes h n sc b xs a, f)
 
-  run-at : (s : Save) → saveRefusal h s ≡ 0 → RunsAs h s xs (λ budget. runCall h (afterAll h sc cs) b s budget)
+  run-at : (s : Save) → saveRefusal h s ≡ 0 → RunsAs h s xs (λ budget. runCall h sc b s budget)
   run-at s f =
       let long = save-long h s f in
-      let v = runs-all h sc cs clean b xs e s (save-fits h s f) (s .variables) (omega arith) in
-      runs-as h s xs (λ budget. runCall h (afterAll h sc cs) b s budget)
+      let v = linked-run h n (sc .blocks) b xs (a .link) s (save-fits h s f) (s .variables) (omega arith) (a .twenty) in
+      runs-as h s xs (λ budget. runCall h sc b s budget)
       (record {
         blocks = v .blocks;
         few = v .few;
         served = λ budget q. run-call s f budget ∙ v .served budget q;
         starved = λ budget q. ap (λ r. r .answer) (run-call s f budget) ∙ v .starved budget q;
       })
-      (twenty h sc cs b xs e) long
+      (a .twenty) long
 
-  parse-at : parseCall h (afterAll h sc cs) b ≡ record { answer = 0; slots = normalShop h xs }
-  unfolding parseCall
+  parse-at : parseCall h sc b ≡ record { answer = 0; slots = normalShop h xs }
+  unfolding parseChecked
   parse-at =
-      let p = parses-all h (sheet-fits h (accepted-all h sc cs b xs e .0)) sc cs clean b xs e in
-      rw (passes, p .answer, p .slots)
+      let p = linked-normal h n (sc .blocks) b xs (a .low) (a .link) (a .twenty) (sheet-fits h (a .sheet)) (a .ok) in
+      rw (call-passes h n sc b xs a, p .answer, p .slots)
 
-pub demand-3 : (h : Sheet) (sc : Script) (cs : List Call) → NoneAppended h (length (sc .blocks)) sc cs → Demand3 h sc cs
+pub demand-3 : (h : Sheet) (sc : Script) (cs : List Call) → NoneAppended (compiles h) (length (sc .blocks)) sc cs → Demand3 h sc cs
 demand-3 h sc cs clean = record {
-  runs = λ b xs e s f. run-at h sc cs clean b xs e s f;
-  parses = λ b xs e. parse-at h sc cs clean b xs e;
-  others = λ b l e. kept-blocks h sc cs b l e;
+  runs = λ b xs e s f. run-at h (length (sc .blocks)) (afterAll (compiles h) sc cs) b xs (accepted-all h sc cs clean b xs e) s f;
+  parses = λ b xs e. parse-at h (length (sc .blocks)) (afterAll (compiles h) sc cs) b xs (accepted-all h sc cs clean b xs e);
+  others = λ b l e. kept-blocks h sc cs clean b l e;
 }

@@ -1,5 +1,4 @@
 -- Reading an image and writing one as calls: what they answer and what they leave, refusal 16 (01, Image and Refusals). Assumes nothing: these are definitions.
-use mathlib.Core.Bool.{Bool, true, false}
 use mathlib.Core.List.{List, [], _∷_, _++_}
 use Prim.Native.Nat.{ℕ, zero, suc}
 use lib.Dec.{leb}
@@ -36,6 +35,10 @@ abbrev pub wroteOf : ℕ → List ℕ → List ℕ → Wrote
 wroteOf zero bytes out = record { answer = 0; slice = over bytes out }
 wroteOf (suc n) bytes out = record { answer = suc n; slice = out }
 
-unfoldable pub writeCall : Script → List ℕ → Wrote
-writeCall sc out =
-    wroteOf (firstOf (scriptRefusal sc ∷ check (leb (length (image (sc .blocks))) (length out)) sliceShort ∷ [])) (image (sc .blocks)) out
+-- j is what the judgement of the script answered
+unfoldable pub writeChecked : ℕ → Script → List ℕ → Wrote
+writeChecked j sc out =
+    wroteOf (firstOf (j ∷ check (leb (length (image (sc .blocks))) (length out)) sliceShort ∷ [])) (image (sc .blocks)) out
+
+abbrev pub writeCall : Script → List ℕ → Wrote
+writeCall sc out = writeChecked (scriptRefusal sc) sc out

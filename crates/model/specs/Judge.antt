@@ -1,12 +1,12 @@
 -- A script handed to a call: judged in the place of 2 to 5, and checks 6 and 7 (01, Script and Refusals). Assumes nothing: these are definitions.
-use mathlib.Core.Bool.{Bool, true, false, cond, _&&_}
+use mathlib.Core.Bool.{Bool, cond, _&&_}
 use mathlib.Core.List.{List, [], _∷_}
 use Prim.Native.Nat.{ℕ}
 use lib.Dec.{ltb, leb}
 use lib.ListN.{length}
 use Rattle.model.specs.Limits.{blockLimit, commandLimit, nodeLimit}
 use Rattle.model.specs.Refusal.{check, firstOf, overLimit, notBlock, notCode}
-use Rattle.model.specs.Reading.{Answer, got, refused, refusalOf}
+use Rattle.model.specs.Reading.{Answer, refused, refusalOf}
 use Rattle.model.specs.Script.{Block, Script, blockAt, isCode, sumOf, blockCommands, blockNodes}
 use Rattle.model.specs.Image.{image, readWithin}
 use Rattle.model.specs.Sheet.{Sheet, sheetRefusal}
@@ -29,6 +29,9 @@ scriptRefusal sc = refusalOf (judged sc)
 abbrev pub setupRefusal : Script → ℕ → ℕ
 setupRefusal sc b = firstOf (check (ltb b (length (sc .blocks))) notBlock ∷ check (isCode (blockAt (sc .blocks) b)) notCode ∷ [])
 
--- what compile, parse and run check first, in this order: 1, 2 to 5, 6, 7
-unfoldable pub callRefusal : Sheet → Script → ℕ → ℕ
-callRefusal h sc b = firstOf (sheetRefusal h ∷ scriptRefusal sc ∷ setupRefusal sc b ∷ [])
+-- what compile, parse and run check first, in this order: 1, 2 to 5, 6, 7. A script is judged as its image, a record in memory by a judgement of its own: j is what that answered
+unfoldable pub sharedRefusal : Sheet → ℕ → Script → ℕ → ℕ
+sharedRefusal h j sc b = firstOf (sheetRefusal h ∷ j ∷ setupRefusal sc b ∷ [])
+
+abbrev pub callRefusal : Sheet → Script → ℕ → ℕ
+callRefusal h sc b = sharedRefusal h (scriptRefusal sc) sc b

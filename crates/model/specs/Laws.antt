@@ -5,7 +5,7 @@ pub mod Writes
 pub mod SlotRuns
 pub mod Runs
 pub mod Sets
-pub mod Lists
+pub mod Compiled
 pub mod Walks
 pub mod SlotReads
 pub mod Reads
@@ -14,7 +14,6 @@ pub mod RunsAll
 pub mod ReadsAll
 pub mod Means
 pub mod Checked
-pub mod Calls
 pub mod Reading
 pub mod ImageExpr
 pub mod Image
@@ -24,5 +23,7 @@ pub mod Sound
 pub mod FitTests
 pub mod FitBlocks
 pub mod Judged
+pub mod Lists
+pub mod Calls
 pub mod Files
 pub mod Over

@@ -18,7 +18,7 @@ use Rattle.model.specs.Sheet.{Sheet, itemCount, all}
 use Rattle.model.specs.Requirement.{Requirement, haveItem, haveAtc, haveFlag, negateReq, insert, settled, extend}
 use Rattle.model.specs.Shop.{Slot, emptySlot}
 use Rattle.model.specs.Script.{Command, return, goto, setVariable, setOther, ifElse, endIf, otherCommand, Block, placeholder, code, dataBlock, Script, blockAt}
-use Rattle.model.specs.Judge.{callRefusal}
+use Rattle.model.specs.Judge.{scriptRefusal, sharedRefusal}
 
 -- ---- requirements of a condition
 
@@ -336,5 +336,9 @@ abbrev pub afterChecks : ℕ → State → Parsed
 afterChecks zero st = handedOut (st .answer) (st .slots)
 afterChecks (suc n) st = record { answer = suc n; slots = [] }
 
-unfoldable pub parseCall : Sheet → Script → ℕ → Parsed
-parseCall h sc b = afterChecks (callRefusal h sc b) (parse h (sc .blocks) b)
+-- j is what the judgement of the script answered
+unfoldable pub parseChecked : Sheet → ℕ → Script → ℕ → Parsed
+parseChecked h j sc b = afterChecks (sharedRefusal h j sc b) (parse h (sc .blocks) b)
+
+abbrev pub parseCall : Sheet → Script → ℕ → Parsed
+parseCall h sc b = parseChecked h (scriptRefusal sc) sc b

@@ -1,5 +1,5 @@
 -- The runner (01, Runner), and the call with its checks. Assumes nothing: these are definitions.
-use mathlib.Core.Bool.{Bool, true, false, cond}
+use mathlib.Core.Bool.{cond}
 use mathlib.Core.Option.{Option, none, some}
 use mathlib.Core.List.{List, [], _∷_}
 use Prim.Native.Nat.{ℕ, zero, suc}
@@ -8,10 +8,10 @@ use lib.IntN.{ℤ, pos, negsuc}
 use Rattle.model.specs.Refusal.{firstOf, metOther, noNext, budgetSpent}
 use Rattle.model.specs.Signed.{isZero}
 use Rattle.model.specs.Save.{Save}
-use Rattle.model.specs.Expr.{Expr, Value, ok, stop, eval}
+use Rattle.model.specs.Expr.{Value, ok, stop, eval}
 use Rattle.model.specs.Sheet.{Sheet, saveRefusal}
 use Rattle.model.specs.Script.{Command, return, goto, setVariable, setOther, ifElse, endIf, otherCommand, Block, placeholder, code, dataBlock, Script, blockAt}
-use Rattle.model.specs.Judge.{callRefusal}
+use Rattle.model.specs.Judge.{scriptRefusal, sharedRefusal}
 
 -- where a block leads, with the variables of that moment: to a block, to Return, to a refusal
 pub data Outcome : Type 0 where
@@ -78,6 +78,10 @@ abbrev pub unlessRefused : ℕ → List ℤ → Ran → Ran
 unlessRefused zero v r = r
 unlessRefused (suc n) v r = record { answer = suc n; variables = v; entered = 0 }
 
-unfoldable pub runCall : Sheet → Script → ℕ → Save → ℕ → Ran
-runCall h sc b s budget =
-    unlessRefused (firstOf (callRefusal h sc b ∷ saveRefusal h s ∷ [])) (s .variables) (run (sc .blocks) s budget b (s .variables))
+-- j is what the judgement of the script answered
+unfoldable pub runChecked : Sheet → ℕ → Script → ℕ → Save → ℕ → Ran
+runChecked h j sc b s budget =
+    unlessRefused (firstOf (sharedRefusal h j sc b ∷ saveRefusal h s ∷ [])) (s .variables) (run (sc .blocks) s budget b (s .variables))
+
+abbrev pub runCall : Sheet → Script → ℕ → Save → ℕ → Ran
+runCall h sc b s budget = runChecked h (scriptRefusal sc) sc b s budget

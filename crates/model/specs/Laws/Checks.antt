@@ -12,8 +12,8 @@ use Rattle.model.specs.Refusal.{check, firstOf, noRoom, notBlock, notCod
 use Rattle.model.specs.Sheet.{Sheet, all, sheetRefusal}
 use Rattle.model.specs.Shop.{shopRefusal, slotOk, withSlots}
 use Rattle.model.specs.Script.{Script, blockAt, isCode}
-use Rattle.model.specs.Judge.{callRefusal, scriptRefusal, setupRefusal}
-use Rattle.model.specs.Compile.{Call, compileRefusal, freshBlocks, hasRoom}
+use Rattle.model.specs.Judge.{setupRefusal, sharedRefusal}
+use Rattle.model.specs.Compile.{Call, compileChecks, freshBlocks, hasRoom}
 
 -- where a list of checks refuses nothing, its first does not, nor do the others
 pub first-passed : (n : ℕ) (ns : List ℕ) → firstOf (n ∷ ns) ≡ 0 → (n ≡ 0) × (firstOf ns ≡ 0)
@@ -48,14 +48,21 @@ pub setup-inside : (sc : Script) (b : ℕ) → setupRefusal sc b ≡ 0 → b < l
 setup-inside sc b e = ltb-true _ _ (passed _ 5 (first2 (check (ltb b (length (sc .blocks))) notBlock) (check (isCode (blockAt (sc .blocks) b)) notCode) e .0))
 
 -- the checks of a call: 1, 2 to 5, 6 and 7
-pub call-passed : (h : Sheet) (sc : Script) (b : ℕ) → callRefusal h sc b ≡ 0 → (sheetRefusal h ≡ 0) × (scriptRefusal sc ≡ 0) × (setupRefusal sc b ≡ 0)
-unfolding callRefusal
-call-passed h sc b e = first3 (sheetRefusal h) (scriptRefusal sc) (setupRefusal sc b) e
+pub shared-passed : (h : Sheet) (j : ℕ) (sc : Script) (b : ℕ) → sharedRefusal h j sc b ≡ 0 → (sheetRefusal h ≡ 0) × (j ≡ 0) × (setupRefusal sc b ≡ 0)
+unfolding sharedRefusal
+shared-passed h j sc b e = first3 (sheetRefusal h) j (setupRefusal sc b) e
 
 -- of a compile: those, 8 and 9
-pub compile-passed : (h : Sheet) (sc : Script) (c : Call) → compileRefusal h sc c ≡ 0
-    → (callRefusal h sc (c .setup) ≡ 0) × (all (slotOk h) (withSlots (c .shop)) ≡ true) × (hasRoom sc (freshBlocks h sc c) ≡ true)
-unfolding compileRefusal
-compile-passed h sc c e =
-    let p = first3 (callRefusal h sc (c .setup)) (shopRefusal h (c .shop)) (check (hasRoom sc (freshBlocks h sc c)) noRoom) e in
-    (p .0, passed _ 7 (p .1), passed _ 8 (p .2))
+pub record CompilePassed (h : Sheet) (j : ℕ) (sc : Script) (c : Call) : Type 0 where
+  pub sheet : sheetRefusal h ≡ 0
+  pub judged : j ≡ 0
+  pub inside : c .setup < length (sc .blocks)
+  pub slots : all (slotOk h) (withSlots (c .shop)) ≡ true
+  pub room : hasRoom sc (freshBlocks h sc c) ≡ true
+
+pub compile-passed : (h : Sheet) (j : ℕ) (sc : Script) (c : Call) → compileChecks h j sc c ≡ 0 → CompilePassed h j sc c
+unfolding compileChecks
+compile-passed h j sc c e =
+    let p = first3 (sharedRefusal h j sc (c .setup)) (shopRefusal h (c .shop)) (check (hasRoom sc (freshBlocks h sc c)) noRoom) e in
+    let q = shared-passed h j sc (c .setup) (p .0) in
+    record { sheet = q .0; judged = q .1; inside = setup-inside sc (c .setup) (q .2); slots = passed _ 7 (p .1); room = passed _ 8 (p .2) }

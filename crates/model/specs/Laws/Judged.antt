@@ -16,8 +16,8 @@ use Rattle.model.specs.Judge.{countsOk, judged, scriptRefusal}
 use Rattle.model.specs.Sheet.{Sheet, sheetOk}
 use Rattle.model.specs.Shop.{Slot, withSlots}
 use Rattle.model.specs.Compile.{Call, compileRefusal, appended, freshBlocks, shopBlocks, slotsBlocks, rootOf, redirect, hasRoom}
-use Rattle.model.specs.Laws.Checks.{and-left, and-right, call-passed, compile-passed}
-use Rattle.model.specs.Laws.Lists.{lastOf-is}
+use Rattle.model.specs.Laws.Checks.{and-left, and-right, compile-passed}
+use Rattle.model.specs.Laws.Compiled.{lastOf-is}
 use Rattle.model.specs.Laws.Checks as Checks
 use Rattle.model.specs.Laws.Reading.{passed}
 use Rattle.model.specs.Laws.Image.{FitsLink, FitsScript, read-image, write-image}
@@ -152,16 +152,15 @@ pushed-held c n bs xs b y d f g yc yn l =
 pub kept-judged : (h : Sheet) (sc : Script) (c : Call) → compileRefusal h sc c ≡ 0 → scriptRefusal (appended h sc c) ≡ 0
 unfolding appended
 kept-judged h sc c p =
-    let q = compile-passed h sc c p in
-    let t = call-passed h sc (c .setup) (q .0) in
-    let f = sheet-low h (Checks.passed (sheetOk h) 0 (t .0)) in
-    let d = accepted-held sc (t .1) .1 in
+    let q = compile-passed h (scriptRefusal sc) sc c p in
+    let f = sheet-low h (Checks.passed (sheetOk h) 0 (q .sheet)) in
+    let d = accepted-held sc (q .judged) .1 in
     let n = length (sc .blocks) in
     let xs = withSlots (c .shop) in
     let ys = freshBlocks h sc c in
-    let m = room-low sc ys (q .2) in
+    let m = room-low sc ys (q .room) in
     let e : Held (sc .commands + sumOf blockCommands ys) (sc .nodes + sumOf blockNodes ys) (set (sc .blocks ++ ys) (c .setup) (redirect (rootOf h n 0 xs)))
     = pushed-held (sc .commands) (sc .nodes) (sc .blocks) ys (c .setup) (redirect (rootOf h n 0 xs)) d
-    (shop-sound h f n (n + length ys) xs (omega (arith, length-padded slotCount (c .shop))) (q .1) (omega arith))
+    (shop-sound h f n (n + length ys) xs (omega (arith, length-padded slotCount (c .shop))) (q .slots) (omega arith))
     (redirect-sound (n + length ys) (rootOf h n 0 xs) (root-low h n xs)) (redirect-commands (rootOf h n 0 xs)) (redirect-nodes (rootOf h n 0 xs)) (m .blocks) in
     held-accepted (appended h sc c) (record { blocks = e .few; commands = m .commands; nodes = m .nodes }) e

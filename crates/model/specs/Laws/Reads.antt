@@ -24,7 +24,7 @@ use Rattle.model.specs.Compile.{acquiredExpr, blocksFor, itemExpr, joinT
 use Rattle.model.specs.Run.{done}
 use Rattle.model.specs.Parse.{fewEntries, parseRequirements, visited}
 use Rattle.model.specs.Normal.{filledSlot}
-use Rattle.model.specs.Laws.Lists.{lastOf-is}
+use Rattle.model.specs.Laws.Compiled.{lastOf-is}
 use Rattle.model.specs.Laws.Runs.{after-append, lastOf-append, limit-le}
 use Rattle.model.specs.Laws.Signed.{wrap-id}
 use Rattle.model.specs.Laws.SlotReads.{Before, Got, Rel, Rested, empty-walks, rel-mark, stock-bare-walks, stock-hid-walks, unique-bare-walks, unique-hid-walks}

@@ -1,36 +1,29 @@
--- The parser half of demand 3, over any list of compiles. Assumes nothing.
-use mathlib.Core.Path.{_≡_, refl, sym, ap, _∙_, subst}
-use mathlib.Core.Bool.{Bool, true, false, not, cond, _&&_, _||_}
-use mathlib.Core.Option.{Option, none, some}
-use mathlib.Core.List.{List, [], _∷_, _++_, map}
-use Prim.Native.Nat.{ℕ, zero, suc, _-_, _+_, _*_, _<_, _≤_}
+-- The parser half of demand 3: the reading from a block that links to a shop. Assumes nothing.
+use mathlib.Core.Path.{_≡_, refl, sym, ap, _∙_}
+use mathlib.Core.Bool.{Bool, true, false}
+use mathlib.Core.Option.{none}
+use mathlib.Core.List.{List, map}
+use Prim.Native.Nat.{ℕ, zero, suc, _-_, _<_}
 use native.Mathlib.Omega.{arith}
 use native.Mathlib.Nat.{zero-add}
-use lib.ListN.{getD, set, length, length-set, length-map, replicate, length-replicate, getD-replicate, List·getD-eq-default}
-use lib.Seq.{getD-set-same, getD-set-other, ext-getD}
-use lib.Dec.{T, ltb, leb, eqb}
-use lib.IntN.{ℤ, pos, negsuc}
+use lib.ListN.{getD, set, length, length-set, length-map, replicate, length-replicate}
+use lib.Seq.{getD-set-other, ext-getD}
+use lib.IntN.{pos}
 use Rattle.model.specs.Limits.{slotCount}
-use Rattle.model.specs.Expr.{ok}
-use Rattle.model.specs.Sheet.{Sheet}
-use Rattle.model.specs.Shop.{Slot, emptySlot}
-use Rattle.model.specs.Script.{Block, Script}
-use Rattle.model.specs.Compile.{Call, redirect, rootOf, slotsBlocks}
+use Rattle.model.specs.Sheet.{Sheet, all}
+use Rattle.model.specs.Shop.{Slot, emptySlot, slotOk}
+use Rattle.model.specs.Script.{Block}
+use Rattle.model.specs.Compile.{redirect, rootOf, slotsBlocks}
 use Rattle.model.specs.Parse.{State, parse, parseBlock, visited}
 use Rattle.model.specs.Normal.{normal}
-use Rattle.model.specs.Lists.{NoneAppended, afterAll, lastAt}
-use Rattle.model.specs.Laws.Lists.{Linked, all-ok, lastOf-is, linked-all, low-all, twenty}
+use Rattle.model.specs.Laws.Compiled.{Linked, lastOf-is}
 use Rattle.model.specs.Laws.Normal.{SheetOk, slots-normal, slots-ok}
 use Rattle.model.specs.Laws.Reads.{AllOk, End, Reads, Start, readBack, slots-read}
 use Rattle.model.specs.Laws.Walks.{mk}
 
-pub record ReadNormal (h : Sheet) (xs : List Slot) (r : State) : Type 0 where
+pub record ReadSo (as-read : Slot → Slot) (xs : List Slot) (r : State) : Type 0 where
   pub answer : r .answer ≡ 0
-  pub slots : r .slots ≡ map (normal h) xs
-
-record ReadSo (h : Sheet) (xs : List Slot) (r : State) : Type 0 where
-  answer : r .answer ≡ 0
-  slots : r .slots ≡ map (readBack h) xs
+  pub slots : r .slots ≡ map as-read xs
 
 module _ (h : Sheet) (n : ℕ) (bs : List Block) (b : ℕ) (xs : List Slot) (b-low : b < n) (link : Linked h n bs b xs) (len : length xs ≡ 20) (good : AllOk h xs) where
   root : ℕ
@@ -77,7 +70,7 @@ module _ (h : Sheet) (n : ℕ) (bs : List Block) (b : ℕ) (xs : List Slot) (b-l
   unfolding parse parseBlock visited redirect root empties fresh-marks
   first = rw (unmarked b, link .link .eq, parseBlock)
 
-  linked-parse : ReadSo h xs (parse h bs b)
+  linked-parse : ReadSo (readBack h) xs (parse h bs b)
   unfolding root
   linked-parse =
       let g = ended in
@@ -89,10 +82,8 @@ module _ (h : Sheet) (n : ℕ) (bs : List Block) (b : ℕ) (xs : List Slot) (b-l
             (λ k p. ap (λ j. getD (g .S₁) j emptySlot) (sym (zero-add k)) ∙ g .upper k (omega (arith, many, g .count)));
       }
 
-module _ (h : Sheet) (sheet-ok : SheetOk h) (sc : Script) (cs : List Call) (clean : NoneAppended h (length (sc .blocks)) sc cs) where
-  -- the parser reads at any block where a compile was accepted the last shop accepted there, in normal form
-  pub parses-all : (b : ℕ) (xs : List Slot) → lastAt h sc cs b ≡ some xs → ReadNormal h xs (parse h (afterAll h sc cs .blocks) b)
-  parses-all b xs e =
-      let ok = all-ok h sc cs b xs e in
-      let r = linked-parse h (length (sc .blocks)) (afterAll h sc cs .blocks) b xs (low-all h (length (sc .blocks)) sc cs b xs clean e) (linked-all h (length (sc .blocks)) sc cs b xs (omega arith) clean e) (twenty h sc cs b xs e) (slots-ok h sheet-ok xs ok) in
-      record { answer = r .answer; slots = r .slots ∙ slots-normal h sheet-ok xs ok }
+-- the parser reads there the shop in normal form
+pub linked-normal : (h : Sheet) (n : ℕ) (bs : List Block) (b : ℕ) (xs : List Slot) → b < n → Linked h n bs b xs → length xs ≡ 20 → SheetOk h → all (slotOk h) xs ≡ true → ReadSo (normal h) xs (parse h bs b)
+linked-normal h n bs b xs l k t f q =
+    let r = linked-parse h n bs b xs l k t (slots-ok h f xs q) in
+    record { answer = r .answer; slots = r .slots ∙ slots-normal h f xs q }

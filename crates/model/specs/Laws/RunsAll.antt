@@ -1,24 +1,19 @@
--- The run half of demand 3, over any list of compiles. Assumes nothing.
-use mathlib.Core.Path.{_≡_, refl, sym, ap, _∙_, subst}
-use mathlib.Core.Bool.{Bool, true, false, not, cond}
-use mathlib.Core.Logic.{_≢_}
-use mathlib.Core.Option.{Option, none, some}
-use mathlib.Core.List.{List, [], _∷_, _++_}
-use Prim.Native.Nat.{ℕ, zero, suc, _-_, _+_, _*_, _<_, _≤_}
+-- The run half of demand 3: the run from a block that links to a shop. Assumes nothing.
+use mathlib.Core.Path.{_≡_, refl}
+use mathlib.Core.List.{List}
+use Prim.Native.Nat.{ℕ, suc, _-_, _*_, _<_, _≤_}
 use native.Mathlib.Omega.{arith}
-use native.Mathlib.Decide.{decLe}
-use lib.ListN.{getD, set, length}
-use lib.IntN.{ℤ, pos, negsuc}
+use lib.ListN.{length}
+use lib.IntN.{ℤ}
 use Rattle.model.specs.Limits.{runBlocks, slotCount}
 use Rattle.model.specs.Refusal.{budgetSpent}
 use Rattle.model.specs.Save.{Save}
 use Rattle.model.specs.Sheet.{Sheet}
 use Rattle.model.specs.Shop.{Slot}
-use Rattle.model.specs.Script.{Block, Script}
-use Rattle.model.specs.Compile.{Call, redirect}
+use Rattle.model.specs.Script.{Block}
+use Rattle.model.specs.Compile.{redirect}
 use Rattle.model.specs.Run.{Ran, done, run}
-use Rattle.model.specs.Lists.{NoneAppended, afterAll, lastAt}
-use Rattle.model.specs.Laws.Lists.{Linked, linked-all, twenty}
+use Rattle.model.specs.Laws.Compiled.{Linked}
 use Rattle.model.specs.Laws.Runs.{run-ends, run-short, slots-run}
 use Rattle.model.specs.Laws.SlotRuns.{Fits, Reach, Steps, at, onward-by}
 use Rattle.model.specs.Laws.Writes.{writes}
@@ -30,7 +25,7 @@ pub record Served (h : Sheet) (s : Save) (xs : List Slot) (v : List ℤ) (runs :
   pub served : (budget : ℕ) → blocks ≤ budget → runs budget ≡ record { answer = 0; variables = writes h s 0 xs v; entered = blocks }
   pub starved : (budget : ℕ) → budget < blocks → runs budget .answer ≡ budgetSpent
 
-linked-run : (h : Sheet) (m : ℕ) (bs : List Block) (b : ℕ) (xs : List Slot) → Linked h m bs b xs → (s : Save) → Fits s → (v : List ℤ) → 0 < length v
+pub linked-run : (h : Sheet) (m : ℕ) (bs : List Block) (b : ℕ) (xs : List Slot) → Linked h m bs b xs → (s : Save) → Fits s → (v : List ℤ) → 0 < length v
     → length xs ≡ slotCount → Served h s xs v (λ budget. run bs s budget b v)
 unfolding redirect
 linked-run h m bs b xs k s f v p len =
@@ -42,9 +37,3 @@ linked-run h m bs b xs k s f v p len =
       served = λ budget q. run-ends bs s (r .goes) d budget q;
       starved = λ budget q. run-short bs s (r .goes) budget (omega arith);
     }
-
-module _ (h : Sheet) (sc : Script) (cs : List Call) (clean : NoneAppended h (length (sc .blocks)) sc cs) where
-  -- the run from any block where a compile was accepted is what the last shop accepted there means
-  pub runs-all : (b : ℕ) (xs : List Slot) → lastAt h sc cs b ≡ some xs → (s : Save) → Fits s → (v : List ℤ) → 0 < length v
-      → Served h s xs v (λ budget. run (afterAll h sc cs .blocks) s budget b v)
-  runs-all b xs e s f v p = linked-run h _ _ b xs (linked-all h (length (sc .blocks)) sc cs b xs (omega arith) clean e) s f v p (twenty h sc cs b xs e)

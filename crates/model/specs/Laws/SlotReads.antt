@@ -20,7 +20,7 @@ use Rattle.model.specs.Script.{Block}
 use Rattle.model.specs.Compile.{enableBlocks, hideBlock, ifBlock, itemExpr, lastOf, noTimerExpr, remainingBlock, resetBlock, setSlot, setSlotEnd, tempVar}
 use Rattle.model.specs.Parse.{State, fewEntries, join, parseRequirements, placeOf, updateSlot, value, written}
 use Rattle.model.specs.Normal.{filledSlot}
-use Rattle.model.specs.Laws.Lists.{lastOf-is}
+use Rattle.model.specs.Laws.Compiled.{lastOf-is}
 use Rattle.model.specs.Laws.SlotRuns.{After, Stands, hidden-blocks}
 use Rattle.model.specs.Laws.Walks.{Walks, all-set, entered-if, entered-left, entered-pair, entered-pairEnd, entered-reset, mk, place-count, place-item, w-fork, w-go, w-seen}
 
