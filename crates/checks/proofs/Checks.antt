@@ -17,10 +17,11 @@ use Rattle.model.specs.Signed.{inRange}
 use Rattle.model.specs.Sheet.{Sheet, sheetOk, saveOk, all, isCount, isBit}
 use Rattle.model.specs.Script.{Block}
 use Rattle.model.specs.Reading.{got, refused}
-use Rattle.model.specs.Judge.{setupRefusal}
+use Rattle.model.specs.Judge.{setupRefusal, sharedRefusal}
 use Rattle.model.specs.Memory.{Memory, scriptOf}
 use Rattle.model.specs.Record.{judgedRecord}
-use Rattle.checks.specs.Calls.{callIn, saveOf}
+use Rattle.model.specs.RecordCalls.{callIn}
+use Rattle.checks.specs.Calls.{saveOf}
 use Rattle.checks.specs.Passed.{refused-above}
 use Rattle.shop.specs.Shapes.{sheetOf}
 use Rattle.shop.specs.declared.Sheet as code
@@ -66,11 +67,11 @@ no-got m {r} {k} j e = subst (JudgedAs m) e j
 
 module _ (h : Sheet) (m : Memory) (b : ℕ) where
   pub call-sheet : sheetOk h ≡ false → 1 ≡ callIn h m b
-  unfolding callIn
+  unfolding callIn sharedRefusal
   call-sheet e = rw e
 
   pub call-refused : (k : ℕ) → sheetOk h ≡ true → judgedRecord m ≡ refused k → k ≡ callIn h m b
-  unfolding callIn
+  unfolding callIn sharedRefusal
   call-refused k e p = rw (e, p) (go k (refused-above m k p))
     where
       go : (k : ℕ) → 0 < k → k ≡ firstOf (k ∷ setupRefusal (scriptOf m) b ∷ [])
@@ -78,7 +79,7 @@ module _ (h : Sheet) (m : Memory) (b : ℕ) where
       go (suc k) l = refl
 
   pub call-setup : (k : ℕ) (bs : List Block) (r : List ℕ) → sheetOk h ≡ true → judgedRecord m ≡ got bs r → k ≡ setupRefusal (scriptOf m) b → k ≡ callIn h m b
-  unfolding callIn
+  unfolding callIn sharedRefusal
   call-setup k bs r e p q = rw (e, p) (q ∙ go (setupRefusal (scriptOf m) b))
     where
       go : (k : ℕ) → k ≡ firstOf (k ∷ [])

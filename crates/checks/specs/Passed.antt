@@ -1,31 +1,24 @@
 -- What a call knows where 1 to 7 do not refuse: the sheet, the record and its block are what the rest of the call wants. Assumes nothing.
 use mathlib.Core.Path.{_≡_, refl, sym, ap, _∙_, subst}
 use mathlib.Core.Bool.{Bool, true, false}
-use mathlib.Core.List.{List, [], _∷_, _++_}
+use mathlib.Core.List.{List, [], _∷_}
 use Prim.Native.Nat.{ℕ, zero, suc, _+_, _*_, _≤_, _<_}
 use native.Mathlib.Omega.{arith}
 use native.Mathlib.Decide.{decLe, ℕ-discrete}
 use lib.Dec.{ltb}
 use lib.ListN.{getD, length}
 use borrow.Author.Tests.{lt-ltb, le-ltb}
-use Rattle.model.specs.Refusal.{firstOf, check, overLimit}
+use Rattle.model.specs.Refusal.{firstOf, check}
 use Rattle.model.specs.Sheet.{Sheet, sheetOk, sheetRefusal}
 use Rattle.model.specs.Script.{Block, blockAt, isCode}
-use Rattle.model.specs.Reading.{Answer, got, refused, refusalOf}
-use Rattle.model.specs.Image.{readWithin}
+use Rattle.model.specs.Reading.{got, refused, refusalOf}
 use Rattle.model.specs.Judge.{setupRefusal}
 use Rattle.model.specs.Memory.{Memory, blockWord, blockBy, blockIn, scriptOf}
-use Rattle.model.specs.Record.{recordImage, keptOk, judgedRecord}
-use Rattle.model.specs.Laws.Refused.{Proper, Accepts, accepts, proper-cond, proper-within}
-use Rattle.model.specs.Laws.Checks.{first-passed}
-use Rattle.memory.specs.RecordLaws.{length-blocksIn, block-at}
-use Rattle.checks.specs.Calls.{callIn}
-
--- checks within checks are checks one after the other
-pub first-nested : (ns ks : List ℕ) → firstOf (firstOf ns ∷ ks) ≡ firstOf (ns ++ ks)
-first-nested [] ks = refl
-first-nested (zero ∷ ns) ks = first-nested ns ks
-first-nested (suc n ∷ ns) ks = refl
+use Rattle.model.specs.Record.{judgedRecord}
+use Rattle.model.specs.Laws.Refused.{Proper, accepts}
+use Rattle.model.specs.RecordCalls.{callIn}
+use Rattle.model.specs.Laws.Checks.{passed, shared-passed}
+use Rattle.memory.specs.RecordLaws.{length-blocksIn, block-at, proper-record}
 
 -- ---- checks 6 and 7
 
@@ -67,13 +60,8 @@ module _ (m : Memory) (b : ℕ) where
 
 -- ---- a refused record has a number above 0
 
-module _ (m : Memory) where
-  proper : Proper (judgedRecord m)
-  unfolding judgedRecord
-  proper = proper-cond (keptOk m) (readWithin (m .coded .count) (m .coded .nodes .count) (recordImage m)) (refused overLimit) (proper-within (m .coded .count) (m .coded .nodes .count) (recordImage m)) (omega arith)
-
-  pub refused-above : (k : ℕ) → judgedRecord m ≡ refused k → 0 < k
-  refused-above k e = subst Proper e proper
+pub refused-above : (m : Memory) (k : ℕ) → judgedRecord m ≡ refused k → 0 < k
+refused-above m k e = subst Proper e (proper-record m)
 
 -- ---- all of them passed
 
@@ -86,32 +74,24 @@ pub record Passed (h : Sheet) (m : Memory) (b : ℕ) : Type 0 where
   pub code : blockWord m b 0 ≡ 1
 
 module _ (h : Sheet) (m : Memory) (b : ℕ) (e : callIn h m b ≡ 0) where
-  after-sheet : firstOf (refusalOf (judgedRecord m) ∷ setupRefusal (scriptOf m) b ∷ []) ≡ 0
+  all-passed : (sheetRefusal h ≡ 0) × (refusalOf (judgedRecord m) ≡ 0) × (setupRefusal (scriptOf m) b ≡ 0)
   unfolding callIn
-  after-sheet = first-passed (sheetRefusal h) (refusalOf (judgedRecord m) ∷ setupRefusal (scriptOf m) b ∷ []) e .1
-
-  sheet-passed : (t : Bool) → sheetOk h ≡ t → check t 1 ≡ 0 → t ≡ true
-  sheet-passed true p q = refl
-  sheet-passed false p q = absurd (omega arith)
-
-  setup-passed : setupRefusal (scriptOf m) b ≡ 0
-  setup-passed = first-passed (setupRefusal (scriptOf m) b) [] (first-passed (refusalOf (judgedRecord m)) (setupRefusal (scriptOf m) b ∷ []) after-sheet .1) .0
+  all-passed = shared-passed h (refusalOf (judgedRecord m)) (scriptOf m) b e
 
   inside-passed : Dec (m .count ≤ b) → b < m .count
-  inside-passed (yes l) = absurd (omega (arith, setup-none m b l, setup-passed))
+  inside-passed (yes l) = absurd (omega (arith, setup-none m b l, all-passed .2))
   inside-passed (no n) = omega arith
 
   code-passed : b < m .count → Dec (getD (m .words) (5 * b) 0 ≡ 1) → blockWord m b 0 ≡ 1
   code-passed l (yes p) = let z : 5 * b + 0 ≡ 5 * b = omega arith in ap (λ j. getD (m .words) j 0) z ∙ p
-  code-passed l (no n) = absurd (omega (arith, setup-not-code m b l n, setup-passed))
+  code-passed l (no n) = absurd (omega (arith, setup-not-code m b l n, all-passed .2))
 
   pub call-passed : Passed h m b
-  unfolding callIn
   call-passed =
-      let a = accepts (judgedRecord m) (proper m) (first-passed (refusalOf (judgedRecord m)) (setupRefusal (scriptOf m) b ∷ []) after-sheet .0) in
+      let a = accepts (judgedRecord m) (proper-record m) (all-passed .1) in
       let l = inside-passed (decLe (m .count) b) in
       record {
-        sheet = sheet-passed (sheetOk h) refl (first-passed (sheetRefusal h) (refusalOf (judgedRecord m) ∷ setupRefusal (scriptOf m) b ∷ []) e .0);
+        sheet = passed (sheetOk h) 0 (all-passed .0);
         blocks = a .value;
         rest = a .rest;
         judged = a .was;

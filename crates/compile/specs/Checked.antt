@@ -2,23 +2,20 @@
 use mathlib.Core.Path.{_≡_, refl, sym, ap, _∙_}
 use mathlib.Core.Bool.{Bool, true, false}
 use mathlib.Core.List.{List, [], _∷_}
-use Prim.Native.Nat.{ℕ, zero, suc, _+_, _≤_, _<_}
+use Prim.Native.Nat.{ℕ, zero, suc, _+_, _<_}
 use native.Mathlib.Omega.{arith}
-use lib.Dec.{leb, eqb}
+use lib.Dec.{leb}
 use lib.ListN.{length}
 use borrow.Author.Tests.{leb-true, eq-eqb, ne-eqb}
 use Rattle.model.specs.Limits.{slotCount, blockLimit, commandLimit, nodeLimit}
 use Rattle.model.specs.Refusal.{firstOf, check}
 use Rattle.model.specs.Sheet as Model
-use Rattle.model.specs.Sheet.{all, sheetRefusal}
-use Rattle.model.specs.Shop.{Slot, withSlots, slotOk, shopRefusal}
+use Rattle.model.specs.Sheet.{all}
+use Rattle.model.specs.Shop.{Slot, slotOk}
 use Rattle.model.specs.Script.{Block, sumOf, blockCommands, blockNodes}
-use Rattle.model.specs.Reading.{refusalOf}
-use Rattle.model.specs.Judge.{setupRefusal}
-use Rattle.model.specs.Memory.{Memory, scriptOf, putBlocks, redirectIn, blockWords}
-use Rattle.model.specs.Record.{judgedRecord}
-use Rattle.model.specs.Compile.{slotsBlocks, shopBlocks, hasRoom, lastOf}
-use Rattle.model.specs.RecordCalls.{compileRefusalIn, compiledIn}
+use Rattle.model.specs.Memory.{Memory, scriptOf, redirectIn, blockWords}
+use Rattle.model.specs.Compile.{compileChecks, slotsBlocks, shopBlocks, hasRoom, lastOf}
+use Rattle.model.specs.RecordCalls.{callIn, compileRefusalIn, compiledIn}
 use Rattle.model.specs.Laws.Checks.{first-passed, passed, and-left, and-right}
 use Rattle.memory.specs.Sound.{Room}
 use Rattle.memory.specs.Transfer.{blocks-counted}
@@ -28,8 +25,7 @@ use Rattle.shop.specs.Slots.{shop-exact, with-all}
 use Rattle.shop.specs.declared.Shop.{Shop}
 use Rattle.emit.specs.Put.{PutBlocks}
 use Rattle.compiler.specs.Slots.{last-of}
-use Rattle.checks.specs.Calls.{callIn}
-use Rattle.checks.specs.Passed.{first-nested, call-passed}
+use Rattle.checks.specs.Passed.{call-passed}
 use Rattle.compile.specs.Answer.{callOf, CompiledAs}
 
 -- the script keeps the record's counts
@@ -47,11 +43,9 @@ module _ (h : Model.Sheet) (m : Memory) (b : ℕ) (s : Shop) (twenty : length (s
 
   -- the checks with those that calls share in front
   in-order : compileRefusalIn h m (callOf b s) ≡ firstOf (callIn h m b ∷ check (all (slotOk h) (slotsOf s)) 8 ∷ check (hasRoom (scriptOf m) fresh) 9 ∷ [])
-  unfolding compileRefusalIn callIn
+  unfolding compileRefusalIn compileChecks callIn
   in-order =
-      sym (first-nested (sheetRefusal h ∷ refusalOf (judgedRecord m) ∷ setupRefusal (scriptOf m) b ∷ [])
-      (shopRefusal h (slotsOf s) ∷ check (hasRoom (scriptOf m) (shopBlocks h (length (scriptOf m .blocks)) (withSlots (slotsOf s)))) 9 ∷ []))
-      ∙ ap (λ (l : List Slot). firstOf (callIn h m b ∷ check (all (slotOk h) l) 8 ∷ check (hasRoom (scriptOf m) (shopBlocks h (length (scriptOf m .blocks)) l)) 9 ∷ [])) (with-all s twenty)
+      ap (λ (l : List Slot). firstOf (callIn h m b ∷ check (all (slotOk h) l) 8 ∷ check (hasRoom (scriptOf m) (shopBlocks h (length (scriptOf m .blocks)) l)) 9 ∷ [])) (with-all s twenty)
       ∙ ap (λ (n : ℕ). firstOf (callIn h m b ∷ check (all (slotOk h) (slotsOf s)) 8 ∷ check (hasRoom (scriptOf m) (shopBlocks h n (slotsOf s))) 9 ∷ [])) (blocks-counted m)
 
   pub refused-call : (n : ℕ) → n ≡ callIn h m b → (n ≡ 0 → ⊥) → n ≡ compileRefusalIn h m (callOf b s)

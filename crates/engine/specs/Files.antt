@@ -13,6 +13,7 @@ use Rattle.model.specs.Image.{image, readImage}
 use Rattle.model.specs.Judge.{scriptRefusal}
 use Rattle.model.specs.Memory.{Memory, scriptOf, blocksIn, putBlocks}
 use Rattle.model.specs.Record.{judgedRecord}
+use Rattle.model.specs.Files.{writeChecked}
 use Rattle.model.specs.RecordCalls.{writeIn}
 use Rattle.model.specs.Laws.Image.{same-bytes, image-fits}
 use Rattle.model.specs.Laws.Sound.{fits-held}
@@ -59,10 +60,10 @@ module _ (m : Memory) (e : Empty m) (long : Long m) (s : List ℕ) (bs : List Bl
 
   -- an accepted image, read and written again, is the same bytes; what stood past it stays
   pub read-writes : (out : List ℕ) → length s ≤ length out → writeIn (putBlocks m bs) out ≡ record { answer = 0; slice = s ++ drop (length s) out }
-  unfolding writeIn
+  unfolding writeIn writeChecked
   read-writes out l = rw (read-judged, read-blocks, same-bytes s bs r p, le-leb (length s) (length out) l)
 
   -- a slice that is too short is not written
   pub read-short : (out : List ℕ) → length out < length s → writeIn (putBlocks m bs) out ≡ record { answer = sliceShort; slice = out }
-  unfolding writeIn
+  unfolding writeIn writeChecked
   read-short out l = rw (read-judged, read-blocks, same-bytes s bs r p, lt-leb (length s) (length out) l)

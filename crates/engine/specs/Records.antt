@@ -1,48 +1,47 @@
 -- Demand 3 on a script record in memory: any list of compiles on any content of the arrays and counts. Assumes nothing.
 use mathlib.Core.Path.{_≡_, refl, sym, ap, _∙_, subst, fun-ext, ap₂}
-use mathlib.Core.Bool.{Bool, true, false, cond, _&&_}
+use mathlib.Core.Bool.{Bool, true, false, cond}
 use mathlib.Core.Option.{Option, none, some}
-use mathlib.Core.List.{List, [], _∷_}
+use mathlib.Core.List.{List, [], map-id}
 use Prim.Native.Nat.{ℕ, zero, suc, _≤_, _<_}
 use native.Mathlib.Omega.{arith}
 use lib.Dec.{eqb}
 use lib.ListN.{length}
 use borrow.Author.Tests.{eqb-true, ne-eqb}
 use Rattle.model.specs.Limits.{runBlocks}
-use Rattle.model.specs.Refusal.{check, firstOf, noRoom, overLimit}
 use Rattle.model.specs.Save.{Save}
-use Rattle.model.specs.Sheet.{Sheet, sheetRefusal, saveRefusal}
-use Rattle.model.specs.Shop.{Slot, withSlots, shopRefusal}
+use Rattle.model.specs.Sheet.{Sheet, saveRefusal}
+use Rattle.model.specs.Shop.{Slot, withSlots}
 use Rattle.model.specs.Script.{Block, Script, blockAt}
 use Rattle.model.specs.Reading.{Answer, got, refused, refusalOf}
-use Rattle.model.specs.Judge.{setupRefusal, scriptRefusal, callRefusal}
+use Rattle.model.specs.Judge.{scriptRefusal}
 use Rattle.model.specs.Memory.{Memory, scriptOf, blockIn, putBlocks, redirectIn}
-use Rattle.model.specs.Record.{judgedRecord, keptOk, recordImage}
-use Rattle.model.specs.Compile.{Call, freshBlocks, hasRoom, rootOf, compileRefusal, compiled, appended}
-use Rattle.model.specs.Run.{Ran, run, runCall, unlessRefused}
-use Rattle.model.specs.Parse.{Parsed, parse, parseCall}
+use Rattle.model.specs.Record.{judgedRecord}
+use Rattle.model.specs.Compile.{Call, freshBlocks, rootOf, compileRefusal, compiled, appended}
+use Rattle.model.specs.Run.{Ran, runCall}
+use Rattle.model.specs.Parse.{parseCall}
 use Rattle.model.specs.Normal.{normalShop}
-use Rattle.model.specs.Lists.{afterAll, lastAt, acceptedAt, NoneAppended, orEarlier}
-use Rattle.model.specs.RecordCalls.{compileRefusalIn, compiledIn, runIn, parseIn, afterAllIn, acceptedAtIn, lastAtIn, NoneAppendedIn}
-use Rattle.model.specs.Demand.{RunsAs, Demand3, demand-3}
-use Rattle.model.specs.Laws.Lists.{grows-all, none≢some}
-use Rattle.model.specs.Laws.Refused.{Proper, proper-within, proper-cond}
-use Rattle.model.specs.Laws.Checks.{first-passed}
-use Rattle.memory.specs.Sound.{Sound, Long}
-use Rattle.memory.specs.RecordLaws.{judged-sound, block-at, length-blocksIn}
+use Rattle.model.specs.Lists.{NoneAppended, afterAll, compiles, lastAt, latest}
+use Rattle.model.specs.RecordCalls.{recordRefusal, compileRefusalIn, compiledIn, runIn, parseIn, compilesIn}
+use Rattle.model.specs.Demand.{RunsAs, demand-3}
+use Rattle.model.specs.Laws.Lists.{Follows, Followed, along-all, follows-all, kept-all, none≢some, stays}
+use Rattle.model.specs.Laws.Calls.{grows-all}
+use Rattle.model.specs.Laws.Refused.{Proper}
+use Rattle.model.specs.Laws.Checks.{compile-passed}
+use Rattle.memory.specs.Sound.{Long}
+use Rattle.memory.specs.RecordLaws.{judged-sound, block-at, length-blocksIn, proper-record}
 use Rattle.model.specs.Preview.{previewCall}
 use Rattle.preview.specs.Agree.{Agrees, preview-agrees}
-use Rattle.checks.specs.Passed.{first-nested}
-use Rattle.memory.specs.Transfer.{judged-script, accepted-script, judged-is, compile-transfer}
+use Rattle.memory.specs.Transfer.{accepted-script, compile-transfer}
 
 -- the clauses of demand 3, in the terms of the calls on a record
 pub record Demand3In (h : Sheet) (m : Memory) (cs : List Call) : Type 0 where
-  pub runs : (b : ℕ) (xs : List Slot) → lastAtIn h m cs b ≡ some xs → (s : Save) → saveRefusal h s ≡ 0 → RunsAs h s xs (λ budget. runIn h (afterAllIn h m cs) b s budget)
-  pub parses : (b : ℕ) (xs : List Slot) → lastAtIn h m cs b ≡ some xs → parseIn h (afterAllIn h m cs) b ≡ record { answer = 0; slots = normalShop h xs }
-  pub others : (b : ℕ) → b < m .count → lastAtIn h m cs b ≡ none → blockIn (afterAllIn h m cs) b ≡ blockIn m b
+  pub runs : (b : ℕ) (xs : List Slot) → lastAt (compilesIn h) m cs b ≡ some xs → (s : Save) → saveRefusal h s ≡ 0 → RunsAs h s xs (λ budget. runIn h (afterAll (compilesIn h) m cs) b s budget)
+  pub parses : (b : ℕ) (xs : List Slot) → lastAt (compilesIn h) m cs b ≡ some xs → parseIn h (afterAll (compilesIn h) m cs) b ≡ record { answer = 0; slots = normalShop h xs }
+  pub others : (b : ℕ) → b < m .count → lastAt (compilesIn h) m cs b ≡ none → blockIn (afterAll (compilesIn h) m cs) b ≡ blockIn m b
   -- what the run leaves is what a preview of that shop answers
-  pub previews : (b : ℕ) (xs : List Slot) → lastAtIn h m cs b ≡ some xs → (s : Save) → saveRefusal h s ≡ 0 → (budget : ℕ) → runBlocks ≤ budget
-      → Agrees (previewCall h xs s) (runIn h (afterAllIn h m cs) b s budget .variables)
+  pub previews : (b : ℕ) (xs : List Slot) → lastAt (compilesIn h) m cs b ≡ some xs → (s : Save) → saveRefusal h s ≡ 0 → (budget : ℕ) → runBlocks ≤ budget
+      → Agrees (previewCall h xs s) (runIn h (afterAll (compilesIn h) m cs) b s budget .variables)
 
 -- ---- a judged record does what its script does
 
@@ -52,26 +51,27 @@ pub record Stands (m : Memory) (sc : Script) : Type 0 where
   pub long : Long m
 
 module _ (h : Sheet) (m : Memory) (sc : Script) (st : Stands m sc) where
-  record-passes : refusalOf (judgedRecord m) ≡ scriptRefusal sc
+  record-passes : recordRefusal m ≡ scriptRefusal sc
   record-passes = ap refusalOf (st .judged) ∙ sym (ap scriptRefusal (sym (st .is)) ∙ accepted-script m (sc .blocks) [] (st .judged))
 
   pub refusal-same : (c : Call) → compileRefusalIn h m c ≡ compileRefusal h sc c
-  unfolding compileRefusalIn compileRefusal callRefusal
-  refusal-same c =
-      rw (record-passes, st .is)
-      (sym (first-nested (sheetRefusal h ∷ scriptRefusal sc ∷ setupRefusal sc (c .setup) ∷ [])
-      (shopRefusal h (c .shop) ∷ check (hasRoom sc (freshBlocks h sc c)) noRoom ∷ [])))
+  unfolding compileRefusalIn
+  refusal-same c = rw (record-passes, st .is)
 
   pub run-same : (b : ℕ) (s : Save) (budget : ℕ) → runIn h m b s budget ≡ runCall h sc b s budget
-  unfolding runIn runCall callRefusal
-  run-same b s budget =
-      rw (record-passes, st .is)
-      (ap (λ (n : ℕ). unlessRefused n (s .variables) (run (sc .blocks) s budget b (s .variables)))
-      (sym (first-nested (sheetRefusal h ∷ scriptRefusal sc ∷ setupRefusal sc b ∷ []) (saveRefusal h s ∷ []))))
+  unfolding runIn
+  run-same b s budget = rw (record-passes, st .is)
 
   pub parse-same : (b : ℕ) → parseIn h m b ≡ parseCall h sc b
-  unfolding parseIn parseCall callRefusal
+  unfolding parseIn
   parse-same b = rw (record-passes, st .is)
+
+  count-same : m .count ≡ length (sc .blocks)
+  unfolding scriptOf
+  count-same = sym (length-blocksIn m (m .count) 0) ∙ ap (λ (s : Script). length (s .blocks)) (st .is)
+
+  block-same : (b : ℕ) → b < m .count → blockIn m b ≡ blockAt (sc .blocks) b
+  block-same b l = sym (block-at m b l) ∙ ap (λ (s : Script). blockAt (s .blocks) b) (st .is)
 
   pub compiled-stands : (c : Call) → Stands (compiledIn h m c) (compiled h sc c)
   unfolding compiledIn compiled
@@ -92,96 +92,78 @@ module _ (h : Sheet) (m : Memory) (sc : Script) (st : Stands m sc) where
 -- ---- lists, from a judged record
 
 module _ (h : Sheet) where
-  pub all-stands : (m : Memory) (sc : Script) → Stands m sc → (cs : List Call) → Stands (afterAllIn h m cs) (afterAll h sc cs)
-  unfolding afterAllIn afterAll
-  all-stands m sc st [] = st
-  all-stands m sc st (c ∷ cs) = all-stands (compiledIn h m c) (compiled h sc c) (compiled-stands h m sc st c) cs
+  follows : Follows (compilesIn h) (compiles h) (λ c. c) (λ m c. Unit {0}) Stands
+  follows = record {
+    refusal = λ m sc c st p. refusal-same h m sc st c;
+    next = λ m sc c st p. compiled-stands h m sc st c;
+    now = λ m sc c b st p. refl;
+    names = λ c b. refl;
+    given = λ c. refl;
+    count = λ m sc st. count-same h m sc st;
+  }
 
-  pub last-same : (m : Memory) (sc : Script) → Stands m sc → (cs : List Call) (b : ℕ) → lastAtIn h m cs b ≡ lastAt h sc cs b
-  unfolding lastAtIn lastAt
-  last-same m sc st [] b = refl
-  last-same m sc st (c ∷ cs) b = rw (last-same (compiledIn h m c) (compiled h sc c) (compiled-stands h m sc st c) cs b, refusal-same h m sc st c)
+  -- a list on the record is the list on its script
+  pub followed : (m : Memory) (sc : Script) → Stands m sc → (cs : List Call) → Followed (compilesIn h) (compiles h) Stands m sc cs cs
+  followed m sc st cs =
+      subst (Followed (compilesIn h) (compiles h) Stands m sc cs) (map-id cs)
+      (follows-all (compilesIn h) (compiles h) (λ c. c) (λ m c. Unit {0}) Stands follows m sc st cs (along-all (compilesIn h) (λ m c. Unit {0}) (λ m c. tt) m cs))
 
-  count-same : (m : Memory) (sc : Script) → Stands m sc → m .count ≡ length (sc .blocks)
-  unfolding scriptOf
-  count-same m sc st = sym (length-blocksIn m (m .count) 0) ∙ ap (λ (s : Script). length (s .blocks)) (st .is)
-
-  none-same : (n : ℕ) (m : Memory) (sc : Script) → Stands m sc → (cs : List Call) → NoneAppendedIn h n m cs → NoneAppended h n sc cs
-  unfolding NoneAppendedIn NoneAppended
-  none-same n m sc st [] k = tt
-  none-same n m sc st (c ∷ cs) k =
-      ((λ p q. k .0 p (rw (count-same m sc st) q)), none-same n (compiledIn h m c) (compiled h sc c) (compiled-stands h m sc st c) cs (k .1))
-
-  judged-demand : (m : Memory) (sc : Script) → Stands m sc → (cs : List Call) → NoneAppendedIn h (m .count) m cs → Demand3In h m cs
-  judged-demand m sc st cs clean =
-      let n = count-same m sc st in
-      let c = subst (λ (k : ℕ). NoneAppended h k sc cs) n (none-same (m .count) m sc st cs clean) in
-      let d = demand-3 h sc cs c in
-      let last = all-stands m sc st cs in
+  judged-demand : (m : Memory) (sc : Script) → Stands m sc → (cs : List Call) → NoneAppended (compilesIn h) (m .count) m cs → Demand3In h m cs
+  judged-demand m sc st cs none-in =
+      let n = count-same h m sc st in
+      let f = followed m sc st cs in
+      let clean = subst (λ (k : ℕ). NoneAppended (compiles h) k sc cs) n (f .clean (m .count) none-in) in
+      let d = demand-3 h sc cs clean in
+      let last : (b : ℕ) → lastAt (compiles h) sc cs b ≡ lastAt (compilesIn h) m cs b = λ b. sym (f .last none b) in
+      let m′ : Memory = afterAll (compilesIn h) m cs in
+      let sc′ : Script = afterAll (compiles h) sc cs in
       record {
-        runs = λ b xs e s f. subst (RunsAs h s xs) (fun-ext (λ budget. sym (run-same h (afterAllIn h m cs) (afterAll h sc cs) last b s budget))) (d .runs b xs (sym (last-same m sc st cs b) ∙ e) s f);
-        parses = λ b xs e. parse-same h (afterAllIn h m cs) (afterAll h sc cs) last b ∙ d .parses b xs (sym (last-same m sc st cs b) ∙ e);
+        runs = λ b xs e s g. subst (RunsAs h s xs) (fun-ext (λ budget. sym (run-same h m′ sc′ (f .after) b s budget))) (d .runs b xs (last b ∙ e) s g);
+        parses = λ b xs e. parse-same h m′ sc′ (f .after) b ∙ d .parses b xs (last b ∙ e);
         others = λ b l e.
-            let more = grows-all h sc cs in
-            let n′ = count-same (afterAllIn h m cs) (afterAll h sc cs) last in
-            block-of (afterAllIn h m cs) (afterAll h sc cs) last b (omega arith) ∙ d .others b (omega arith) (sym (last-same m sc st cs b) ∙ e) ∙ sym (block-of m sc st b l);
-        previews = λ b xs e s f budget l.
-            subst (λ (r : Ran). Agrees (previewCall h xs s) (r .variables)) (sym (run-same h (afterAllIn h m cs) (afterAll h sc cs) last b s budget))
-            (preview-agrees h sc cs c b xs (sym (last-same m sc st cs b) ∙ e) s f budget l);
+            let more = grows-all h sc cs clean in
+            let n′ = count-same h m′ sc′ (f .after) in
+            block-same h m′ sc′ (f .after) b (omega arith) ∙ d .others b (omega arith) (last b ∙ e) ∙ sym (block-same h m sc st b l);
+        previews = λ b xs e s g budget l.
+            subst (λ (r : Ran). Agrees (previewCall h xs s) (r .variables)) (sym (run-same h m′ sc′ (f .after) b s budget)) (preview-agrees h sc cs clean b xs (last b ∙ e) s g budget l);
       }
-    where
-      block-of : (m : Memory) (sc : Script) → Stands m sc → (b : ℕ) → b < m .count → blockIn m b ≡ blockAt (sc .blocks) b
-      block-of m sc st b l = sym (block-at m b l) ∙ ap (λ (s : Script). blockAt (s .blocks) b) (st .is)
 
   -- ---- a record that is refused stays as it is: no compile on it is accepted
 
   module _ (m : Memory) (e : ℕ) (bad : judgedRecord m ≡ refused (suc e)) where
-    -- the checks after 1, from the judgement on
-    later : Call → List ℕ
-    later c = setupRefusal (scriptOf m) (c .setup) ∷ shopRefusal h (c .shop) ∷ check (hasRoom (scriptOf m) (freshBlocks h (scriptOf m) c)) noRoom ∷ []
-
     never : (c : Call) → compileRefusalIn h m c ≡ 0 → ⊥
-    unfolding compileRefusalIn later
+    unfolding compileRefusalIn
     never c p =
-        let q = first-passed (sheetRefusal h) (refusalOf (judgedRecord m) ∷ later c) p in
-        let r = first-passed (refusalOf (judgedRecord m)) (later c) (q .1) in
-        let z : refusalOf (judgedRecord m) ≡ suc e = ap refusalOf bad in
-        omega (arith, r .0, z)
+        let z : recordRefusal m ≡ suc e = ap refusalOf bad in
+        omega (arith, compile-passed h (recordRefusal m) (scriptOf m) c p .judged, z)
 
-    stays : (c : Call) → compiledIn h m c ≡ m
+    stays-once : (c : Call) → compiledIn h m c ≡ m
     unfolding compiledIn
-    stays c = by (eqb (compileRefusalIn h m c) 0) refl
-      where
-        by : (b : Bool) → eqb (compileRefusalIn h m c) 0 ≡ b
-            → cond b (redirectIn (putBlocks m (freshBlocks h (scriptOf m) c)) (c .setup) (rootOf h (length (scriptOf m .blocks)) 0 (withSlots (c .shop)))) m ≡ m
-        by true q = absurd (never c (eqb-true _ _ q))
-        by false q = refl
+    stays-once c = rw (ne-eqb (compileRefusalIn h m c) 0 (never c))
 
-    all-stay : (cs : List Call) → afterAllIn h m cs ≡ m
-    unfolding afterAllIn
-    all-stay [] = refl
-    all-stay (c ∷ cs) = ap (λ (k : Memory). afterAllIn h k cs) (stays c) ∙ all-stay cs
+    -- the record, and that none was accepted
+    abbrev Unmoved : Memory → ℕ → Option (List Slot) → Type 0
+    Unmoved t b o = (t ≡ m) × (o ≡ none)
 
-    none-last : (cs : List Call) (b : ℕ) → lastAtIn h m cs b ≡ none
-    unfolding lastAtIn
-    none-last [] b = refl
-    none-last (c ∷ cs) b = rw (stays c, none-last cs b, ne-eqb (compileRefusalIn h m c) 0 (never c))
+    unmoved-once : (t : Memory) (c : Call) (b k : ℕ) (o : Option (List Slot)) → Unit {0} → _≡_ {A = Option ℕ} (some b) (some k) → Unmoved t b o
+        → Unmoved (compiledIn h t c) k (latest (compilesIn h) t c b o)
+    unmoved-once t c b k o p i u = rw (u .0, u .1) (stays-once c, rw (ne-eqb (compileRefusalIn h m c) 0 (never c)))
+
+    unmoved : (cs : List Call) (b : ℕ) → Unmoved (afterAll (compilesIn h) m cs) b (lastAt (compilesIn h) m cs b)
+    unmoved cs b =
+        kept-all (compilesIn h) (λ m c. Unit {0}) Unmoved unmoved-once m cs (along-all (compilesIn h) (λ m c. Unit {0}) (λ m c. tt) m cs) b b none
+        (stays (compilesIn h) (λ t c j. refl) m cs b) (refl, refl)
 
     refused-demand : (cs : List Call) → Demand3In h m cs
     refused-demand cs = record {
-      runs = λ b xs q s f. absurd (none≢some (sym (none-last cs b) ∙ q));
-      parses = λ b xs q. absurd (none≢some (sym (none-last cs b) ∙ q));
-      others = λ b l q. ap (λ (k : Memory). blockIn k b) (all-stay cs);
-      previews = λ b xs q s f budget l. absurd (none≢some (sym (none-last cs b) ∙ q));
+      runs = λ b xs q s f. absurd (none≢some (sym (unmoved cs b .1) ∙ q));
+      parses = λ b xs q. absurd (none≢some (sym (unmoved cs b .1) ∙ q));
+      others = λ b l q. ap (λ (k : Memory). blockIn k b) (unmoved cs b .0);
+      previews = λ b xs q s f budget l. absurd (none≢some (sym (unmoved cs b .1) ∙ q));
     }
 
--- the judgement never refuses with 0
-pub proper-record : (m : Memory) → Proper (judgedRecord m)
-unfolding judgedRecord
-proper-record m = proper-cond (keptOk m) _ (refused overLimit) (proper-within (m .coded .count) (m .coded .nodes .count) (recordImage m)) (omega arith)
-
 -- demand 3 for every record whose arrays have the lengths of the lent ones
-pub demand-3-in : (h : Sheet) (m : Memory) → Long m → (cs : List Call) → NoneAppendedIn h (m .count) m cs → Demand3In h m cs
+pub demand-3-in : (h : Sheet) (m : Memory) → Long m → (cs : List Call) → NoneAppended (compilesIn h) (m .count) m cs → Demand3In h m cs
 demand-3-in h m long cs clean = by (judgedRecord m) refl (proper-record m)
   where
     by : (a : Answer (List Block)) → judgedRecord m ≡ a → Proper a → Demand3In h m cs

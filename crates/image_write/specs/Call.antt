@@ -14,7 +14,7 @@ use Rattle.model.specs.Reading.{refused}
 use Rattle.model.specs.Image.{image, readWithin}
 use Rattle.model.specs.Memory.{Memory, scriptOf}
 use Rattle.model.specs.Record.{recordImage, heldKept, limitsKept, keptOk, judgedRecord}
-use Rattle.model.specs.Files.{Wrote, over}
+use Rattle.model.specs.Files.{Wrote, over, writeChecked}
 use Rattle.model.specs.RecordCalls.{writeIn}
 use Rattle.model.specs.Laws.Reading.{passed}
 use Rattle.model.specs.Laws.Refused.{Proper, proper-cond, proper-within}
@@ -52,7 +52,7 @@ proper-record m =
     (proper-within (m .coded .count) (m .coded .nodes .count) (recordImage m)) (omega arith)
 
 pub call-no : (m : Memory) (xs : List ℕ) (r : Judged) (k : ℕ) → JudgedAs m r → r ≡ No k → Called m xs k 0 xs
-unfolding JudgedAs writeIn lengthIn
+unfolding JudgedAs writeIn writeChecked lengthIn
 call-no m xs r k t e = go k (rw e at t) (subst Proper (rw e at t) (proper-record m))
   where
     go : (n : ℕ) → judgedRecord m ≡ refused n → 0 < n → (wrote n xs ≡ writeIn m xs) × (0 ≡ lengthIn m xs)
@@ -85,7 +85,7 @@ module _ {m : Memory} {len : ℕ} (A : Accepted m len) where
     fine-room h = record { fits = omega (arith, A .bytes, ap length (A .same)) }
 
     pub call-short : length xs < len → Called m xs 16 0 xs
-    unfolding writeIn lengthIn
+    unfolding writeIn writeChecked lengthIn
     call-short h =
         let l : leb (length (image (A .blocks))) (length xs) ≡ false = lt-leb (length (image (A .blocks))) (length xs) (omega (arith, A .bytes)) in
         (rw (A .judged, blocks-are, l), rw (A .judged, blocks-are, l))
@@ -94,7 +94,7 @@ module _ {m : Memory} {len : ℕ} (A : Accepted m len) where
     over-is b h = let e : 0 + length b ≡ length b = omega arith in sets-eq b xs 0 (omega arith) ∙ ap (λ (k : ℕ). b ++ drop k xs) e
 
     pub call-fine : len ≤ length xs → {ys : List ℕ} {r : ℕ} → Stored xs 0 (recordImage m) ys r → Called m xs 0 r ys
-    unfolding writeIn lengthIn
+    unfolding writeIn writeChecked lengthIn
     call-fine h {ys} {r} s =
         let l : leb (length (image (A .blocks))) (length xs) ≡ true = le-leb (length (image (A .blocks))) (length xs) (omega (arith, A .bytes)) in
         let e : ys ≡ over (image (A .blocks)) xs = s .is ∙ ap (sets xs 0) (A .same) ∙ over-is (image (A .blocks)) (omega (arith, A .bytes)) in

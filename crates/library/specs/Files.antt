@@ -13,18 +13,18 @@ use Rattle.model.specs.Script.{Block}
 use Rattle.model.specs.Image.{image, readImage}
 use Rattle.model.specs.Memory.{Memory, memoryIn, scriptOf, putBlocks}
 use Rattle.model.specs.Record.{judgedRecord}
-use Rattle.model.specs.Files.{Wrote, wroteOf, over}
+use Rattle.model.specs.Files.{Wrote, wroteOf, over, writeChecked}
 use Rattle.model.specs.RecordCalls.{writeIn}
 use Rattle.model.specs.Laws.Checks.{first-passed}
 use Rattle.model.specs.Laws.Image.{same-bytes}
 use Rattle.model.specs.Laws.Refused.{Accepts, accepts}
 use Rattle.memory.specs.Sound.{Long}
+use Rattle.memory.specs.RecordLaws.{proper-record}
 use Rattle.image_read.specs.Outcome.{Outcome, held, nothing, readInto}
 use Rattle.image_write.specs.Call.{wrote, lengthOf, lengthIn}
 use Rattle.capi.specs.declared.Kept.{Kept}
 use Rattle.capi.specs.declared.Written.{Written}
 use Rattle.capi.specs.Answers.{outcomeBy, readAs}
-use Rattle.engine.specs.Records.{proper-record}
 use Rattle.engine.specs.Files.{Empty, read-writes, read-short, read-blocks, written-reads}
 
 -- the four arrays of a script, of any content
@@ -103,7 +103,7 @@ module _ (m : Memory) (out : List ℕ) (w : Written) (out′ : List ℕ) (writte
   answered = sym (ap (λ (x : Wrote). x .answer) (written .0)) ∙ fine
 
   passed : (refusalOf (judgedRecord m) ≡ 0) × (out′ ≡ over (image (scriptOf m .blocks)) out)
-  unfolding writeIn
+  unfolding writeIn writeChecked
   passed = by (firstOf (refusalOf (judgedRecord m) ∷ long-enough ∷ [])) refl answered
     where
       long-enough : ℕ

@@ -15,6 +15,7 @@ use Rattle.model.specs.Script.{Command, setVariable, Block, placeholder, blockA
 use Rattle.model.specs.Image.{exprImage, commandImage, commandsImage, linkImage, blockImage, blocksImage, image, Limits, limits, readTerm, setOf, commandOf, readCommand, readCommands, readCode, blockOf, readBlock, readBlocks, ended, readWithin}
 use Rattle.model.specs.Memory.{Nodes, Coded, Memory, tree, commandWord, setIn, commandBy, commandIn, commandsIn, blockWord, linkIn, blockBy, blockIn, blocksIn, scriptOf}
 use Rattle.model.specs.Record.{rootImage, targetImage, commandTail, commandImageIn, commandsImageIn, blockTail, blocksImageIn, recordImage, keptOk, judgedRecord}
+use Rattle.model.specs.Laws.Refused.{Proper, proper-cond, proper-within}
 use Rattle.model.specs.Laws.Reading.{split, passed, same-number, number-low, onto}
 use Rattle.model.specs.Laws.Image.{write-image}
 use Rattle.model.specs.Laws.Same.{same-command, same-block, same-read}
@@ -272,3 +273,10 @@ judged-sound m bs r p =
       blocks-are = sym e;
       all = write-image c n (recordImage m) bs r q .all;
     }
+
+-- the judgement never refuses with 0
+pub proper-record : (m : Memory) → Proper (judgedRecord m)
+unfolding judgedRecord
+proper-record m =
+    proper-cond (keptOk m) (readWithin (m .coded .count) (m .coded .nodes .count) (recordImage m)) (refused overLimit)
+    (proper-within (m .coded .count) (m .coded .nodes .count) (recordImage m)) (omega arith)

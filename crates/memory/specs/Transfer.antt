@@ -14,7 +14,7 @@ use Rattle.model.specs.Shop.{withSlots}
 use Rattle.model.specs.Compile.{redirect, Call, freshBlocks, rootOf, compileRefusal, appended}
 use Rattle.model.specs.Memory.{Memory, scriptOf, putBlocks, redirectIn}
 use Rattle.model.specs.Record.{limitsKept, keptOk, judgedRecord}
-use Rattle.model.specs.Laws.Checks.{setup-inside, call-passed, compile-passed}
+use Rattle.model.specs.Laws.Checks.{compile-passed}
 use Rattle.model.specs.Laws.Judged.{accepted-fits, fits-judged, counts-low, kept-judged}
 use Rattle.memory.specs.Sound.{Sound, Long, Room}
 use Rattle.memory.specs.RecordLaws.{sound-image, length-blocksIn, judged-sound}
@@ -129,9 +129,8 @@ compile-transfer h m c bs r p g a t e =
     let sc = scriptOf m in
     let xs = freshBlocks h sc c in
     let k = rootOf h (length (sc .blocks)) 0 (withSlots (c .shop)) in
-    let u = call-passed h sc (c .setup) (compile-passed h sc c a .0) in
-    let l = setup-inside sc (c .setup) (u .2) in
+    let u = compile-passed h (scriptRefusal sc) sc c a in
     let s = judged-sound m bs r p .sound in
-    let w = transfer m (sc .blocks) [] xs (c .setup) k (accepted-record m s (u .1)) g l (kept-judged h sc c a) in
+    let w = transfer m (sc .blocks) [] xs (c .setup) k (accepted-record m s (u .judged)) g (u .inside) (kept-judged h sc c a) in
     subst (λ (v : Memory). Sound v × Long v × (scriptOf v ≡ appended h sc c) × (judgedRecord v ≡ got (appended h sc c .blocks) [])) (sym e)
     (w .0 .sound, w .0 .long, w .0 .script-is, w .1)

@@ -10,8 +10,8 @@ use Rattle.model.specs.Sheet.{itemCount}
 use Rattle.model.specs.Printer.{atcEntry}
 use Rattle.model.specs.Shop.{padded, withSlots}
 use Rattle.model.specs.Memory.{Memory, scriptOf}
-use Rattle.model.specs.Parse.{State, Parsed, afterChecks, parse}
-use Rattle.model.specs.RecordCalls.{parseIn}
+use Rattle.model.specs.Parse.{State, Parsed, afterChecks, parse, parseChecked}
+use Rattle.model.specs.RecordCalls.{callIn, parseIn}
 use Rattle.shop.specs.declared.SlotItem.{SlotItem}
 use Rattle.shop.specs.declared.SlotItem.the-variants.{Nothing, Of}
 use Rattle.shop.specs.declared.Shop.{Shop}
@@ -25,7 +25,6 @@ use Rattle.shop_arrays.specs.Arrays.{Arrays, shopFrom, arraysOf}
 use Rattle.shop_arrays.specs.Slots.{slots-long, noArrays, shop-none}
 use Rattle.shop_arrays.specs.Back.{Full, none-back}
 use Rattle.shop.specs.Good.{beyond, GoodSlot, GoodShop, good-start}
-use Rattle.checks.specs.Calls.{callIn}
 use Rattle.checks.specs.Passed.{call-passed}
 use Rattle.parse.specs.Answer.{itemAs, slotWith, slotAs, answerOf, ParsedAs, ParsedInto}
 use Rattle.parse.specs.Known.{slots-arrays}
@@ -69,7 +68,7 @@ module _ (h : Model.Sheet) (m : Memory) (b : ℕ) where
   end = parse h (scriptOf m .blocks) b
 
   by-call : parseIn h m b ≡ afterChecks (callIn h m b) end
-  unfolding parseIn callIn
+  unfolding parseIn parseChecked callIn
   by-call = refl
 
   checked : (n : ℕ) → (n ≡ 0 → ⊥) → refusedBy n ≡ answerOf (afterChecks n end)

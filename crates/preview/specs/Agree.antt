@@ -16,9 +16,8 @@ use Rattle.model.specs.Compile.{Call}
 use Rattle.model.specs.Run.{runCall}
 use Rattle.model.specs.Meaning.{hidden, meaningOf, Means}
 use Rattle.model.specs.Preview.{Preview, previewCall}
-use Rattle.model.specs.Lists.{NoneAppended, afterAll, lastAt}
+use Rattle.model.specs.Lists.{NoneAppended, afterAll, compiles, lastAt}
 use Rattle.model.specs.Laws.Calls.{accepted-all}
-use Rattle.model.specs.Laws.Lists.{twenty, all-ok}
 use Rattle.model.specs.Demand.{demand-3}
 use Rattle.preview.specs.Shown.{meaningsOf, previewedOf}
 use Rattle.preview.specs.Accepted.{with-all, accepted-preview, items-are, counts-are}
@@ -43,16 +42,17 @@ means-agrees h s xs v e m = record {
 }
 
 -- the run from any block where a compile was accepted, under any save that fits the sheet, with a budget of 82 blocks or more
-pub preview-agrees : (h : Sheet) (sc : Script) (cs : List Call) → NoneAppended h (length (sc .blocks)) sc cs
-    → (b : ℕ) (xs : List Slot) → lastAt h sc cs b ≡ some xs
+pub preview-agrees : (h : Sheet) (sc : Script) (cs : List Call) → NoneAppended (compiles h) (length (sc .blocks)) sc cs
+    → (b : ℕ) (xs : List Slot) → lastAt (compiles h) sc cs b ≡ some xs
     → (s : Save) → saveRefusal h s ≡ 0 → (budget : ℕ) → runBlocks ≤ budget
-    → Agrees (previewCall h xs s) (runCall h (afterAll h sc cs) b s budget .variables)
+    → Agrees (previewCall h xs s) (runCall h (afterAll (compiles h) sc cs) b s budget .variables)
 preview-agrees h sc cs clean b xs e s f budget l =
     let r = demand-3 h sc cs clean .runs b xs e s f in
-    let n = twenty h sc cs b xs e in
-    let k : shopRefusal h xs ≡ 0 = ap (λ ys. check (all (slotOk h) ys) 8) (with-all xs n) ∙ ap (λ t. check t 8) (all-ok h sc cs b xs e) in
-    rw (accepted-preview h xs s n (accepted-all h sc cs b xs e .0) k f)
-    (means-agrees h s xs (runCall h (afterAll h sc cs) b s budget .variables) n (r .means budget (r .not-refused budget l)))
+    let a = accepted-all h sc cs clean b xs e in
+    let n = a .twenty in
+    let k : shopRefusal h xs ≡ 0 = ap (λ ys. check (all (slotOk h) ys) 8) (with-all xs n) ∙ ap (λ t. check t 8) (a .ok) in
+    rw (accepted-preview h xs s n (a .sheet) k f)
+    (means-agrees h s xs (runCall h (afterAll (compiles h) sc cs) b s budget .variables) n (r .means budget (r .not-refused budget l)))
 
 -- ---- the same of what the call hands out
 

@@ -12,11 +12,11 @@ use Rattle.model.specs.Reading.{got, refused, onward}
 use Rattle.model.specs.Script.{Block}
 use Rattle.model.specs.Sheet.{Sheet}
 use Rattle.model.specs.Image.{readImage}
-use Rattle.model.specs.Judge.{counted, scriptRefusal, callRefusal}
+use Rattle.model.specs.Judge.{counted, scriptRefusal, sharedRefusal}
 use Rattle.model.specs.Memory.{Memory, memoryIn, scriptOf, putBlocks}
 use Rattle.model.specs.Record.{judgedRecord}
 use Rattle.model.specs.RecordCalls.{parseIn}
-use Rattle.model.specs.Parse.{parseCall}
+use Rattle.model.specs.Parse.{parseCall, parseChecked}
 use Rattle.model.specs.Laws.Image.{image-fits}
 use Rattle.model.specs.Laws.Sound.{fits-held}
 use Rattle.model.specs.Laws.Judged.{held-accepted}
@@ -43,7 +43,7 @@ counted-passes s bs r p =
 
 -- a judged record with these blocks
 same-parse : (m : Memory) (bs : List Block) → judgedRecord m ≡ got bs [] → scriptOf m .blocks ≡ bs → scriptRefusal (counted bs) ≡ 0 → (h : Sheet) (b : ℕ) → parseIn h m b ≡ parseCall h (counted bs) b
-unfolding parseIn parseCall callRefusal
+unfolding parseIn parseChecked sharedRefusal
 same-parse m bs j q k h b = rw (j, q, k)
 
 -- what an image that was read left in the arrays

@@ -14,12 +14,11 @@ use Rattle.model.specs.Script.{Block}
 use Rattle.model.specs.Reading.{got}
 use Rattle.model.specs.Memory.{Coded, Memory, commandWord, blockWord, scriptOf}
 use Rattle.model.specs.Record.{judgedRecord}
-use Rattle.model.specs.RecordCalls.{runIn}
+use Rattle.model.specs.RecordCalls.{callIn, runIn}
 use Rattle.model.specs.Laws.Checked.{save-long}
 use Rattle.memory.specs.Sound.{Root, SoundTarget, SoundBy, SoundCommand, SoundKind}
 use Rattle.memory.specs.RecordLaws.{judged-sound}
 use Rattle.memory.specs.Transfer.{judged-kept}
-use Rattle.checks.specs.Calls.{callIn}
 use Rattle.checks.specs.Passed.{call-passed}
 use Rattle.expr.specs.Value.{reads}
 use Rattle.runner.specs.Steps.{Readable, Ready}

@@ -66,3 +66,10 @@ module _ {S C T D : Type 0} (X : Step S C) (Y : Step T D) (call : C → D) (P : 
         now = λ b. rw (f .now s t c b r (p .0)) (ap (following (Y .now t (call c) b)) (fun-ext (λ k. q .now k)));
         clean = λ n k. ((λ b l u. sym (f .names c b) ∙ k .0 b l (rw (f .count s t r) u)), q .clean n (k .1));
       }
+
+  -- what holds of each call of the one holds of each of the other
+  pub follows-along : (Q : S → C → Type 0) (Q′ : T → D → Type 0) → ((s : S) (t : T) (c : C) → R s t → Q s c → Q′ t (call c))
+      → (s : S) (t : T) → R s t → (cs : List C) → Along X P s cs → Along X Q s cs → Along Y Q′ t (map call cs)
+  unfolding Along
+  follows-along Q Q′ k s t r [] p q = tt
+  follows-along Q Q′ k s t r (c ∷ cs) p q = (k s t c r (q .0), follows-along Q Q′ k (X .next s c) (Y .next t (call c)) (f .next s t c r (p .0)) cs (p .1) (q .1))

@@ -7,7 +7,7 @@ use Rattle.model.specs.Sheet as Model
 use Rattle.shop.specs.Shapes.{sheetOf}
 use Rattle.shop_arrays.specs.Arrays.{shopFrom}
 use Rattle.shop_arrays.specs.Slots.{shop-none}
-use Rattle.checks.specs.Calls.{callIn}
+use Rattle.model.specs.RecordCalls.{callIn}
 use Rattle.checks.specs.Passed.{call-passed}
 use Rattle.parse.specs.Checked.{parse-refused, parse-stopped, parse-read, items-counted, atcs-counted, items-low}
 use Rattle.parse.proofs.parse_arrays.Statement.{statement}
