@@ -15,6 +15,7 @@ use Rattle.model.specs.Sheet.{Sheet, atcFor}
 use Rattle.model.specs.Requirement.{Requirement, haveItem, missingItem, haveAtc, missingAtc, haveFlag, missingFlag, sorted}
 use Rattle.model.specs.Shop.{Slot, withSlots, Timer, plain, five, ten, fifteen, timerOf, limitOf, shopRefusal}
 use Rattle.model.specs.Script.{Command, return, goto, setVariable, setOther, ifElse, endIf, otherCommand, Block, code, Script, blockCommands, blockNodes, sumOf}
+use Rattle.model.specs.Image.{Limits, limits}
 use Rattle.model.specs.Judge.{scriptRefusal, sharedRefusal}
 
 -- ---- tests: item[i] != 0, atc[a] != 0, flag[f]; Missing is the negation
@@ -196,15 +197,19 @@ pub record Call : Type 0 where
 abbrev pub freshBlocks : Sheet → Script → Call → List Block
 freshBlocks h sc c = shopBlocks h (length (sc .blocks)) (withSlots (c .shop))
 
-unfoldable pub hasRoom : Script → List Block → Bool
-hasRoom sc xs =
-    leb (length (sc .blocks) + length xs) blockLimit
-    && (leb (sc .commands + sumOf blockCommands xs) commandLimit && leb (sc .nodes + sumOf blockNodes xs) nodeLimit)
+abbrev pub discLimits : Limits
+discLimits = limits blockLimit commandLimit nodeLimit
+
+-- the kept counts and what is appended pass no limit of l
+unfoldable pub hasRoom : Limits → Script → List Block → Bool
+hasRoom l sc xs =
+    leb (length (sc .blocks) + length xs) (l .blocks)
+    && (leb (sc .commands + sumOf blockCommands xs) (l .commands) && leb (sc .nodes + sumOf blockNodes xs) (l .nodes))
 
 -- 1 to 7, 8, 9; j is what the judgement of the script answered
 unfoldable pub compileChecks : Sheet → ℕ → Script → Call → ℕ
 compileChecks h j sc c =
-    firstOf (sharedRefusal h j sc (c .setup) ∷ shopRefusal h (c .shop) ∷ check (hasRoom sc (freshBlocks h sc c)) noRoom ∷ [])
+    firstOf (sharedRefusal h j sc (c .setup) ∷ shopRefusal h (c .shop) ∷ check (hasRoom discLimits sc (freshBlocks h sc c)) noRoom ∷ [])
 
 abbrev pub compileRefusal : Sheet → Script → Call → ℕ
 compileRefusal h sc c = compileChecks h (scriptRefusal sc) sc c

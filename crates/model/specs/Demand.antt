@@ -18,7 +18,7 @@ use Rattle.model.specs.Parse.{parseCall, parseChecked}
 use Rattle.model.specs.Normal.{normalShop}
 use Rattle.model.specs.Lists.{NoneAppended, afterAll, compiles, lastAt}
 use Rattle.model.specs.Printer.{slots}
-use Rattle.model.specs.Laws.Calls.{Accepted, accepted-all, call-passes, kept-blocks}
+use Rattle.model.specs.Laws.Calls.{ShopAt, accepted-all, call-passes, kept-blocks}
 use Rattle.model.specs.Laws.Checked.{save-fits, save-long, sheet-fits}
 use Rattle.model.specs.Laws.Means.{writes-means}
 use Rattle.model.specs.Laws.ReadsAll.{linked-normal}
@@ -63,7 +63,7 @@ module _ (h : Sheet) (s : Save) (xs : List Slot) (answers : ℕ → Ran) (v : Se
     same = λ budget a. ends budget a ∙ sym (v .served runBlocks (v .few));
   }
 
-module _ (h : Sheet) (n : ℕ) (sc : Script) (b : ℕ) (xs : List Slot) (a : Accepted h n sc b xs) where
+module _ (h : Sheet) (n : ℕ) (sc : Script) (b : ℕ) (xs : List Slot) (a : ShopAt h n sc b xs) where
   -- with the checks passed the call is the run
   run-call : (s : Save) → saveRefusal h s ≡ 0 → (budget : ℕ) → runCall h sc b s budget ≡ run (sc .blocks) s budget b (s .variables)
   unfolding runChecked

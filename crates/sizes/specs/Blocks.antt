@@ -16,7 +16,7 @@ use Rattle.model.specs.Limits.{blockLimit, commandLimit, nodeLimit}
 use Rattle.model.specs.Requirement.{Requirement, missingItem, sorted}
 use Rattle.model.specs.Sheet.{Sheet}
 use Rattle.model.specs.Shop.{Slot, Timer, plain, five, ten, fifteen, timerOf, limitOf}
-use Rattle.model.specs.Compile.{test, joinTests, acquiredExpr, enableBlocks, uniqueBlocks, limitBlocks, filledBlocks, blocksFor, slotBlocks, slotsBlocks, shopBlocks, rootOf, returnBlock, hasRoom}
+use Rattle.model.specs.Compile.{test, joinTests, acquiredExpr, enableBlocks, uniqueBlocks, limitBlocks, filledBlocks, blocksFor, slotBlocks, slotsBlocks, shopBlocks, rootOf, returnBlock, discLimits, hasRoom}
 use Rattle.model.specs.Laws.Sound.{sum-append}
 use Rattle.memory.specs.declared.Counts.{Counts}
 use Rattle.expr_build.specs.Laws.{size-imm}
@@ -100,7 +100,7 @@ abbrev pub within : Counts → Size → Bool
 within k r = leb (k .blocks + r .blocks) blockLimit && (leb (k .commands + r .commands) commandLimit && leb (k .nodes + r .nodes) nodeLimit)
 
 pub room-within : (h : Sheet) (xs : List Slot) (k : Counts) (r : Size) → r ≡ shopSize h xs
-    → (sc : Script) → length (sc .blocks) ≡ k .blocks → sc .commands ≡ k .commands → sc .nodes ≡ k .nodes → within k r ≡ hasRoom sc (shopBlocks h (k .blocks) xs)
+    → (sc : Script) → length (sc .blocks) ≡ k .blocks → sc .commands ≡ k .commands → sc .nodes ≡ k .nodes → within k r ≡ hasRoom discLimits sc (shopBlocks h (k .blocks) xs)
 unfolding hasRoom
 room-within h xs k r e sc eb ec en = let s = shop-sized h (k .blocks) xs in rw (e, eb, ec, en, s .blocks, s .commands, s .nodes)
 

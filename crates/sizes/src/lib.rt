@@ -5,7 +5,7 @@ ghost use mathlib.Core.List.{map};
 ghost use lib.ListN.{length, take};
 ghost use Rattle.model.specs.Limits.{entryLimit, slotCount};
 ghost use Rattle.model.specs.Script.{Script};
-ghost use Rattle.model.specs.Compile.{shopBlocks, hasRoom};
+ghost use Rattle.model.specs.Compile.{shopBlocks, discLimits, hasRoom};
 ghost use Rattle.shop.specs.Shapes.{requirementOf, timerIs, sheetOf, slotOf, slotsOf};
 ghost use Rattle.shop.specs.Sets.{AllExact, Exact};
 ghost use Rattle.shop_arrays.specs.Arrays.{arraysIn, slotAt, shopFrom};
@@ -238,7 +238,7 @@ pub fn fits(
     lens: &[u8; 20],
 ) -> bool
     requires { ⌜ AllExact (shopFrom (arraysIn (now items) (now limits) (now codes) (now lens))) ⌝ }
-    ensures { λ r. ⌜ ((sc : Script) → length (sc .blocks) ≡ k .blocks → sc .commands ≡ k .commands → sc .nodes ≡ k .nodes → r ≡ hasRoom sc (shopBlocks (sheetOf (now (attached .entry)) sheet) (k .blocks) (slotsOf (shopFrom (arraysIn (now (items .entry)) (now (limits .entry)) (now (codes .entry)) (now (lens .entry))))))) ⌝ }
+    ensures { λ r. ⌜ ((sc : Script) → length (sc .blocks) ≡ k .blocks → sc .commands ≡ k .commands → sc .nodes ≡ k .nodes → r ≡ hasRoom discLimits sc (shopBlocks (sheetOf (now (attached .entry)) sheet) (k .blocks) (slotsOf (shopFrom (arraysIn (now (items .entry)) (now (limits .entry)) (now (codes .entry)) (now (lens .entry))))))) ⌝ }
 {
     if room(k, sized(MOST_BLOCKS, MOST_COMMANDS, MOST_NODES)) {
         return true;

@@ -1,6 +1,6 @@
 -- Lists of compiles: at a block where one was accepted the last shop accepted there is linked and the checks of run and parse pass, other blocks of the start are as they were. Assumes nothing.
 use mathlib.Core.Path.{_≡_, refl, sym, _∙_, subst}
-use mathlib.Core.Bool.{Bool, true, false, cond}
+use mathlib.Core.Bool.{Bool, true, false, cond, true≢false}
 use mathlib.Core.Option.{Option, none, some}
 use mathlib.Core.List.{List}
 use Prim.Native.Nat.{ℕ, _<_, _≤_}
@@ -23,7 +23,7 @@ use Rattle.model.specs.Laws.Judged.{kept-judged}
 use Rattle.model.specs.Laws.Lists.{kept-all, stays}
 
 -- b is one of the first n blocks, and xs the shop accepted last there
-pub record Accepted (h : Sheet) (n : ℕ) (sc : Script) (b : ℕ) (xs : List Slot) : Type 0 where
+pub record ShopAt (h : Sheet) (n : ℕ) (sc : Script) (b : ℕ) (xs : List Slot) : Type 0 where
   pub low : b < n
   pub link : Linked h n (sc .blocks) b xs
   pub twenty : length xs ≡ slotCount
@@ -31,7 +31,7 @@ pub record Accepted (h : Sheet) (n : ℕ) (sc : Script) (b : ℕ) (xs : List Slo
   pub sheet : sheetRefusal h ≡ 0
   pub judged : scriptRefusal sc ≡ 0
 
-module _ (h : Sheet) (n : ℕ) (sc : Script) (b : ℕ) (xs : List Slot) (a : Accepted h n sc b xs) where
+module _ (h : Sheet) (n : ℕ) (sc : Script) (b : ℕ) (xs : List Slot) (a : ShopAt h n sc b xs) where
   pub accepted-inside : b < length (sc .blocks)
   accepted-inside = let k = a .link in omega (arith, a .low, k .low, k .inside, lastOf-is (k .home) (slotsBlocks h (k .home) 0 xs))
 
@@ -52,13 +52,10 @@ module _ (h : Sheet) (n : ℕ) (sc : Script) (c : Call) (clean : (b : ℕ) → n
       by false e = j
 
   low-once : eqb (c .setup) b ≡ true → b < length (sc .blocks) → Dec (n ≤ b) → b < n
-  low-once t l (yes p) = let z : _≡_ {A = Bool} true false = sym t ∙ clean b p l in absurd (true≢false z)
-    where
-      true≢false : _≡_ {A = Bool} true false → ⊥
-      true≢false e = let z : _≡_ {A = ℕ} 0 1 = cc in omega arith
+  low-once t l (yes p) = absurd (true≢false (sym t ∙ clean b p l))
   low-once t l (no p) = omega arith
 
-  accepted-once : n ≤ length (sc .blocks) → acceptedAt (compiles h) sc c b ≡ true → Accepted h n (compiled h sc c) b (withSlots (c .shop))
+  accepted-once : n ≤ length (sc .blocks) → acceptedAt (compiles h) sc c b ≡ true → ShopAt h n (compiled h sc c) b (withSlots (c .shop))
   accepted-once p e =
       let z : compileRefusal h sc c ≡ 0 = eqb-true _ _ (and-left _ _ e) in
       let t : eqb (c .setup) b ≡ true = and-right (eqb (compileRefusal h sc c) 0) _ e in
@@ -73,7 +70,7 @@ module _ (h : Sheet) (n : ℕ) (sc : Script) (c : Call) (clean : (b : ℕ) → n
         judged = judged-once (q .judged);
       }
 
-  accepted-kept : (xs : List Slot) → acceptedAt (compiles h) sc c b ≡ false → Accepted h n sc b xs → Accepted h n (compiled h sc c) b xs
+  accepted-kept : (xs : List Slot) → acceptedAt (compiles h) sc c b ≡ false → ShopAt h n sc b xs → ShopAt h n (compiled h sc c) b xs
   accepted-kept xs e a = record {
     low = a .low;
     link = linked-once h sc c n b xs (a .link) (accepted-inside h n sc b xs a) e clean;
@@ -92,7 +89,7 @@ module _ (h : Sheet) (start : Script) where
   -- what stands at block b, o being the shop accepted last there
   abbrev Standing : Script → ℕ → Option (List Slot) → Type 0
   Standing sc b none = b < n → blockAt (sc .blocks) b ≡ blockAt (start .blocks) b
-  Standing sc b (some xs) = Accepted h n sc b xs
+  Standing sc b (some xs) = ShopAt h n sc b xs
 
   abbrev Held : Script → ℕ → Option (List Slot) → Type 0
   Held sc b o = (n ≤ length (sc .blocks)) × Standing sc b o
@@ -112,7 +109,7 @@ module _ (h : Sheet) (start : Script) where
     held-all : (b : ℕ) → Held (afterAll (compiles h) start cs) b (lastAt (compiles h) start cs b)
     held-all b = kept-all (compiles h) _ Held held-once start cs clean b b none (stays (compiles h) (λ s c j. refl) start cs b) (omega arith, λ l. refl)
 
-    pub accepted-all : (b : ℕ) (xs : List Slot) → lastAt (compiles h) start cs b ≡ some xs → Accepted h n (afterAll (compiles h) start cs) b xs
+    pub accepted-all : (b : ℕ) (xs : List Slot) → lastAt (compiles h) start cs b ≡ some xs → ShopAt h n (afterAll (compiles h) start cs) b xs
     accepted-all b xs e = subst (Held (afterAll (compiles h) start cs) b) e (held-all b) .1
 
     pub kept-blocks : (b : ℕ) → b < n → lastAt (compiles h) start cs b ≡ none → blockAt (afterAll (compiles h) start cs .blocks) b ≡ blockAt (start .blocks) b

@@ -13,7 +13,7 @@ use Rattle.model.specs.Sheet.{Sheet, all, sheetRefusal}
 use Rattle.model.specs.Shop.{shopRefusal, slotOk, withSlots}
 use Rattle.model.specs.Script.{Script, blockAt, isCode}
 use Rattle.model.specs.Judge.{setupRefusal, sharedRefusal}
-use Rattle.model.specs.Compile.{Call, compileChecks, freshBlocks, hasRoom}
+use Rattle.model.specs.Compile.{Call, compileChecks, discLimits, freshBlocks, hasRoom}
 
 -- where a list of checks refuses nothing, its first does not, nor do the others
 pub first-passed : (n : ℕ) (ns : List ℕ) → firstOf (n ∷ ns) ≡ 0 → (n ≡ 0) × (firstOf ns ≡ 0)
@@ -58,11 +58,11 @@ pub record CompilePassed (h : Sheet) (j : ℕ) (sc : Script) (c : Call) : Type 0
   pub judged : j ≡ 0
   pub inside : c .setup < length (sc .blocks)
   pub slots : all (slotOk h) (withSlots (c .shop)) ≡ true
-  pub room : hasRoom sc (freshBlocks h sc c) ≡ true
+  pub room : hasRoom discLimits sc (freshBlocks h sc c) ≡ true
 
 pub compile-passed : (h : Sheet) (j : ℕ) (sc : Script) (c : Call) → compileChecks h j sc c ≡ 0 → CompilePassed h j sc c
 unfolding compileChecks
 compile-passed h j sc c e =
-    let p = first3 (sharedRefusal h j sc (c .setup)) (shopRefusal h (c .shop)) (check (hasRoom sc (freshBlocks h sc c)) noRoom) e in
+    let p = first3 (sharedRefusal h j sc (c .setup)) (shopRefusal h (c .shop)) (check (hasRoom discLimits sc (freshBlocks h sc c)) noRoom) e in
     let q = shared-passed h j sc (c .setup) (p .0) in
     record { sheet = q .0; judged = q .1; inside = setup-inside sc (c .setup) (q .2); slots = passed _ 7 (p .1); room = passed _ 8 (p .2) }

@@ -11,11 +11,11 @@ use Rattle.model.specs.Limits.{blockLimit, commandLimit, nodeLimit, slot
 use Rattle.model.specs.Refusal.{overLimit}
 use Rattle.model.specs.Reading.{got, refused, refusalOf}
 use Rattle.model.specs.Script.{Block, Script, sumOf, blockCommands, blockNodes, commandsNodes}
-use Rattle.model.specs.Image.{image, readWithin}
+use Rattle.model.specs.Image.{Limits, image, readWithin}
 use Rattle.model.specs.Judge.{countsOk, judged, scriptRefusal}
 use Rattle.model.specs.Sheet.{Sheet, sheetOk}
 use Rattle.model.specs.Shop.{Slot, withSlots}
-use Rattle.model.specs.Compile.{Call, compileRefusal, appended, freshBlocks, shopBlocks, slotsBlocks, rootOf, redirect, hasRoom}
+use Rattle.model.specs.Compile.{Call, compileRefusal, appended, freshBlocks, shopBlocks, slotsBlocks, rootOf, redirect, discLimits, hasRoom}
 use Rattle.model.specs.Laws.Checks.{and-left, and-right, compile-passed}
 use Rattle.model.specs.Laws.Compiled.{lastOf-is}
 use Rattle.model.specs.Laws.Checks as Checks
@@ -98,21 +98,21 @@ held-accepted sc k d = fits-accepted sc (record { counts = low-counts sc k; fits
 
 -- ---- an accepted compile
 
-pub record Room (sc : Script) (xs : List Block) : Type 0 where
-  pub blocks : length (sc .blocks) + length xs ≤ blockLimit
-  pub commands : sc .commands + sumOf blockCommands xs ≤ commandLimit
-  pub nodes : sc .nodes + sumOf blockNodes xs ≤ nodeLimit
+pub record Room (l : Limits) (sc : Script) (xs : List Block) : Type 0 where
+  pub blocks : length (sc .blocks) + length xs ≤ l .blocks
+  pub commands : sc .commands + sumOf blockCommands xs ≤ l .commands
+  pub nodes : sc .nodes + sumOf blockNodes xs ≤ l .nodes
 
-pub room-low : (sc : Script) (xs : List Block) → hasRoom sc xs ≡ true → Room sc xs
+pub room-low : (l : Limits) (sc : Script) (xs : List Block) → hasRoom l sc xs ≡ true → Room l sc xs
 unfolding hasRoom
-room-low sc xs p =
-    let b = leb (length (sc .blocks) + length xs) blockLimit in
-    let c = leb (sc .commands + sumOf blockCommands xs) commandLimit in
-    let n = leb (sc .nodes + sumOf blockNodes xs) nodeLimit in
+room-low l sc xs p =
+    let b = leb (length (sc .blocks) + length xs) (l .blocks) in
+    let c = leb (sc .commands + sumOf blockCommands xs) (l .commands) in
+    let n = leb (sc .nodes + sumOf blockNodes xs) (l .nodes) in
     record {
-      blocks = leb-true (length (sc .blocks) + length xs) blockLimit (and-left b (c && n) p);
-      commands = leb-true (sc .commands + sumOf blockCommands xs) commandLimit (and-left c n (and-right b (c && n) p));
-      nodes = leb-true (sc .nodes + sumOf blockNodes xs) nodeLimit (and-right c n (and-right b (c && n) p));
+      blocks = leb-true (length (sc .blocks) + length xs) (l .blocks) (and-left b (c && n) p);
+      commands = leb-true (sc .commands + sumOf blockCommands xs) (l .commands) (and-left c n (and-right b (c && n) p));
+      nodes = leb-true (sc .nodes + sumOf blockNodes xs) (l .nodes) (and-right c n (and-right b (c && n) p));
     }
 
 redirect-sound : (k j : ℕ) → j < k → SoundBlock k (redirect j)
@@ -158,7 +158,7 @@ kept-judged h sc c p =
     let n = length (sc .blocks) in
     let xs = withSlots (c .shop) in
     let ys = freshBlocks h sc c in
-    let m = room-low sc ys (q .room) in
+    let m = room-low discLimits sc ys (q .room) in
     let e : Held (sc .commands + sumOf blockCommands ys) (sc .nodes + sumOf blockNodes ys) (set (sc .blocks ++ ys) (c .setup) (redirect (rootOf h n 0 xs)))
     = pushed-held (sc .commands) (sc .nodes) (sc .blocks) ys (c .setup) (redirect (rootOf h n 0 xs)) d
     (shop-sound h f n (n + length ys) xs (omega (arith, length-padded slotCount (c .shop))) (q .slots) (omega arith))
