@@ -40,6 +40,7 @@ pub record Made : Type 0 where
   pub refusal : ℕ
   pub after : Memory
 
+-- a list of them: what each answered and left is what is told of it
 abbrev pub made : Step Memory Made
 made = record {
   refusal = λ m x. x .refusal;
@@ -50,9 +51,12 @@ made = record {
   now = λ m x b. some b;
 }
 
--- answered as compile promises
+abbrev pub asCall : Made → Call
+asCall x = callOf (x .setup) (x .shop)
+
+-- x got the record m and answered as compile promises
 abbrev pub AsPromised : Sheet → Memory → Made → Type 0
-AsPromised h m x = CompiledAs h m (callOf (x .setup) (x .shop)) (x .refusal) (x .after)
+AsPromised h m x = CompiledAs h m (asCall x) (x .refusal) (x .after)
 
 -- a run answered r and left the variables v′, as run promises
 pub record RanWell (h : Sheet) (s : Save) (xs : List Slot) (budget : ℕ) (r : code.Ran) (v′ : List ℤ) : Type 0 where
@@ -79,10 +83,10 @@ pub record Delivered (h : Sheet) (m : Memory) (xs : List Made) : Type 0 where
 -- ---- from the promises to the definitions
 
 module _ (h : Sheet) where
-  follows : Follows made (compilesIn h) (λ x. callOf (x .setup) (x .shop)) (AsPromised h) (λ m t. m ≡ t)
+  follows : Follows made (compilesIn h) asCall (AsPromised h) (λ m t. m ≡ t)
   follows = record {
-    refusal = λ m t x e p. p .answer ∙ ap (λ (k : Memory). compileRefusalIn h k (callOf (x .setup) (x .shop))) e;
-    next = λ m t x e p. p .is ∙ ap (λ (k : Memory). compiledIn h k (callOf (x .setup) (x .shop))) e;
+    refusal = λ m t x e p. p .answer ∙ ap (λ (k : Memory). compileRefusalIn h k (asCall x)) e;
+    next = λ m t x e p. p .is ∙ ap (λ (k : Memory). compiledIn h k (asCall x)) e;
     now = λ m t x b e p. refl;
     names = λ x b. refl;
     given = λ x. refl;
@@ -91,12 +95,13 @@ module _ (h : Sheet) where
 
   -- ---- demand 3
 
+  -- the first gets the record m, each later one the record as the one before returned or left it
   module _ (m : Memory) (xs : List Made) (long : Long m) (promised : Along made (AsPromised h) m xs) (clean : NoneAppended made (m .count) m xs) where
     abbrev calls : List Call
-    calls = map (λ (x : Made). callOf (x .setup) (x .shop)) xs
+    calls = map asCall xs
 
     followed : Followed made (compilesIn h) (λ m t. m ≡ t) m m xs calls
-    followed = follows-all made (compilesIn h) (λ x. callOf (x .setup) (x .shop)) (AsPromised h) (λ m t. m ≡ t) follows m m refl xs promised
+    followed = follows-all made (compilesIn h) asCall (AsPromised h) (λ m t. m ≡ t) follows m m refl xs promised
 
     demand : Demand3In h m calls
     demand = demand-3-in h m long calls (followed .clean (m .count) clean)

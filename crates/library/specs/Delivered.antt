@@ -50,6 +50,7 @@ leftBy x = memoryIn (x .ws) (x .val) (x .cw) (x .bw) (x .answer .nodes) (x .answ
 abbrev pub shopOf : Arrays → List Slot
 shopOf a = slotsOf (shopFrom a)
 
+-- a list of them: what each answered and left is what is told of it
 abbrev pub made : Step Memory Made
 made = record {
   refusal = λ m x. x .answer .refusal;
@@ -60,7 +61,7 @@ made = record {
   now = λ m x b. some b;
 }
 
--- answered as lk_compile promises
+-- x got the script m and answered as lk_compile promises
 abbrev pub AsPromised : Sheet → Memory → Made → Type 0
 AsPromised h m x = CompiledAs h m (callOf (x .setup) (shopFrom (x .shop))) (x .answer .refusal) (leftBy x)
 
@@ -105,7 +106,7 @@ follows P = record {
 
 -- ---- demand 3
 
--- long: the lengths of the four arrays, which the types of lk_compile say; nothing is asked of what they hold
+-- the first gets the script m, each later one the script as the one before left it. long: the lengths of the four arrays, which the types of lk_compile say; nothing is asked of what they hold
 module _ (h : Sheet) (m : Memory) (xs : List Made) (long : Long m) (promised : Along made (AsPromised h) m xs) (clean : NoneAppended made (m .count) m xs) where
   followed : Followed made engine.made (λ m t. m ≡ t) m m xs (map compileOf xs)
   followed = follows-all made engine.made compileOf (AsPromised h) (λ m t. m ≡ t) (follows (AsPromised h)) m m refl xs promised
