@@ -3,7 +3,6 @@ use mathlib.Core.Path.{_≡_, refl, sym, ap, _∙_, subst}
 use mathlib.Core.Option.{none, some}
 use mathlib.Core.List.{List, map}
 use Prim.Native.Nat.{ℕ, _≤_, _<_}
-use lib.Dec.{eqb}
 use lib.IntN.{ℤ}
 use Rattle.model.specs.Limits.{runBlocks}
 use Rattle.model.specs.Save.{Save}
@@ -15,7 +14,7 @@ use Rattle.model.specs.Run.{Ran}
 use Rattle.model.specs.Parse.{Parsed}
 use Rattle.model.specs.Memory.{Memory, blockIn}
 use Rattle.model.specs.Compile.{Call}
-use Rattle.model.specs.Lists.{Along, NoneAppended, Step, afterAll, lastAt}
+use Rattle.model.specs.Lists.{Along, NoneAppended, Step, afterAll, compiling, lastAt}
 use Rattle.model.specs.Demand.{RunsAs}
 use Rattle.model.specs.RecordCalls.{compileRefusalIn, compiledIn, runIn, parseIn, compilesIn}
 use Rattle.model.specs.Laws.Lists.{Follows, Followed, follows-all}
@@ -42,14 +41,7 @@ pub record Made : Type 0 where
 
 -- a list of them: what each answered and left is what is told of it
 abbrev pub made : Step Memory Made
-made = record {
-  refusal = λ m x. x .refusal;
-  next = λ m x. x .after;
-  names = λ x b. eqb (x .setup) b;
-  given = λ x. withSlots (slotsOf (x .shop));
-  count = λ m. m .count;
-  now = λ m x b. some b;
-}
+made = compiling (λ m x. x .refusal) (λ m x. x .after) (λ x. x .setup) (λ x. withSlots (slotsOf (x .shop))) (λ m. m .count)
 
 abbrev pub asCall : Made → Call
 asCall x = callOf (x .setup) (x .shop)

@@ -24,7 +24,7 @@ use Rattle.model.specs.Normal.{normalShop}
 use Rattle.model.specs.Lists.{NoneAppended, afterAll, compiles, lastAt, latest}
 use Rattle.model.specs.RecordCalls.{recordRefusal, compileRefusalIn, compiledIn, runIn, parseIn, compilesIn}
 use Rattle.model.specs.Demand.{RunsAs, demand-3}
-use Rattle.model.specs.Laws.Lists.{Follows, Followed, along-all, follows-all, kept-all, none≢some, stays}
+use Rattle.model.specs.Laws.Lists.{Follows, Followed, along-any, follows-all, kept-all, none≢some, stays}
 use Rattle.model.specs.Laws.Calls.{grows-all}
 use Rattle.model.specs.Laws.Refused.{Proper}
 use Rattle.model.specs.Laws.Checks.{compile-passed}
@@ -106,7 +106,7 @@ module _ (h : Sheet) where
   pub followed : (m : Memory) (sc : Script) → Stands m sc → (cs : List Call) → Followed (compilesIn h) (compiles h) Stands m sc cs cs
   followed m sc st cs =
       subst (Followed (compilesIn h) (compiles h) Stands m sc cs) (map-id cs)
-      (follows-all (compilesIn h) (compiles h) (λ c. c) (λ m c. Unit {0}) Stands follows m sc st cs (along-all (compilesIn h) (λ m c. Unit {0}) (λ m c. tt) m cs))
+      (follows-all (compilesIn h) (compiles h) (λ c. c) (λ m c. Unit {0}) Stands follows m sc st cs (along-any (compilesIn h) m cs))
 
   judged-demand : (m : Memory) (sc : Script) → Stands m sc → (cs : List Call) → NoneAppended (compilesIn h) (m .count) m cs → Demand3In h m cs
   judged-demand m sc st cs none-in =
@@ -151,7 +151,7 @@ module _ (h : Sheet) where
 
     unmoved : (cs : List Call) (b : ℕ) → Unmoved (afterAll (compilesIn h) m cs) b (lastAt (compilesIn h) m cs b)
     unmoved cs b =
-        kept-all (compilesIn h) (λ m c. Unit {0}) Unmoved unmoved-once m cs (along-all (compilesIn h) (λ m c. Unit {0}) (λ m c. tt) m cs) b b none
+        kept-all (compilesIn h) (λ m c. Unit {0}) Unmoved unmoved-once m cs (along-any (compilesIn h) m cs) b b none
         (stays (compilesIn h) (λ t c j. refl) m cs b) (refl, refl)
 
     refused-demand : (cs : List Call) → Demand3In h m cs

@@ -3,7 +3,6 @@ use mathlib.Core.Path.{_≡_, refl, sym, ap, _∙_, subst}
 use mathlib.Core.Option.{none, some}
 use mathlib.Core.List.{List, map}
 use Prim.Native.Nat.{ℕ, zero, suc, _≤_, _<_}
-use lib.Dec.{eqb}
 use lib.IntN.{ℤ}
 use lib.ListN.{length-map}
 use Rattle.model.specs.Limits.{runBlocks}
@@ -14,7 +13,7 @@ use Rattle.model.specs.Normal.{normalShop}
 use Rattle.model.specs.Memory.{Memory, memoryIn, blockIn}
 use Rattle.model.specs.Preview.{previewCall}
 use Rattle.model.specs.RecordCalls.{runIn, parseIn}
-use Rattle.model.specs.Lists.{Along, NoneAppended, Step, afterAll, lastAt}
+use Rattle.model.specs.Lists.{Along, NoneAppended, Step, afterAll, compiling, lastAt}
 use Rattle.model.specs.Laws.Lists.{Follows, Followed, follows-all, follows-along}
 use Rattle.memory.specs.Sound.{Long}
 use Rattle.shop.specs.Shapes.{slotsOf, slotOf}
@@ -52,14 +51,7 @@ shopOf a = slotsOf (shopFrom a)
 
 -- a list of them: what each answered and left is what is told of it
 abbrev pub made : Step Memory Made
-made = record {
-  refusal = λ m x. x .answer .refusal;
-  next = λ m x. leftBy x;
-  names = λ x b. eqb (x .setup) b;
-  given = λ x. shopOf (x .shop);
-  count = λ m. m .count;
-  now = λ m x b. some b;
-}
+made = compiling (λ m x. x .answer .refusal) (λ m x. leftBy x) (λ x. x .setup) (λ x. shopOf (x .shop)) (λ m. m .count)
 
 -- x got the script m and answered as lk_compile promises
 abbrev pub AsPromised : Sheet → Memory → Made → Type 0

@@ -1,5 +1,5 @@
 -- Demand 3: one theorem about any list of compiles, in the terms of the calls with all their checks. Assumes nothing.
-use mathlib.Core.Path.{_≡_, sym, ap, _∙_}
+use mathlib.Core.Path.{_≡_, sym, ap, _∙_, fun-ext, subst}
 use mathlib.Core.Option.{none, some}
 use mathlib.Core.List.{List}
 use Prim.Native.Nat.{ℕ, _<_, _≤_}
@@ -73,14 +73,7 @@ module _ (h : Sheet) (n : ℕ) (sc : Script) (b : ℕ) (xs : List Slot) (a : Sho
   run-at s f =
       let long = save-long h s f in
       let v = linked-run h n (sc .blocks) b xs (a .link) s (save-fits h s f) (s .variables) (omega arith) (a .twenty) in
-      runs-as h s xs (λ budget. runCall h sc b s budget)
-      (record {
-        blocks = v .blocks;
-        few = v .few;
-        served = λ budget q. run-call s f budget ∙ v .served budget q;
-        starved = λ budget q. ap (λ r. r .answer) (run-call s f budget) ∙ v .starved budget q;
-      })
-      (a .twenty) long
+      subst (RunsAs h s xs) (fun-ext (λ budget. sym (run-call s f budget))) (runs-as h s xs _ v (a .twenty) long)
 
   parse-at : parseCall h sc b ≡ record { answer = 0; slots = normalShop h xs }
   unfolding parseChecked

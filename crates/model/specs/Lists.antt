@@ -66,13 +66,9 @@ module _ {S C : Type 0} (X : Step S C) where
   abbrev pub NoneAppended : ℕ → S → List C → Type 0
   NoneAppended n s cs = Along (λ (t : S) (c : C). (b : ℕ) → n ≤ b → b < X .count t → X .names c b ≡ false) s cs
 
--- compiles on a script: every block keeps its number
+-- compiles: one names its setup block, and every block keeps its number
+abbrev pub compiling : {S C : Type 0} → (S → C → ℕ) → (S → C → S) → (C → ℕ) → (C → List Slot) → (S → ℕ) → Step S C
+compiling refusal next setup shop count = record { refusal = refusal; next = next; names = λ c b. eqb (setup c) b; given = shop; count = count; now = λ s c b. some b }
+
 abbrev pub compiles : Sheet → Step Script Call
-compiles h = record {
-  refusal = λ sc c. compileRefusal h sc c;
-  next = λ sc c. compiled h sc c;
-  names = λ c b. eqb (c .setup) b;
-  given = λ c. withSlots (c .shop);
-  count = λ sc. length (sc .blocks);
-  now = λ sc c b. some b;
-}
+compiles h = compiling (λ sc c. compileRefusal h sc c) (λ sc c. compiled h sc c) (λ c. c .setup) (λ c. withSlots (c .shop)) (λ sc. length (sc .blocks))

@@ -1,6 +1,5 @@
 -- The calls on a script record in memory, with all their checks: those of a script, the record's own judgement in the place of 2 to 5 (01, Script and Refusals). Assumes nothing: these are definitions.
 use mathlib.Core.Bool.{cond}
-use mathlib.Core.Option.{some}
 use mathlib.Core.List.{List}
 use Prim.Native.Nat.{ℕ}
 use lib.Dec.{eqb}
@@ -16,7 +15,7 @@ use Rattle.model.specs.Files.{Wrote, writeChecked}
 use Rattle.model.specs.Compile.{Call, compileChecks, freshBlocks, rootOf}
 use Rattle.model.specs.Run.{Ran, runChecked}
 use Rattle.model.specs.Parse.{Parsed, parseChecked}
-use Rattle.model.specs.Lists.{Step}
+use Rattle.model.specs.Lists.{Step, compiling}
 
 abbrev pub recordRefusal : Memory → ℕ
 recordRefusal m = refusalOf (judgedRecord m)
@@ -43,13 +42,6 @@ parseIn h m b = parseChecked h (recordRefusal m) (scriptOf m) b
 unfoldable pub writeIn : Memory → List ℕ → Wrote
 writeIn m out = writeChecked (recordRefusal m) (scriptOf m) out
 
--- compiles on a record, for lists of them
+-- for lists of compiles on a record
 abbrev pub compilesIn : Sheet → Step Memory Call
-compilesIn h = record {
-  refusal = λ m c. compileRefusalIn h m c;
-  next = λ m c. compiledIn h m c;
-  names = λ c b. eqb (c .setup) b;
-  given = λ c. withSlots (c .shop);
-  count = λ m. m .count;
-  now = λ m c b. some b;
-}
+compilesIn h = compiling (λ m c. compileRefusalIn h m c) (λ m c. compiledIn h m c) (λ c. c .setup) (λ c. withSlots (c .shop)) (λ m. m .count)

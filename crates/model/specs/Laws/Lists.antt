@@ -11,10 +11,11 @@ pub none≢some : {A : Type 0} {x : A} → _≡_ {A = Option A} none (some x) �
 none≢some e = let z : _≡_ {A = ℕ} 0 1 = cc in omega arith
 
 module _ {S C : Type 0} (X : Step S C) where
-  pub along-all : (P : S → C → Type 0) → ((s : S) (c : C) → P s c) → (s : S) (cs : List C) → Along X P s cs
+  -- where nothing is asked of a call
+  pub along-any : (s : S) (cs : List C) → Along X (λ s c. Unit {0}) s cs
   unfolding Along
-  along-all P k s [] = tt
-  along-all P k s (c ∷ cs) = (k s c, along-all P k (X .next s c) cs)
+  along-any s [] = tt
+  along-any s (c ∷ cs) = (tt, along-any (X .next s c) cs)
 
   -- where no call moves a block
   pub stays : ((s : S) (c : C) (b : ℕ) → X .now s c b ≡ some b) → (s : S) (cs : List C) (b : ℕ) → nowAt X s cs b ≡ some b
