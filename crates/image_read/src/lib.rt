@@ -41,6 +41,7 @@ pub enum Image {
 
 // ---- words
 
+// A word behind a call: whoever counts with it owes no proof that it fits.
 fn wide_word(x: u16) -> u64
     ensures { λ r. ⌜ (r ≡ x) × (r < wide16) ⌝ }
 {
