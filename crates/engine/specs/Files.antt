@@ -1,69 +1,34 @@
 -- Both round trips on script records: what was read and is written again, what was written and is read again. Assumes nothing.
-use mathlib.Core.Path.{_≡_, refl, sym, ap, _∙_}
-use mathlib.Core.List.{List, [], _∷_, _++_}
-use Prim.Native.Nat.{ℕ, zero, suc, _+_, _≤_, _<_}
-use native.Mathlib.Omega.{arith}
+use mathlib.Core.Path.{_≡_}
+use mathlib.Core.List.{List, [], _++_}
+use Prim.Native.Nat.{ℕ, _≤_, _<_}
 use lib.ListN.{length, drop}
 use borrow.Author.Tests.{le-leb, lt-leb}
-use Rattle.model.specs.Limits.{commandLimit, nodeLimit}
 use Rattle.model.specs.Refusal.{sliceShort}
 use Rattle.model.specs.Script.{Block}
 use Rattle.model.specs.Reading.{got}
 use Rattle.model.specs.Image.{image, readImage}
-use Rattle.model.specs.Judge.{scriptRefusal}
-use Rattle.model.specs.Memory.{Memory, scriptOf, blocksIn, putBlocks}
+use Rattle.model.specs.Memory.{Memory, scriptOf, putBlocks}
 use Rattle.model.specs.Record.{judgedRecord}
 use Rattle.model.specs.Files.{writeChecked}
 use Rattle.model.specs.RecordCalls.{writeIn}
-use Rattle.model.specs.Laws.Image.{same-bytes, image-fits}
-use Rattle.model.specs.Laws.Sound.{fits-held}
-use Rattle.model.specs.Laws.Judged.{held-accepted}
+use Rattle.model.specs.Laws.Image.{same-bytes}
 use Rattle.model.specs.Laws.Files.{write-then-read}
-use Rattle.memory.specs.Sound.{Sound, Long, Room}
-use Rattle.memory.specs.RecordLaws.{judged-sound}
-use Rattle.memory.specs.PutBlocks.{put-sound}
-use Rattle.memory.specs.Transfer.{accepted-record, accepted-script}
+use Rattle.memory.specs.Sound.{Long}
+use Rattle.memory.specs.ReadRecord.{Empty, read-judged, read-blocks}
+use Rattle.memory.specs.Transfer.{accepted-script}
 
 -- a judged record, written and read again, has the same blocks
 pub written-reads : (m : Memory) (bs : List Block) (r : List ℕ) → judgedRecord m ≡ got bs r → readImage (image (scriptOf m .blocks)) ≡ got (scriptOf m .blocks) []
 written-reads m bs r p = write-then-read (scriptOf m) (accepted-script m bs r p)
 
--- a record with nothing in it, as an image is read into
-pub record Empty (m : Memory) : Type 0 where
-  pub blocks : m .count ≡ 0
-  pub commands : m .coded .count ≡ 0
-  pub nodes : m .coded .nodes .count ≡ 0
-
 module _ (m : Memory) (e : Empty m) (long : Long m) (s : List ℕ) (bs : List Block) (r : List ℕ) (p : readImage s ≡ got bs r) where
-  none-in : scriptOf m .blocks ≡ []
-  unfolding scriptOf blocksIn
-  none-in = ap (λ (n : ℕ). blocksIn m n 0) (e .blocks)
-
-  sound : Sound m
-  sound = record { block = λ b l. absurd (omega (arith, l, e .blocks)) }
-
-  -- what was read is judged, and has the blocks that the image says
-  pub read-judged : judgedRecord (putBlocks m bs) ≡ got bs []
-  unfolding scriptOf
-  read-judged =
-      let k = fits-held commandLimit nodeLimit bs (image-fits s bs r p) in
-      let room : Room m bs = record { blocks = omega (arith, k .few, e .blocks); commands = omega (arith, k .commands, e .commands); nodes = omega (arith, k .nodes, e .nodes) } in
-      let t = put-sound m bs sound long room in
-      let same : scriptOf (putBlocks m bs) .blocks ≡ bs = t .blocks-are ∙ ap (λ (xs : List Block). xs ++ bs) none-in in
-      let ok : scriptRefusal (scriptOf (putBlocks m bs)) ≡ 0 = held-accepted (scriptOf (putBlocks m bs))
-      (record { blocks = rw same (k .few); commands = omega (arith, k .commands, t .commands-counted, e .commands); nodes = omega (arith, k .nodes, t .nodes-counted, e .nodes) })
-      (record { few = rw same (k .few); sound = rw same (k .sound); commands = rw same (omega (arith, t .commands-counted)); nodes = rw same (omega (arith, t .nodes-counted)) }) in
-      accepted-record (putBlocks m bs) (t .sound) ok ∙ ap (λ (xs : List Block). got xs []) same
-
-  pub read-blocks : scriptOf (putBlocks m bs) .blocks ≡ bs
-  read-blocks = judged-sound (putBlocks m bs) bs [] read-judged .blocks-are
-
   -- an accepted image, read and written again, is the same bytes; what stood past it stays
   pub read-writes : (out : List ℕ) → length s ≤ length out → writeIn (putBlocks m bs) out ≡ record { answer = 0; slice = s ++ drop (length s) out }
   unfolding writeIn writeChecked
-  read-writes out l = rw (read-judged, read-blocks, same-bytes s bs r p, le-leb (length s) (length out) l)
+  read-writes out l = rw (read-judged m e long s bs r p, read-blocks m e long s bs r p, same-bytes s bs r p, le-leb (length s) (length out) l)
 
   -- a slice that is too short is not written
   pub read-short : (out : List ℕ) → length out < length s → writeIn (putBlocks m bs) out ≡ record { answer = sliceShort; slice = out }
   unfolding writeIn writeChecked
-  read-short out l = rw (read-judged, read-blocks, same-bytes s bs r p, lt-leb (length s) (length out) l)
+  read-short out l = rw (read-judged m e long s bs r p, read-blocks m e long s bs r p, same-bytes s bs r p, lt-leb (length s) (length out) l)

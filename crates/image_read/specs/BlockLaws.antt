@@ -16,9 +16,10 @@ use Rattle.model.specs.Memory.{Coded, codedIn, putCommands, memoryIn, pushBlock
 use Rattle.model.specs.Laws.Reading.{number-low}
 use Rattle.model.specs.Laws.Image.{said-commands}
 use Rattle.memory.specs.Pushed.{PushedBlock}
-use Rattle.image_read.specs.Told.{Told, limitsOf, PutMany, ToldCommands, PutLink, ToldLink, PutLinks, LinksRefused, first, second, ToldLinks, Declared, ToldCount, ToldBlock}
-use Rattle.image_read.specs.declared.Num.{Num}
-use Rattle.image_read.specs.declared.Num.the-variants.{Got, Bad}
+use Rattle.image_numbers.specs.Told.{Told}
+use Rattle.image_read.specs.Told.{limitsOf, PutMany, ToldCommands, PutLink, ToldLink, PutLinks, LinksRefused, first, second, ToldLinks, Declared, ToldCount, ToldBlock}
+use Rattle.image_numbers.specs.declared.Num.{Num}
+use Rattle.image_numbers.specs.declared.Num.the-variants.{Got, Bad}
 use Rattle.image_read.specs.declared.Step.{Step}
 use Rattle.image_read.specs.declared.Step.the-variants.{Got as Done, No}
 use Rattle.image_read.specs.declared.Stage.{Stage}

@@ -10,7 +10,7 @@ use Rattle.model.specs.Reading.{Answer, got, refused, onward}
 use Rattle.model.specs.Script.{Block, blockNodes, blockCommands}
 use Rattle.model.specs.Image.{Limits, readBlock, readBlocks}
 use Rattle.model.specs.Memory.{Memory, memoryIn, putBlock, putBlocks}
-use Rattle.image_read.specs.Answers.{seen-more, seen-none}
+use Rattle.image_numbers.specs.Answers.{seen-more, seen-none}
 use Rattle.image_read.specs.Counts.{nodes-block, held-block}
 use Rattle.image_read.specs.Told.{limitsOf, PutBlock, ToldBlock, ToldBlocks}
 use Rattle.image_read.specs.declared.Stage.{Stage}

@@ -10,7 +10,7 @@ use Rattle.model.specs.Reading.{Answer, got, refused, onward}
 use Rattle.model.specs.Script.{Command, commandNodes}
 use Rattle.model.specs.Image.{Limits, readCommand, readCommands}
 use Rattle.model.specs.Memory.{Coded, codedIn, putCommand, putCommands}
-use Rattle.image_read.specs.Answers.{seen-more, seen-none}
+use Rattle.image_numbers.specs.Answers.{seen-more, seen-none}
 use Rattle.image_read.specs.Told.{limitsOf, ToldCommand, PutOne, ToldCommands, PutMany}
 use Rattle.image_read.specs.declared.Step.{Step}
 use Rattle.image_read.specs.declared.Step.the-variants.{Got as Done, No}

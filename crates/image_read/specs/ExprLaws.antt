@@ -20,11 +20,32 @@ use Rattle.model.specs.declared.Kind.{Kind}
 use Rattle.model.specs.declared.Kind.the-variants.{Two, One, Imm16, Imm32, Other}
 use Rattle.memory.specs.Pushed.{PushedNode}
 use Rattle.image_read.specs.Counts.{count-put, size-pos}
-use Rattle.image_read.specs.Told.{Told, ToldImm, readAt, Head, ToldHead, ToldExpr, PutTerm, Roomy, AboveOne, AboveTwo}
-use Rattle.image_read.specs.declared.Num.{Num}
-use Rattle.image_read.specs.declared.Num.the-variants.{Got, Bad}
+use Rattle.image_numbers.specs.Told.{Told}
+use Rattle.image_read.specs.Told.{ToldImm, readAt, Head, ToldHead, ToldExpr, PutTerm, Roomy, AboveOne, AboveTwo}
+use Rattle.image_numbers.specs.declared.Num.{Num}
+use Rattle.image_numbers.specs.declared.Num.the-variants.{Got, Bad}
 use Rattle.image_read.specs.declared.Step.{Step}
 use Rattle.image_read.specs.declared.Step.the-variants.{Got as Done, No}
+
+-- ---- a number that is pushed
+
+module _ (s t : List ℕ) (l : ℕ) (r : Num) (q : Told s r (number l t)) where
+  pub imm-low : (v p : ℕ) → r ≡ Got v p → v < l
+  unfolding Told
+  imm-low v p e =
+      let a : Told s (Got v p) (number l t) = rw e at q in
+      number-low l t v (drop p s) (a .0)
+
+  module _ (ns : Nodes) (o : ℕ) (w : List ℕ) (vs : List ℤ) where
+    pub imm-told : (v p m : ℕ) {z : ℤ} → r ≡ Got v p → z ≡ zag v → PushedNode ns o 0 0 z (nodesIn w vs m) → ToldImm s ns o (number l t) (Done m p) w vs
+    unfolding Told ToldImm
+    imm-told v p m e ez h =
+        let a : Told s (Got v p) (number l t) = rw e at q in
+        record { value = v; read = a .0; place = a .1; after = h .is ∙ ap (pushNode ns o 0 0) ez }
+
+    pub imm-bad : r ≡ Bad → ToldImm s ns o (number l t) (No badImage) w vs
+    unfolding Told ToldImm
+    imm-bad e = (rw e at q, refl)
 
 -- ---- counts
 

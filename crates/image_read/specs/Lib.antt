@@ -1,8 +1,6 @@
 pub mod Told
 pub mod Outcome
-pub mod Answers
 pub mod Counts
-pub mod NumberLaws
 pub mod ExprLaws
 pub mod CommandLaws
 pub mod CommandLoop

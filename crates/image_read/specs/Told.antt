@@ -13,18 +13,12 @@ use Rattle.model.specs.Script.{Command, commandNodes, Block}
 use Rattle.model.specs.Image.{Limits, limits, readExpr, readLink, commandOf, blockOf}
 use Rattle.model.specs.Memory.{Nodes, nodesIn, pushNode, putExpr, Coded, codedIn, commandWords, putCommand, putCommands, Memory, memoryIn, linkWord, putBlock, putBlocks}
 use Rattle.memory.specs.Pushed.{PushedNode}
-use Rattle.image_read.specs.declared.Num.{Num}
-use Rattle.image_read.specs.declared.Num.the-variants.{Got, Bad}
 use Rattle.image_read.specs.declared.Step.{Step}
 use Rattle.image_read.specs.declared.Step.the-variants.{Got as Done, No}
 use Rattle.image_read.specs.declared.Stage.{Stage}
 use Rattle.image_read.specs.declared.Stage.the-variants.{Got as Both, No as Not}
 
--- ---- numbers
-
-unfoldable pub Told : List ℕ → Num → Answer ℕ → Type 0
-Told s (Got v p) a = (a ≡ got v (drop p s)) × (p ≤ length s)
-Told s Bad a = a ≡ refused badImage
+-- ---- expressions
 
 -- a number read and pushed as a node of code o
 pub record PutImm (s : List ℕ) (ns : Nodes) (o : ℕ) (a : Answer ℕ) (p : ℕ) (t : Nodes) : Type 0 where
@@ -36,8 +30,6 @@ pub record PutImm (s : List ℕ) (ns : Nodes) (o : ℕ) (a : Answer ℕ) (p : �
 unfoldable pub ToldImm : List ℕ → Nodes → ℕ → Answer ℕ → Step → List ℕ → List ℤ → Type 0
 ToldImm s ns o a (Done m p) w v = PutImm s ns o a p (nodesIn w v m)
 ToldImm s ns o a (No k) w v = (a ≡ refused badImage) × (k ≡ badImage)
-
--- ---- expressions
 
 -- what stands at a place, with n nodes pushed and o parents still to be pushed: their sum is the running count
 abbrev pub readAt : List ℕ → ℕ → ℕ → ℕ → Answer Expr

@@ -15,10 +15,11 @@ use Rattle.model.specs.Script.{Block}
 use Rattle.model.specs.Image.{readBlocks, ended, readWithin, readImage}
 use Rattle.model.specs.Memory.{Memory, memoryIn, putBlocks}
 use Rattle.memory.specs.declared.Counts.{Counts}
-use Rattle.image_read.specs.Told.{Told, limitsOf, PutBlocks, ToldBlocks}
+use Rattle.image_numbers.specs.Told.{Told}
+use Rattle.image_read.specs.Told.{limitsOf, PutBlocks, ToldBlocks}
 use Rattle.image_read.specs.Outcome.{held, cleared, readInto, outcome}
-use Rattle.image_read.specs.declared.Num.{Num}
-use Rattle.image_read.specs.declared.Num.the-variants.{Got, Bad}
+use Rattle.image_numbers.specs.declared.Num.{Num}
+use Rattle.image_numbers.specs.declared.Num.the-variants.{Got, Bad}
 use Rattle.image_read.specs.declared.Stage.{Stage}
 use Rattle.image_read.specs.declared.Stage.the-variants.{Got as Both, No as Not}
 use Rattle.image_read.specs.declared.Image.{Image}

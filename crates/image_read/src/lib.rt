@@ -1,28 +1,25 @@
-// The reader of an image: numbers, expressions, commands and blocks, and the whole script into lent arrays.
+// The reader of an image: expressions, commands and blocks, and the whole script into lent arrays.
 ghost use mathlib.Core.Path.{_≡_};
 ghost use Prim.Native.Nat.{_+_, _-_, _≤_, _<_};
 ghost use lib.ListN.{length, drop};
 ghost use Rattle.model.specs.Limits.{blockLimit, commandLimit, nodeLimit, depthLimit, wide, wide16};
-ghost use Rattle.model.specs.Reading.{groups, number, zag};
+ghost use Rattle.model.specs.Reading.{number};
 ghost use Rattle.model.specs.Image.{readBlockNo, commandOf, readCommand, readCommands, readLink, blockOf, readBlock, readBlocks, readImage};
 ghost use Rattle.model.specs.Memory.{nodesIn, codedIn, memoryIn};
-ghost use Rattle.image_read.specs.Told.{Told, ToldImm, ToldHead, readAt, ToldExpr, Roomy, AboveOne, AboveTwo};
+ghost use Rattle.image_read.specs.Told.{ToldImm, ToldHead, readAt, ToldExpr, Roomy, AboveOne, AboveTwo};
 ghost use Rattle.image_read.specs.Told.{limitsOf, ToldNo, ToldJump, ToldCommand, ToldSet, ToldCommands};
 ghost use Rattle.image_read.specs.Told.{ToldLink, ToldLinks, ToldCount, ToldBlock, ToldBlocks};
 ghost use Rattle.image_read.specs.Outcome.{outcome, readInto};
 ghost use Rattle.image_read.specs.Whole.{ToldImage};
+use image_numbers::Num;
+use image_numbers::read_number;
+use image_numbers::signed;
 use memory::Counts;
 use memory::kind_of;
 use memory::push_block;
 use memory::push_command;
 use memory::push_node;
 use model::Kind;
-
-// A number and the place after it.
-pub enum Num {
-    Got(u64, usize),
-    Bad,
-}
 
 // A number or a count and the place after what was read, or a refusal.
 enum Step {
@@ -42,15 +39,9 @@ pub enum Image {
     No(u8),
 }
 
-// ---- numbers
+// ---- words
 
-// A byte behind a call: whoever counts with it owes no proof that it fits.
-fn wide_byte(b: u8) -> u64
-    ensures { λ r. ⌜ r ≡ b ⌝ }
-{
-    b as u64
-}
-
+// A word behind a call: whoever counts with it owes no proof that it fits.
 fn wide_word(x: u16) -> u64
     ensures { λ r. ⌜ (r ≡ x) × (r < wide16) ⌝ }
 {
@@ -62,61 +53,6 @@ fn low_word(x: u64) -> u16
     ensures { λ r. ⌜ r ≡ x ⌝ }
 {
     x as u16
-}
-
-// A number of at most f groups. A group with the high bit before 0 is not shortest.
-fn read_groups(s: &[u8], at: usize, f: u8) -> Num
-    requires { ⌜ f ≤ 5 ⌝ }
-    ensures { λ r. ⌜ Told (now (s .entry)) r (groups f (drop at (now (s .entry)))) ⌝ }
-{
-    if f == 0 {
-        return Num::Bad;
-    }
-    if at >= s.len() {
-        return Num::Bad;
-    }
-    let b = wide_byte(s[at]);
-    if b < 128 {
-        return Num::Got(b, at + 1);
-    }
-    let high = read_groups(s, at + 1, f - 1);
-    match high {
-        Num::Got(v, p) => {
-            if v == 0 {
-                return Num::Bad;
-            }
-            Num::Got(128 * v + (b - 128), p)
-        }
-        Num::Bad => Num::Bad,
-    }
-}
-
-// A number below the limit. Five groups hold more than 32 bits: the limit is what makes one too wide.
-pub fn read_number(s: &[u8], at: usize, limit: u64) -> Num
-    ensures { λ r. ⌜ Told (now (s .entry)) r (number limit (drop at (now (s .entry)))) ⌝ }
-{
-    let n = read_groups(s, at, 5);
-    match n {
-        Num::Got(v, p) => {
-            if v < limit {
-                return Num::Got(v, p);
-            }
-            Num::Bad
-        }
-        Num::Bad => Num::Bad,
-    }
-}
-
-// The signed number that v stands for.
-fn signed(v: u64) -> i32
-    requires { ⌜ v < wide ⌝ }
-    ensures { λ r. ⌜ r ≡ zag v ⌝ }
-{
-    let h = (v / 2) as i32;
-    if v % 2 == 0 {
-        return h;
-    }
-    -1 - h
 }
 
 // ---- expressions

@@ -24,7 +24,7 @@ use Rattle.terms.specs.Told.{Kept}
 use Rattle.judge.specs.Stages.{Accepted, JudgedAs}
 use Rattle.judge.specs.declared.Judged.{Judged}
 use Rattle.judge.specs.declared.Judged.the-variants.{Fine, No}
-use Rattle.image_write.specs.Stored.{Stored, Room}
+use Rattle.image_numbers.specs.Stored.{Stored, Room}
 
 -- ---- the answer as the contract says it
 

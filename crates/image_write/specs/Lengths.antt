@@ -1,9 +1,9 @@
 -- How long the image of an accepted record can be, by its kept counts; and a plain record is an accepted one. Assumes nothing.
 use mathlib.Core.Path.{_≡_, refl, ap}
-use mathlib.Core.Bool.{Bool, true, false, cond}
+use mathlib.Core.Bool.{true}
 use mathlib.Core.Option.{Option, none, some}
 use mathlib.Core.List.{List, [], _∷_, _++_}
-use Prim.Native.Nat.{ℕ, zero, suc, _+_, _*_, _/_, _%_, _≤_}
+use Prim.Native.Nat.{ℕ, suc, _+_, _*_, _≤_}
 use native.Mathlib.Omega.{arith}
 use lib.Dec.{ltb}
 use lib.ListN.{length, length-append}
@@ -19,21 +19,9 @@ use Rattle.model.specs.Memory.{Memory, scriptOf}
 use Rattle.model.specs.Laws.Judged.{accepted-held}
 use Rattle.memory.specs.RecordLaws.{judged-sound}
 use Rattle.memory.specs.Transfer.{blocks-counted, accepted-script}
+use Rattle.image_numbers.specs.Lengths.{word-short}
 use Rattle.judge.specs.Stages.{Accepted}
 use Rattle.plain.specs.Counted.{Plain}
-
-groups-short : (f n : ℕ) → length (wordTo f n) ≤ f
-unfolding wordTo
-groups-short zero n = omega arith
-groups-short (suc f) n = by (ltb n 128) (λ k. groups-short f k)
-  where
-    by : (b : Bool) → ((k : ℕ) → length (wordTo f k) ≤ f) → length (cond b (n ∷ []) ((n % 128 + 128) ∷ wordTo f (n / 128))) ≤ suc f
-    by true h = omega arith
-    by false h = omega (arith, h (n / 128))
-
-word-short : (n : ℕ) → length (word n) ≤ 5
-unfolding word
-word-short n = groups-short 5 n
 
 -- codes are one byte
 code2-one : (o : Op2) → length (word (code2 o)) ≡ 1

@@ -1,6 +1,4 @@
 -- The writer's promises and the laws that carry them. Assumes nothing.
-pub mod Stored
-pub mod Words
 pub mod Nodes
 pub mod Commands
 pub mod Blocks

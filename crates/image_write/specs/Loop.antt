@@ -6,7 +6,7 @@ use native.Mathlib.Omega.{arith}
 use Rattle.model.specs.Memory.{Coded, Memory}
 use Rattle.model.specs.Record.{commandImageIn, commandsImageIn, blocksImageIn}
 use Rattle.judge.specs.Stages.{blockImageIn}
-use Rattle.image_write.specs.Stored.{Stored, Room, stored-none, stored-on, stored-as, room-as, room-first, room-next}
+use Rattle.image_numbers.specs.Stored.{Stored, Room, stored-none, stored-on, stored-as, room-as, room-first, room-next}
 
 -- many h f is one f and those after it, h in all
 pub record Pieces (one : ℕ → List ℕ) (many : ℕ → ℕ → List ℕ) : Type 0 where

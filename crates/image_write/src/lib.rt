@@ -1,16 +1,16 @@
 // Writing a script record as its image: judged first, then measured against the slice, then written piece by piece.
 ghost use mathlib.Core.Path.{_≡_};
 ghost use Prim.Native.Nat.{_+_, _≤_, _<_};
-ghost use Rattle.model.specs.Reading.{wordTo, word, zig};
-ghost use Rattle.model.specs.Laws.Reading.{room};
 ghost use Rattle.model.specs.Memory.{nodesIn, memoryIn};
 ghost use Rattle.model.specs.Record.{nodeImage, rootImage, commandTail, commandImageIn, commandsImageIn, blockTail, blocksImageIn, recordImage};
 ghost use Rattle.model.specs.RecordCalls.{writeIn};
+ghost use Rattle.image_numbers.specs.Stored.{Stored, Room};
 ghost use Rattle.terms.specs.Told.{nodesBy};
 ghost use Rattle.judge.specs.Stages.{codedBy, memoryBy, KeptBy, blockImageIn};
-ghost use Rattle.image_write.specs.Stored.{Stored, Room};
 ghost use Rattle.image_write.specs.Call.{wrote, lengthIn};
 ghost use Rattle.image_write.specs.Lengths.{mostBytes};
+use image_numbers::write_short;
+use image_numbers::write_value;
 use judge::Judged;
 use judge::judge_record;
 use memory::Counts;
@@ -18,62 +18,11 @@ use memory::index_of;
 use memory::kind_of;
 use model::Kind;
 use plain::is_plain;
-use terms::folded;
 
 // The refusal's number, or 0 and the length of the image in bytes.
 pub struct Written {
     pub refusal: u8,
     pub len: usize,
-}
-
-// ---- numbers
-
-fn low_byte(x: u64) -> u8
-    requires { ⌜ x < 256 ⌝ }
-    ensures { λ r. ⌜ r ≡ x ⌝ }
-{
-    x as u8
-}
-
-// The groups of v, low one first, of which there are at most f.
-fn write_groups(out: &mut [u8], at: usize, v: u64, f: u8) -> usize
-    requires { ⌜ (v < room f) × (0 < f) × Room (now out) at (wordTo f v) ⌝ }
-    ensures { λ r. ⌜ Stored (now (out .entry)) at (wordTo f v) (now (out .exit)) r ⌝ }
-{
-    if v < 128 {
-        out[at] = low_byte(v);
-        return at + 1;
-    }
-    out[at] = low_byte(v % 128 + 128);
-    write_groups(out, at + 1, v / 128, f - 1)
-}
-
-// Most numbers of an image take one byte, and those take no call.
-fn write_word(out: &mut [u8], at: usize, v: u64) -> usize
-    requires { ⌜ (v < 34359738368) × Room (now out) at (word v) ⌝ }
-    ensures { λ r. ⌜ Stored (now (out .entry)) at (word v) (now (out .exit)) r ⌝ }
-{
-    if v < 128 {
-        out[at] = low_byte(v);
-        return at + 1;
-    }
-    write_groups(out, at, v, 5)
-}
-
-// An element of an array: whoever writes it owes no proof that it is short enough.
-fn write_short(out: &mut [u8], at: usize, x: u16) -> usize
-    requires { ⌜ Room (now out) at (word x) ⌝ }
-    ensures { λ r. ⌜ Stored (now (out .entry)) at (word x) (now (out .exit)) r ⌝ }
-{
-    write_word(out, at, x as u64)
-}
-
-// A signed number, folded.
-fn write_value(out: &mut [u8], at: usize, z: i32) -> usize
-    requires { ⌜ Room (now out) at (word (zig z)) ⌝ }
-    ensures { λ r. ⌜ Stored (now (out .entry)) at (word (zig z)) (now (out .exit)) r ⌝ }
-{
-    write_word(out, at, folded(z))
 }
 
 // ---- expressions

@@ -14,8 +14,9 @@ use Rattle.model.specs.Memory.{Memory, blockWord}
 use Rattle.model.specs.Record.{commandsImageIn, blockTail}
 use Rattle.model.specs.Laws.Reading.{read-word}
 use Rattle.model.specs.Laws.Image.{said-commands}
-use Rattle.terms.specs.Told.{ShortWord, Good, Told}
-use Rattle.terms.specs.Numbers.{read-over, word-1}
+use Rattle.image_numbers.specs.Told.{ShortWord}
+use Rattle.terms.specs.Told.{Good, Told}
+use Rattle.image_numbers.specs.Lengths.{read-over, word-1}
 use Rattle.terms.specs.Pieces.{none, good-of, no-of, looser, first-no, paired}
 use Rattle.judge.specs.Commands.{code-word}
 use Rattle.judge.specs.Stages.{uncounted, both, readLinks, GoodBlock, Shows, Staged}

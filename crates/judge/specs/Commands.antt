@@ -13,7 +13,7 @@ use Rattle.model.specs.Memory.{Nodes, Coded, commandWord}
 use Rattle.model.specs.Record.{rootImage, targetImage, commandTail, commandImageIn}
 use Rattle.terms.specs.Told.{Told}
 use Rattle.judge.specs.Stages.{uncounted}
-use Rattle.terms.specs.Numbers.{read-over, word-1}
+use Rattle.image_numbers.specs.Lengths.{read-over, word-1}
 use Rattle.terms.specs.Pieces.{fine, none, good-of, no-of, looser, headed, wrapped, first-no, paired}
 use Rattle.terms.specs.declared.Step.{Step}
 use Rattle.terms.specs.declared.Step.the-variants.{Fine, No}

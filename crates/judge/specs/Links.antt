@@ -10,7 +10,8 @@ use Rattle.model.specs.Reading.{got, refused, word}
 use Rattle.model.specs.Image.{readBlockNo, linkOf, readLink}
 use Rattle.model.specs.Memory.{linkIn}
 use Rattle.model.specs.Laws.Reading.{read-word}
-use Rattle.terms.specs.Told.{ShortWord, Told}
+use Rattle.image_numbers.specs.Told.{ShortWord}
+use Rattle.terms.specs.Told.{Told}
 use Rattle.judge.specs.Stages.{uncounted}
 use Rattle.terms.specs.Pieces.{fine, none}
 use Rattle.terms.specs.declared.Step.the-variants.{Fine, No}

@@ -19,7 +19,8 @@ use Rattle.memory.specs.declared.Counts.{Counts}
 use Rattle.memory.specs.RecordLaws.{read-sound}
 use Rattle.memory.specs.Kept.{sound-kept}
 use Rattle.memory.specs.Agree.{past-judged}
-use Rattle.terms.specs.Told.{Kept, ShortWord}
+use Rattle.image_numbers.specs.Told.{ShortWord}
+use Rattle.terms.specs.Told.{Kept}
 use Rattle.judge.specs.Loop.{Part, Next, part-start, part-next, part-no, part-done, part-bytes}
 use Rattle.judge.specs.Stages.{Within, GoodBlock, Staged, JudgedAs, WalkedAs}
 use Rattle.judge.specs.Blocks.{block-of, stop-of}

@@ -11,11 +11,11 @@ ghost use Rattle.model.specs.Record.{rootImage, commandTail, commandImageIn, co
 ghost use Rattle.terms.specs.Told.{Told, limitsBy, nodesBy, ReadyBy};
 ghost use Rattle.judge.specs.Stages.{codedBy, memoryBy, KeptBy, uncounted, readLinks, StandingBy, Staged, blockImageIn, Within, JudgedAs, WalkedAs};
 use held::held_kept;
+use image_numbers::short_length;
 use memory::Counts;
 use memory::index_of;
 use terms::Step;
 use terms::judge_term;
-use terms::short_length;
 
 // Judged fine, with the length of the image in bytes, or the refusal's number.
 pub enum Judged {

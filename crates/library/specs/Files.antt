@@ -20,12 +20,13 @@ use Rattle.model.specs.Laws.Image.{same-bytes}
 use Rattle.model.specs.Laws.Refused.{Accepts, accepts}
 use Rattle.memory.specs.Sound.{Long}
 use Rattle.memory.specs.RecordLaws.{proper-record}
+use Rattle.memory.specs.ReadRecord.{Empty, read-blocks}
 use Rattle.image_read.specs.Outcome.{Outcome, held, nothing, readInto}
 use Rattle.image_write.specs.Call.{wrote, lengthOf, lengthIn}
 use Rattle.capi.specs.declared.Kept.{Kept}
 use Rattle.capi.specs.declared.Written.{Written}
 use Rattle.capi.specs.Answers.{outcomeBy, readAs}
-use Rattle.engine.specs.Files.{Empty, read-writes, read-short, read-blocks, written-reads}
+use Rattle.engine.specs.Files.{read-writes, read-short, written-reads}
 
 -- the four arrays of a script, of any content
 pub record Lent : Type 0 where

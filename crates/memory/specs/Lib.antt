@@ -7,4 +7,5 @@ pub mod PutNodes
 pub mod PutCommands
 pub mod PutBlocks
 pub mod Transfer
+pub mod ReadRecord
 pub mod Agree

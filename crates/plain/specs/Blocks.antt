@@ -11,7 +11,7 @@ use Rattle.model.specs.Script.{Block, commandsNodes}
 use Rattle.model.specs.Image.{readLink, readCommands, blockOf}
 use Rattle.model.specs.Record.{commandsImageIn, blockTail}
 use Rattle.terms.specs.Told.{Told, limitsBy}
-use Rattle.terms.specs.Numbers.{short-word}
+use Rattle.image_numbers.specs.Lengths.{short-word}
 use Rattle.terms.specs.declared.Step.the-variants.{Fine}
 use Rattle.judge.specs.Stages.{codedBy, memoryBy, KeptBy, uncounted, readLinks, Staged}
 use Rattle.judge.specs.Links.{link-there}

@@ -15,7 +15,7 @@ use Rattle.model.specs.Reading.{Answer, word}
 use Rattle.model.specs.Image.{readTerm, readBlockNo}
 use Rattle.model.specs.Record.{rootImage}
 use Rattle.terms.specs.Told.{Told, limitsBy, nodesBy}
-use Rattle.terms.specs.Numbers.{short-word}
+use Rattle.image_numbers.specs.Lengths.{short-word}
 use Rattle.terms.specs.Nodes.{term-told}
 use Rattle.terms.specs.declared.Step.the-variants.{Fine}
 use Rattle.judge.specs.Stages.{codedBy, KeptBy, uncounted}

@@ -12,7 +12,7 @@ use borrow.Author.Tests.{ltb-true, ltb-false}
 use Rattle.memory.specs.declared.Counts.{Counts}
 use Rattle.model.specs.Reading.{word}
 use Rattle.model.specs.Memory.{Memory}
-use Rattle.terms.specs.Numbers.{short-word}
+use Rattle.image_numbers.specs.Lengths.{short-word}
 use Rattle.judge.specs.Stages.{memoryBy, KeptBy, Accepted, JudgedAs}
 use Rattle.judge.specs.Whole.{Passing, pass-start, pass-next, pass-done}
 use Rattle.judge.specs.declared.Judged.the-variants.{Fine}

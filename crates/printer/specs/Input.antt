@@ -21,7 +21,7 @@ use Rattle.model.specs.Laws.Image.{image-fits}
 use Rattle.model.specs.Laws.Sound.{fits-held}
 use Rattle.model.specs.Laws.Judged.{held-accepted}
 use Rattle.memory.specs.Sound.{Long}
-use Rattle.memory.specs.RecordLaws.{judged-sound}
+use Rattle.memory.specs.ReadRecord.{Empty, read-judged, read-blocks}
 use Rattle.memory.specs.declared.Counts.{Counts}
 use Rattle.image_read.specs.Outcome.{outcome, readInto}
 use Rattle.image_read.specs.Caller.{was-accepted, was-refused}
@@ -31,7 +31,6 @@ use Rattle.model.specs.Printer.{refusedText, parsedText, inputText, slots}
 use Rattle.sheet_read.specs.declared.Heading.{Heading}
 use Rattle.sheet_read.specs.Outcome.{Head, headOf, readHead}
 use Rattle.sheet_read.specs.Whole.{withBlocks, read-input}
-use Rattle.engine.specs.Files.{Empty, read-judged}
 
 -- the kept counts of what was read are those of its blocks
 counted-passes : (s : List ℕ) (bs : List Block) (r : List ℕ) → readImage s ≡ got bs r → scriptRefusal (counted bs) ≡ 0
@@ -62,7 +61,7 @@ put-stands m e long s bs r p =
       rest = r;
       read = p;
       judged = j;
-      parses = same-parse (putBlocks m bs) bs j (judged-sound (putBlocks m bs) bs [] j .blocks-are) (counted-passes s bs r p);
+      parses = same-parse (putBlocks m bs) bs j (read-blocks m e long s bs r p) (counted-passes s bs r p);
     }
 
 pub read-stands : (ws : List ℕ) (vs : List ℤ) (cw bw : List ℕ) → Long (memoryIn ws vs cw bw 0 0 0) → (ws′ : List ℕ) (vs′ : List ℤ) (cw′ bw′ : List ℕ) (s : List ℕ) (k : Counts)

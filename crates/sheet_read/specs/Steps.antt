@@ -17,10 +17,10 @@ use Rattle.model.specs.Laws.Reading.{refused≢got}
 use Rattle.model.specs.Laws.Checks.{and-right}
 use Rattle.model.specs.Sheet
 use Rattle.model.specs.Printer.{must, atcEntry, readAtcs, readTimers}
-use Rattle.image_read.specs.Told.{Told}
-use Rattle.image_read.specs.Answers.{seen-more, seen-none}
-use Rattle.image_read.specs.declared.Num.{Num}
-use Rattle.image_read.specs.declared.Num.the-variants.{Got, Bad}
+use Rattle.image_numbers.specs.Told.{Told}
+use Rattle.image_numbers.specs.Answers.{seen-more, seen-none}
+use Rattle.image_numbers.specs.declared.Num.{Num}
+use Rattle.image_numbers.specs.declared.Num.the-variants.{Got, Bad}
 use Rattle.sheet_read.specs.Told.{Either, took, left, noEntry, within, timer, judged, Passed, ToldEntry, AtcsRead, TimersRead}
 use Rattle.sheet_read.specs.declared.Entry.{Entry}
 

@@ -15,9 +15,9 @@ use Rattle.model.specs.Sheet
 use Rattle.model.specs.Printer.{must, atcEntry, readAtcs, readTimers, readSheet, readInput, Input}
 use Rattle.model.specs.Image.{readImage}
 use Rattle.shop.specs.Shapes.{sheetOf}
-use Rattle.image_read.specs.Told.{Told}
-use Rattle.image_read.specs.declared.Num.{Num}
-use Rattle.image_read.specs.declared.Num.the-variants.{Got, Bad}
+use Rattle.image_numbers.specs.Told.{Told}
+use Rattle.image_numbers.specs.declared.Num.{Num}
+use Rattle.image_numbers.specs.declared.Num.the-variants.{Got, Bad}
 use Rattle.sheet_read.specs.Outcome.{Head, headOf, readHead, noHeading, held, nothing, by, into, outcome, readInto, Within}
 use Rattle.sheet_read.specs.Told.{took, left, within, judged, Passed, SetupRead, ToldSetup, AtcsRead, ItemsRead, timed, TimersRead, HeadRead, ToldHead}
 use Rattle.sheet_read.specs.Steps.{accepted, rejected, within-most, passed-on, judged-on, from-zero}

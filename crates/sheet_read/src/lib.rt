@@ -6,8 +6,8 @@ ghost use Rattle.model.specs.Limits.{mostItems, mostAtcs, wide16};
 ghost use Rattle.sheet_read.specs.Told.{within, timer, ToldEntry, ToldAtcs, ToldTimers, ToldItems, ToldSetup, ToldHead};
 ghost use Rattle.sheet_read.specs.Told.{noEntry, noTimers, noItems};
 ghost use Rattle.sheet_read.specs.Outcome.{noHeading, outcome, readInto, Within};
-use image_read::Num;
-use image_read::read_number;
+use image_numbers::Num;
+use image_numbers::read_number;
 use model::ItemId;
 use shop::Sheet;
 

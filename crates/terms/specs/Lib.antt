@@ -1,5 +1,4 @@
 -- The promises of expressions and the laws that carry them. Assumes nothing.
 pub mod Told
-pub mod Numbers
 pub mod Pieces
 pub mod Nodes

@@ -19,11 +19,21 @@ use Rattle.model.specs.declared.Op2.{Op2}
 use Rattle.model.specs.declared.Op1.{Op1}
 use Rattle.model.specs.declared.Kind.{Kind}
 use Rattle.model.specs.declared.Kind.the-variants.{Two, One, Imm16, Imm32, Other}
+use Rattle.image_numbers.specs.Lengths.{read-over, word-1, word-short}
 use Rattle.terms.specs.Told.{Told, immJudged}
-use Rattle.terms.specs.Numbers.{read-over, word-1, word-short}
 use Rattle.terms.specs.Pieces.{fine, none, good-of, no-of, moved, looser, wrapped, first-no, paired}
 use Rattle.terms.specs.declared.Step.{Step}
 use Rattle.terms.specs.declared.Step.the-variants.{Fine, No}
+
+-- ---- an immediate
+
+pub imm-fine : (v l n at w u : ℕ) → u ≡ v → u < l → w ≡ length (word u) → Fine n (at + w) ≡ immJudged v l n at
+unfolding immJudged
+imm-fine v l n at w u e h q = rw (← e, lt-ltb u l h, q)
+
+pub imm-no : (v l n at u : ℕ) → u ≡ v → l ≤ u → No 2 ≡ immJudged v l n at
+unfolding immJudged
+imm-no v l n at u e h = rw (← e, le-ltb u l h)
 
 -- ---- the image of a node is its code before its operands' images
 

@@ -2,7 +2,7 @@
 use mathlib.Core.Path.{_≡_}
 use mathlib.Core.Bool.{cond}
 use mathlib.Core.List.{List, _++_}
-use Prim.Native.Nat.{ℕ, _+_, _*_, _≤_, _<_}
+use Prim.Native.Nat.{ℕ, _+_, _*_, _≤_}
 use lib.Dec.{ltb}
 use lib.IntN.{ℤ}
 use lib.ListN.{length}
@@ -48,12 +48,6 @@ pub record Walking (b l depth k at : ℕ) : Type 0 where
   pub soon : at ≤ 6 * k + 200000
 
 -- ---- what they get
-
--- the number of groups of an element of an array
-pub record ShortWord (x r : ℕ) : Type 0 where
-  pub is : r ≡ length (word x)
-  pub short : r ≤ 3
-  pub low : x < 65536
 
 -- f accepts the bytes w whatever follows them. The nodes of what it reads come on top of n and stay within l,
 -- the bytes on top of at, and there are six for each node and x besides at most

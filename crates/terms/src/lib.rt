@@ -1,13 +1,14 @@
-// Expressions judged: numbers, and the walk over the nodes of an expression as its image would be read.
+// Expressions judged: immediates, and the walk over the nodes of an expression as its image would be read.
 ghost use mathlib.Core.Path.{_≡_};
 ghost use Prim.Native.Nat.{_-_, _≤_, _<_};
-ghost use lib.ListN.{length};
-ghost use Rattle.model.specs.Reading.{word, zig};
+ghost use Rattle.model.specs.Reading.{zig};
 ghost use Rattle.model.specs.Expr.{size};
 ghost use Rattle.model.specs.Image.{readExpr, readTerm};
 ghost use Rattle.model.specs.Memory.{nodesIn};
 ghost use Rattle.model.specs.Record.{nodeImage, rootImage};
-ghost use Rattle.terms.specs.Told.{Told, ShortWord, limitsBy, nodesBy, ReadyBy, Walking, immJudged};
+ghost use Rattle.terms.specs.Told.{Told, limitsBy, nodesBy, ReadyBy, Walking, immJudged};
+use image_numbers::folded;
+use image_numbers::word_length;
 use memory::Counts;
 use memory::kind_of;
 use model::Kind;
@@ -16,45 +17,6 @@ use model::Kind;
 pub enum Step {
     Fine(u16, usize),
     No(u8),
-}
-
-// The number that stands for a signed one in an image.
-pub fn folded(z: i32) -> u64
-    ensures { λ r. ⌜ r ≡ zig z ⌝ }
-{
-    if z < 0 {
-        let m = (-1 - z) as u64;
-        return 2 * m + 1;
-    }
-    let p = z as u64;
-    2 * p
-}
-
-// How many groups of seven bits a number takes.
-pub fn word_length(v: u64) -> usize
-    requires { ⌜ v < 34359738368 ⌝ }
-    ensures { λ r. ⌜ r ≡ length (word v) ⌝ }
-{
-    if v < 128 {
-        return 1;
-    }
-    if v < 16384 {
-        return 2;
-    }
-    if v < 2097152 {
-        return 3;
-    }
-    if v < 268435456 {
-        return 4;
-    }
-    5
-}
-
-// The same for an element of an array: whoever asks learns too that it is short.
-pub fn short_length(x: u16) -> usize
-    ensures { λ r. ⌜ ShortWord x r ⌝ }
-{
-    word_length(x as u64)
 }
 
 // The number of an immediate, which has to be below the limit.

@@ -14,7 +14,7 @@ use Rattle.model.specs.Limits.{mostItems}
 use Rattle.model.specs.Requirement.{number}
 use Rattle.model.specs.Printer.{digitsTo, decimal, signedDecimal}
 use Rattle.shop.specs.Shapes.{unshift, idOf, ofKind}
-use Rattle.image_write.specs.Stored.{Stored, stored-none, stored-on, stored-as}
+use Rattle.image_numbers.specs.Stored.{Stored, stored-none, stored-on, stored-as}
 use Rattle.text.specs.Written.{textLimit, Space, space-as}
 
 -- ---- digits

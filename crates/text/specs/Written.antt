@@ -6,7 +6,7 @@ use native.Mathlib.Omega.{arith}
 use native.Mathlib.Numerals.{add-one}
 use lib.ListN.{length, drop, getD, length-append}
 use lib.Seq.{sets, drop-cons}
-use Rattle.image_write.specs.Stored.{Stored, stored-none, stored-on, stored-as}
+use Rattle.image_numbers.specs.Stored.{Stored, stored-none, stored-on, stored-as}
 
 -- the bytes of the array that takes the text
 abbrev pub textLimit : ℕ

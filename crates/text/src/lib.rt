@@ -5,7 +5,7 @@ ghost use lib.IntN.{ℤ};
 ghost use Prim.Native.Nat.{_+_, _/_, _<_, _≤_};
 ghost use Rattle.model.specs.Printer.{digitsTo, decimal, signedDecimal, letter, requirementsText, itemText, slotLine, slotLines, refusedText};
 ghost use Rattle.shop.specs.Shapes.{unshift, idOf, ofKind, requirementOf, itemOf, slotOf, slotsOf};
-ghost use Rattle.image_write.specs.Stored.{Stored};
+ghost use Rattle.image_numbers.specs.Stored.{Stored};
 ghost use Rattle.text.specs.Written.{Space, Wrote};
 ghost use Rattle.text.specs.Lines.{requirementText, FewEach};
 use shop::Shop;

@@ -18,7 +18,7 @@ use Rattle.model.specs.declared.Op2.the-variants.{Equal, NotEqual, Less, LessEq
 use Rattle.model.specs.declared.Op1.{Op1}
 use Rattle.model.specs.declared.Op1.the-variants.{Not, Flag, Variable, Item, Atc, Time}
 use Rattle.model.specs.declared.Kind.the-variants.{Two, One}
-use Rattle.terms.specs.Numbers.{zig-low}
+use Rattle.image_numbers.specs.Signed.{zig-low}
 use Rattle.trees.specs.Trees.{Number, AboveOne, AboveTwo, two, one, imm16, imm32, other, Tree}
 
 -- ---- what callers have to bring

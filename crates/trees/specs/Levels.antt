@@ -16,8 +16,7 @@ use Rattle.model.specs.declared.Op1.{Op1}
 use Rattle.model.specs.declared.Kind.{Kind}
 use Rattle.model.specs.declared.Kind.the-variants.{Two, One, Imm16, Imm32, Other}
 use Rattle.terms.specs.Told.{Told, immJudged}
-use Rattle.terms.specs.Numbers.{imm-fine}
-use Rattle.terms.specs.Nodes.{Within, node-other, node-imm16, node-imm32, node-one, node-two}
+use Rattle.terms.specs.Nodes.{imm-fine, Within, node-other, node-imm16, node-imm32, node-one, node-two}
 use Rattle.terms.specs.declared.Step.{Step}
 use Rattle.terms.specs.declared.Step.the-variants.{Fine}
 use Rattle.trees.specs.Trees.{Number, AboveOne, AboveTwo, Node, two, one, imm16, imm32, other, Trees, Operands, Shallow, Reads}

@@ -1,9 +1,9 @@
--- read_imm keeps its promise; the steps are laws of specs/NumberLaws.antt.
+-- read_imm keeps its promise; the steps are laws of specs/ExprLaws.antt.
 use mir.Facts.{toZ-ofZ}
 use mir.Syntax.{w32}
 use mathlib.Core.Path.{_∙_}
 use native.Mathlib.Omega.{arith}
-use Rattle.image_read.specs.NumberLaws.{imm-low, imm-told, imm-bad}
+use Rattle.image_read.specs.ExprLaws.{imm-low, imm-told, imm-bad}
 use borrow.Author.Needs.{needs}
 use Rattle.image_read.proofs.read_imm.Statement.{statement}
 use Rattle.image_read.proofs.read_imm.Tie as tie

@@ -6,7 +6,7 @@ use Rattle.model.specs.Image.{kindOf}
 use Rattle.model.specs.Memory.{Nodes, nodesIn, codeAt, rightAt}
 use Rattle.model.specs.Record.{followImage, nodeImage}
 use Rattle.memory.specs.NodeLaws.{image-node, image-none}
-use Rattle.image_write.specs.Stored.{stored-on, stored-as, room-as, room-first, room-next}
+use Rattle.image_numbers.specs.Stored.{stored-on, stored-as, room-as, room-first, room-next}
 use Rattle.image_write.specs.Nodes.{node-two, node-one, node-imm16, node-imm32, node-other}
 use native.Mathlib.Omega.{arith}
 use borrow.Author.Needs.{needs}
@@ -16,9 +16,9 @@ use borrow.Fn.PlainCycle.{Measures, is, falls, and}
 use Rattle.image_write.proofs.write_expr.Reads as write-expr
 use Rattle.image_write.proofs.write_expr.Kinds as write-expr-kinds
 use Rattle.image_write.proofs.+write_expr.Lts-write_expr as write-expr-lts
-use Rattle.image_write.proofs.write_short.Reads as write-short-reads
+use Rattle.image_numbers.proofs.write_short.Reads as write-short-reads
 use Rattle.memory.proofs.kind_of.Reads as kind-of-reads
-use Rattle.image_write.proofs.write_value.Reads as write-value-reads
+use Rattle.image_numbers.proofs.write_value.Reads as write-value-reads
 use Rattle.image_write.proofs.+write_expr.{statement}
 use Rattle.image_write.proofs.+write_expr.Tie.{close}
 

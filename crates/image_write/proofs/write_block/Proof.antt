@@ -3,7 +3,7 @@ use Prim.Native.Nat.{_*_}
 use lib.ListN.{getD}
 use Rattle.model.specs.Record.{blockTail}
 use Rattle.model.specs.Memory.{Memory, memoryIn}
-use Rattle.image_write.specs.Stored.{stored-none, stored-on, stored-as, room-as, room-first, room-next}
+use Rattle.image_numbers.specs.Stored.{stored-none, stored-on, stored-as, room-as, room-first, room-next}
 use Rattle.image_write.specs.Blocks.{block-image, bare-image}
 use borrow.Author.Needs.{needs}
 use Rattle.image_write.proofs.write_block.Statement.{statement}

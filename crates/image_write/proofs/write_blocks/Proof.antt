@@ -2,7 +2,7 @@
 use Prim.Native.Nat.{_-_, _≤_}
 use Rattle.model.specs.Memory.{Memory, memoryIn}
 use Rattle.model.specs.Record.{blocksImageIn}
-use Rattle.image_write.specs.Stored.{stored-length}
+use Rattle.image_numbers.specs.Stored.{stored-length}
 use Rattle.image_write.specs.Loop.{Going, blocks-pieces, go-start, go-room, go-next, go-end}
 use native.Mathlib.Omega.{arith}
 use borrow.Author.Needs.{needs}

@@ -3,7 +3,7 @@ use mathlib.Core.List.{_++_}
 use Rattle.model.specs.Reading.{word}
 use Rattle.model.specs.Memory.{Memory, memoryIn, blockWord}
 use Rattle.model.specs.Record.{commandsImageIn}
-use Rattle.image_write.specs.Stored.{stored-on, stored-as, room-as, room-first, room-next}
+use Rattle.image_numbers.specs.Stored.{stored-on, stored-as, room-as, room-first, room-next}
 use Rattle.image_write.specs.Blocks.{code-image}
 use borrow.Author.Needs.{needs}
 use Rattle.image_write.proofs.write_code.Statement.{statement}

@@ -3,7 +3,7 @@ use Prim.Native.Nat.{_*_}
 use lib.ListN.{getD}
 use Rattle.model.specs.Record.{commandTail}
 use Rattle.model.specs.Memory.{Coded, codedIn}
-use Rattle.image_write.specs.Stored.{stored-on, stored-as, room-as, room-first, room-next}
+use Rattle.image_numbers.specs.Stored.{stored-on, stored-as, room-as, room-first, room-next}
 use Rattle.image_write.specs.Commands.{absent-image, command-image}
 use native.Mathlib.Omega.{arith}
 use borrow.Author.Needs.{needs}

@@ -3,7 +3,7 @@ use mathlib.Core.Path.{ap}
 use Prim.Native.Nat.{ℕ, _+_, _-_, _≤_}
 use Rattle.model.specs.Memory.{Coded, codedIn}
 use Rattle.model.specs.Record.{commandsImageIn}
-use Rattle.image_write.specs.Stored.{stored-length}
+use Rattle.image_numbers.specs.Stored.{stored-length}
 use Rattle.image_write.specs.Loop.{Going, commands-pieces, go-start, go-room, go-next, go-end}
 use native.Mathlib.Omega.{arith}
 use borrow.Author.Needs.{needs}

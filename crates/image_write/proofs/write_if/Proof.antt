@@ -1,7 +1,7 @@
 -- `image_write::write_if` meets its contract. Assumes nothing.
 use Rattle.model.specs.Reading.{word}
 use Rattle.model.specs.Memory.{Coded, codedIn, commandWord}
-use Rattle.image_write.specs.Stored.{stored-on, stored-as, room-as, room-first, room-next}
+use Rattle.image_numbers.specs.Stored.{stored-on, stored-as, room-as, room-first, room-next}
 use Rattle.image_write.specs.Commands.{if-image}
 use borrow.Author.Needs.{needs}
 use Rattle.image_write.proofs.write_if.Statement.{statement}

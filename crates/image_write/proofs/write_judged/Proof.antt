@@ -1,6 +1,6 @@
 -- `image_write::write_judged` meets its contract: refused by the judgement, by the slice's length, or written. Assumes nothing.
 use Rattle.model.specs.Memory.{Memory, memoryIn}
-use Rattle.image_write.specs.Stored.{stored-length}
+use Rattle.image_numbers.specs.Stored.{stored-length}
 use Rattle.image_write.specs.Call.{fine-of, fine-kept, fine-room, call-no, call-short, call-fine}
 use borrow.Author.Needs.{needs}
 use Rattle.image_write.proofs.write_judged.Statement.{statement}

@@ -1,7 +1,7 @@
 -- `image_write::write_record` meets its contract. Assumes nothing.
 use Rattle.model.specs.Memory.{Memory, memoryIn}
 use Rattle.model.specs.Record.{blocksImageIn}
-use Rattle.image_write.specs.Stored.{stored-on, stored-as, room-as, room-first, room-next}
+use Rattle.image_numbers.specs.Stored.{stored-on, stored-as, room-as, room-first, room-next}
 use Rattle.image_write.specs.Blocks.{record-image}
 use borrow.Author.Needs.{needs}
 use Rattle.image_write.proofs.write_record.Statement.{statement}

@@ -1,7 +1,7 @@
 -- `image_write::write_set` meets its contract, by the target's code. Assumes nothing.
 use Rattle.model.specs.Record.{rootImage}
 use Rattle.model.specs.Memory.{Coded, codedIn, commandWord}
-use Rattle.image_write.specs.Stored.{stored-on, stored-as, room-as, room-first, room-next}
+use Rattle.image_numbers.specs.Stored.{stored-on, stored-as, room-as, room-first, room-next}
 use Rattle.image_write.specs.Commands.{setRest, set-image, rest-variable, rest-other}
 use borrow.Author.Needs.{needs}
 use Rattle.image_write.proofs.write_set.Statement.{statement}

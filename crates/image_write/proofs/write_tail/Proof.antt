@@ -1,6 +1,6 @@
 -- `image_write::write_tail` meets its contract, by the command's code. Assumes nothing.
 use Rattle.model.specs.Memory.{Coded, codedIn}
-use Rattle.image_write.specs.Stored.{stored-none, stored-as, room-as}
+use Rattle.image_numbers.specs.Stored.{stored-none, stored-as, room-as}
 use Rattle.image_write.specs.Commands.{goto-image, endIf-image, bare-image}
 use borrow.Author.Needs.{needs}
 use Rattle.image_write.proofs.write_tail.Statement.{statement}

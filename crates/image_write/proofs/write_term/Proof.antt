@@ -1,5 +1,5 @@
 -- `image_write::write_term` meets its contract. Assumes nothing.
-use Rattle.image_write.specs.Stored.{stored-as, room-as}
+use Rattle.image_numbers.specs.Stored.{stored-as, room-as}
 use Rattle.image_write.specs.Nodes.{root-image}
 use borrow.Author.Needs.{needs}
 use Rattle.image_write.proofs.write_term.Statement.{statement}

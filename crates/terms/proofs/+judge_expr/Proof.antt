@@ -3,7 +3,7 @@ use native.Mathlib.Omega.{arith}
 use mir.Syntax.{w32}
 use mir.Facts.{toZ-ofZ}
 use Rattle.model.specs.Memory.{nodesIn}
-use Rattle.terms.specs.Numbers.{zig-low}
+use Rattle.image_numbers.specs.Signed.{zig-low}
 use Rattle.terms.specs.Pieces.{good-of}
 use Rattle.terms.specs.Nodes.{node-absent, node-unknown, node-over, node-deep, node-other, node-imm16, node-imm32, node-one, node-two, node-two-no}
 use borrow.Author.Needs.{needs}

@@ -1,7 +1,9 @@
 -- `terms::judge_imm` meets its contract. Assumes nothing.
 use mir.Facts.{toZ-ofZ}
 use native.Mathlib.Omega.{arith}
-use Rattle.terms.specs.Numbers.{zig-low, imm-fine, imm-no, word-short}
+use Rattle.image_numbers.specs.Signed.{zig-low}
+use Rattle.image_numbers.specs.Lengths.{word-short}
+use Rattle.terms.specs.Nodes.{imm-fine, imm-no}
 use borrow.Author.Needs.{needs}
 use Rattle.terms.proofs.judge_imm.Statement.{statement}
 use Rattle.terms.proofs.judge_imm.Tie as tie

@@ -1,5 +1,5 @@
 -- `text::put_item` meets its contract, by the item or none. Assumes nothing.
-use Rattle.image_write.specs.Stored.{stored-as}
+use Rattle.image_numbers.specs.Stored.{stored-as}
 use Rattle.text.specs.Written.{space-as}
 use Rattle.text.specs.Lines.{item-none, item-some}
 use native.Mathlib.Omega.{arith}

@@ -1,5 +1,5 @@
 -- `text::put_signed` meets its contract, by the sign. Assumes nothing.
-use Rattle.image_write.specs.Stored.{stored-as}
+use Rattle.image_numbers.specs.Stored.{stored-as}
 use Rattle.text.specs.Written.{part-of, part-byte, part-end, byte-space, last-space, space-as}
 use Rattle.text.specs.Numbers.{signed-low, signed-high}
 use borrow.Author.Needs.{needs}

@@ -3,7 +3,7 @@ use mir.Syntax.{w16}
 use mir.Facts.{toZ-ofZ}
 use mathlib.Core.Path.{ap, sym, _∙_}
 use Rattle.model.specs.Printer.{signedDecimal}
-use Rattle.image_write.specs.Stored.{stored-as}
+use Rattle.image_numbers.specs.Stored.{stored-as}
 use Rattle.text.specs.Written.{part-byte, part-on, part-end, part-space, byte-space, space-as}
 use Rattle.text.specs.Lines.{line-start}
 use borrow.Author.Needs.{needs}

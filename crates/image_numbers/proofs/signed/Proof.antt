@@ -1,8 +1,8 @@
--- signed keeps its promise; the steps are laws of specs/NumberLaws.antt.
-use Rattle.image_read.specs.NumberLaws.{signed-even, signed-fits, signed-odd}
+-- signed keeps its promise; the steps are laws of specs/Signed.antt.
+use Rattle.image_numbers.specs.Signed.{signed-even, signed-fits, signed-odd}
 use borrow.Author.Needs.{needs}
-use Rattle.image_read.proofs.signed.Statement.{statement}
-use Rattle.image_read.proofs.signed.Tie as tie
+use Rattle.image_numbers.proofs.signed.Statement.{statement}
+use Rattle.image_numbers.proofs.signed.Tie as tie
 
 cast-h : tie.Need-cast-h
 cast-h c = search needs

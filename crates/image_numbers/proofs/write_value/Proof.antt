@@ -1,13 +1,13 @@
--- `image_write::write_value` meets its contract. Assumes nothing.
+-- `image_numbers::write_value` meets its contract. Assumes nothing.
 use mathlib.Core.Path.{_≡_, ap, sym}
 use mir.Facts.{toZ-ofZ}
 use Rattle.model.specs.Reading.{word, zig}
-use Rattle.terms.specs.Numbers.{zig-low}
-use Rattle.image_write.specs.Stored.{stored-as}
+use Rattle.image_numbers.specs.Signed.{zig-low}
+use Rattle.image_numbers.specs.Stored.{stored-as}
 use native.Mathlib.Omega.{arith}
 use borrow.Author.Needs.{needs}
-use Rattle.image_write.proofs.write_value.Statement.{statement}
-use Rattle.image_write.proofs.write_value.Tie as tie
+use Rattle.image_numbers.proofs.write_value.Statement.{statement}
+use Rattle.image_numbers.proofs.write_value.Tie as tie
 
 folded-requires : tie.Need-folded-requires
 folded-requires c κs = search needs

@@ -1,29 +1,20 @@
--- The steps of the number reader, and a number pushed as a node. Assumes nothing.
+-- The steps of the number reader. Assumes nothing.
 use mathlib.Core.Path.{_≡_, refl, ap, sym, _∙_, subst}
 use mathlib.Core.Bool.{Bool, true, false, cond}
 use mathlib.Core.List.{List, [], _∷_}
-use Prim.Native.Nat.{ℕ, zero, suc, _+_, _-_, _*_, _/_, _%_, _≤_, _<_}
+use Prim.Native.Nat.{ℕ, zero, suc, _+_, _-_, _*_, _≤_, _<_}
 use native.Mathlib.Omega.{arith}
 use native.Mathlib.Numerals.{add-one}
 use lib.Dec.{ltb}
-use borrow.Author.Tests.{ltb-true, lt-ltb, le-ltb, eq-eqb, ne-eqb}
+use borrow.Author.Tests.{ltb-true, lt-ltb, le-ltb}
 use lib.ListN.{length, getD, drop, drop-of-length-le}
 use lib.Seq.{drop-cons}
-use lib.IntN.{ℤ, pos, negsuc, _-ℤ_}
-use mir.Syntax.{w32}
-use mir.Val.{SFits, toZ, ofZ}
-use mir.ValLaws.{toZ-pos}
-use mir.Facts.{toZ-ofZ}
-use Rattle.model.specs.Limits.{wide}
 use Rattle.model.specs.Refusal.{badImage}
-use Rattle.model.specs.Reading.{got, refused, groups, more, number, under, zag}
-use Rattle.model.specs.Laws.Reading.{refused≢got, got-value, room, more-split, number-low}
-use Rattle.model.specs.Memory.{Nodes, nodesIn, pushNode}
-use Rattle.memory.specs.Pushed.{PushedNode}
-use Rattle.image_read.specs.Told.{Told, ToldImm}
-use Rattle.image_read.specs.declared.Num.{Num}
-use Rattle.image_read.specs.declared.Num.the-variants.{Got, Bad}
-use Rattle.image_read.specs.declared.Step.the-variants.{Got as Done, No}
+use Rattle.model.specs.Reading.{got, refused, groups, more, number, under}
+use Rattle.model.specs.Laws.Reading.{refused≢got, got-value, room, more-split}
+use Rattle.image_numbers.specs.Told.{Told}
+use Rattle.image_numbers.specs.declared.Num.{Num}
+use Rattle.image_numbers.specs.declared.Num.the-variants.{Got, Bad}
 
 -- f groups hold less than 128 ^ f
 groups-low : (f : ℕ) (s : List ℕ) (n : ℕ) (r : List ℕ) → groups f s ≡ got n r → n < room f
@@ -119,53 +110,3 @@ module _ (s t : List ℕ) (l : ℕ) (r : Num) (q : Told s r (groups 5 t)) where
   told-none-under e =
       let a : Told s Bad (groups 5 t) = rw e at q in
       rw a
-
--- ---- a number that is pushed
-
-module _ (s t : List ℕ) (l : ℕ) (r : Num) (q : Told s r (number l t)) where
-  pub imm-low : (v p : ℕ) → r ≡ Got v p → v < l
-  unfolding Told
-  imm-low v p e =
-      let a : Told s (Got v p) (number l t) = rw e at q in
-      number-low l t v (drop p s) (a .0)
-
-  module _ (ns : Nodes) (o : ℕ) (w : List ℕ) (vs : List ℤ) where
-    pub imm-told : (v p m : ℕ) {z : ℤ} → r ≡ Got v p → z ≡ zag v → PushedNode ns o 0 0 z (nodesIn w vs m) → ToldImm s ns o (number l t) (Done m p) w vs
-    unfolding Told ToldImm
-    imm-told v p m e ez h =
-        let a : Told s (Got v p) (number l t) = rw e at q in
-        record { value = v; read = a .0; place = a .1; after = h .is ∙ ap (pushNode ns o 0 0) ez }
-
-    pub imm-bad : r ≡ Bad → ToldImm s ns o (number l t) (No badImage) w vs
-    unfolding Told ToldImm
-    imm-bad e = (rw e at q, refl)
-
--- ---- signed numbers
-
-pub zag-even : (n : ℕ) → n % 2 ≡ 0 → zag n ≡ pos (n / 2)
-unfolding zag
-zag-even n h = rw (eq-eqb (n % 2) 0 h)
-
-pub zag-odd : (n : ℕ) → (n % 2 ≡ 0 → ⊥) → zag n ≡ negsuc (n / 2)
-unfolding zag
-zag-odd n h = rw (ne-eqb (n % 2) 0 h)
-
-minus : (m : ℕ) → negsuc 0 -ℤ pos m ≡ negsuc m
-minus zero = refl
-minus (suc m) = ap negsuc (omega arith)
-
-module _ (v : ℕ) (h : v < wide) where
-  half : toZ w32 (v / 2) ≡ pos (v / 2)
-  half = toZ-pos w32 (v / 2) (omega arith)
-
-  pub signed-even : v % 2 ≡ 0 → toZ w32 (v / 2) ≡ zag v
-  signed-even e = half ∙ sym (zag-even v e)
-
-  down : negsuc 0 -ℤ toZ w32 (v / 2) ≡ negsuc (v / 2)
-  down = ap (λ (z : ℤ). negsuc 0 -ℤ z) half ∙ minus (v / 2)
-
-  pub signed-fits : SFits w32 (negsuc 0 -ℤ toZ w32 (v / 2))
-  signed-fits = rw down (record { sfits = omega arith })
-
-  pub signed-odd : (v % 2 ≡ 0 → ⊥) → toZ w32 (ofZ w32 (negsuc 0 -ℤ toZ w32 (v / 2))) ≡ zag v
-  signed-odd e = toZ-ofZ {w = w32} signed-fits ∙ down ∙ sym (zag-odd v e)

@@ -1,8 +1,8 @@
 -- read_number keeps its promise; the steps are laws of specs/NumberLaws.antt.
-use Rattle.image_read.specs.NumberLaws.{told-under, told-over, told-none-under}
+use Rattle.image_numbers.specs.NumberLaws.{told-under, told-over, told-none-under}
 use borrow.Author.Needs.{needs}
-use Rattle.image_read.proofs.read_number.Statement.{statement}
-use Rattle.image_read.proofs.read_number.Tie as tie
+use Rattle.image_numbers.proofs.read_number.Statement.{statement}
+use Rattle.image_numbers.proofs.read_number.Tie as tie
 
 read-groups-requires : tie.Need-read-groups-requires
 read-groups-requires c κs = search needs

@@ -1,10 +1,10 @@
--- `image_write::write_word` meets its contract, where five groups are enough. Assumes nothing.
+-- `image_numbers::write_word` meets its contract, where five groups are enough. Assumes nothing.
 use Rattle.model.specs.Reading.{word}
-use Rattle.image_write.specs.Words.{room-last, stored-last}
+use Rattle.image_numbers.specs.Words.{room-last, stored-last}
 use native.Mathlib.Omega.{arith}
 use borrow.Author.Needs.{needs}
-use Rattle.image_write.proofs.write_word.Statement.{statement}
-use Rattle.image_write.proofs.write_word.Tie as tie
+use Rattle.image_numbers.proofs.write_word.Statement.{statement}
+use Rattle.image_numbers.proofs.write_word.Tie as tie
 
 low-byte-requires : tie.Need-low-byte-requires
 low-byte-requires c κs = search needs

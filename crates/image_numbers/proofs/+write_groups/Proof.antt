@@ -1,19 +1,19 @@
--- `image_write::write_groups` meets its contract: the number of groups that may still come falls. Assumes nothing.
+-- `image_numbers::write_groups` meets its contract: the number of groups that may still come falls. Assumes nothing.
 use mathlib.Core.Path.{_≡_, _∙_}
 use lib.ListN.{length-set}
-use Rattle.image_write.specs.Stored.{stored-length}
-use Rattle.image_write.specs.Words.{high-low, high-some, room-last, room-more, room-high, stored-last, stored-more}
+use Rattle.image_numbers.specs.Stored.{stored-length}
+use Rattle.image_numbers.specs.Words.{high-low, high-some, room-last, room-more, room-high, stored-last, stored-more}
 use native.Mathlib.Omega.{arith}
 use borrow.Author.Needs.{needs}
 use Prim.Native.Nat.{ℕ, _<_}
 use borrow.Fn.Kinds.{In}
 use borrow.Fn.PlainCycle.{Measures, is, falls, and}
-use Rattle.image_write.proofs.write_groups.Reads as write-groups
-use Rattle.image_write.proofs.write_groups.Kinds as write-groups-kinds
-use Rattle.image_write.proofs.+write_groups.Lts-write_groups as write-groups-lts
-use Rattle.image_write.proofs.low_byte.Reads as low-byte-reads
-use Rattle.image_write.proofs.+write_groups.{statement}
-use Rattle.image_write.proofs.+write_groups.Tie.{close}
+use Rattle.image_numbers.proofs.write_groups.Reads as write-groups
+use Rattle.image_numbers.proofs.write_groups.Kinds as write-groups-kinds
+use Rattle.image_numbers.proofs.+write_groups.Lts-write_groups as write-groups-lts
+use Rattle.image_numbers.proofs.low_byte.Reads as low-byte-reads
+use Rattle.image_numbers.proofs.+write_groups.{statement}
+use Rattle.image_numbers.proofs.+write_groups.Tie.{close}
 
 abbrev μ-write-groups : Measures 1 write-groups-kinds.ps ℕ
 μ-write-groups κs a = a .1 .1 .1 .0

@@ -8,7 +8,7 @@ use lib.ListN.{length, set, length-set}
 use lib.Seq.{sets}
 use Rattle.model.specs.Reading.{wordTo}
 use Rattle.model.specs.Laws.Reading.{room}
-use Rattle.image_write.specs.Stored.{Stored, Room}
+use Rattle.image_numbers.specs.Stored.{Stored, Room}
 
 module _ (f v : ℕ) (some : 0 < f) where
   word-last : v < 128 → wordTo f v ≡ v ∷ []

@@ -1,9 +1,9 @@
--- `terms::short_length` meets its contract. Assumes nothing.
+-- `image_numbers::short_length` meets its contract. Assumes nothing.
 use native.Mathlib.Omega.{arith}
-use Rattle.terms.specs.Numbers.{short-word}
+use Rattle.image_numbers.specs.Lengths.{short-word}
 use borrow.Author.Needs.{needs}
-use Rattle.terms.proofs.short_length.Statement.{statement}
-use Rattle.terms.proofs.short_length.Tie as tie
+use Rattle.image_numbers.proofs.short_length.Statement.{statement}
+use Rattle.image_numbers.proofs.short_length.Tie as tie
 
 word-length-requires : tie.Need-word-length-requires
 word-length-requires c κs = search needs

@@ -1,22 +1,16 @@
--- Numbers as the judge meets them: the lengths of their words, what a limit refuses, and signed numbers folded. Assumes nothing.
-use mathlib.Core.Path.{_≡_, refl, ap, sym, _∙_, subst}
+-- How many groups of seven bits a number takes, and that one at or past a limit is refused. Assumes nothing.
+use mathlib.Core.Path.{_≡_, refl, sym, _∙_}
 use mathlib.Core.Bool.{Bool, true, false, cond}
 use mathlib.Core.List.{List, [], _∷_, _++_}
-use Prim.Native.Nat.{ℕ, zero, suc, _+_, _-_, _*_, _/_, _%_, _≤_, _<_}
+use Prim.Native.Nat.{ℕ, zero, suc, _+_, _/_, _%_, _≤_, _<_}
 use native.Mathlib.Omega.{arith}
-use lib.Dec.{T, ltb}
+use lib.Dec.{ltb}
 use borrow.Author.Tests.{ltb-true, ltb-false, lt-ltb, le-ltb}
-use lib.IntN.{ℤ, pos, negsuc, _-ℤ_}
-use lib.Signed.{ltZ}
 use lib.ListN.{length}
-use mir.Syntax.{w32}
-use mir.Val.{SFits}
-use Rattle.model.specs.Limits.{wide}
 use Rattle.model.specs.Refusal.{badImage}
-use Rattle.model.specs.Reading.{Answer, got, refused, groups, under, number, wordTo, word, zig}
+use Rattle.model.specs.Reading.{Answer, got, refused, groups, under, number, wordTo, word}
 use Rattle.model.specs.Laws.Reading.{same-groups}
-use Rattle.terms.specs.Told.{ShortWord, immJudged}
-use Rattle.terms.specs.declared.Step.the-variants.{Fine, No}
+use Rattle.image_numbers.specs.Told.{ShortWord}
 
 -- a number that is not below the limit is refused, however large
 pub read-over : (l n : ℕ) (s : List ℕ) → l ≤ n → number l (word n ++ s) ≡ refused badImage
@@ -85,46 +79,3 @@ short-word x r h e = record { is = e; short = go (ltb x 128) (ltb x 16384) refl 
     go true u p q = omega (arith, word-1 x (ltb-true x 128 p))
     go false true p q = omega (arith, word-2 x (ltb-false x 128 p) (ltb-true x 16384 q))
     go false false p q = omega (arith, word-3 x (ltb-false x 16384 q) (omega arith))
-
--- ---- an immediate
-
-pub imm-fine : (v l n at w u : ℕ) → u ≡ v → u < l → w ≡ length (word u) → Fine n (at + w) ≡ immJudged v l n at
-unfolding immJudged
-imm-fine v l n at w u e h q = rw (← e, lt-ltb u l h, q)
-
-pub imm-no : (v l n at u : ℕ) → u ≡ v → l ≤ u → No 2 ≡ immJudged v l n at
-unfolding immJudged
-imm-no v l n at u e h = rw (← e, le-ltb u l h)
-
--- ---- signed numbers
-
--- a negative number, flipped
-pub record Flipped (z : ℤ) : Type 0 where
-  pub high : ℕ
-  pub is : negsuc 0 -ℤ z ≡ pos high
-  pub low : high < 2147483648
-  pub folds : 2 * high + 1 ≡ zig z
-
-pub flipped : (z : ℤ) → SFits w32 z → ltZ z (pos 0) ≡ true → Flipped z
-unfolding zig
-flipped (pos n) f t = absurd (omega (arith, ltb-true n 0 t))
-flipped (negsuc n) f t =
-    let h : n < 2147483648 = f .sfits in
-    record { high = n; is = rw (le-ltb (suc n) 1 (omega arith)) (ap pos (omega arith)); low = h; folds = refl }
-
--- a number that is not
-pub record Plain (z : ℤ) : Type 0 where
-  pub high : ℕ
-  pub is : z ≡ pos high
-  pub low : high < 2147483648
-  pub folds : 2 * high ≡ zig z
-
-pub plain : (z : ℤ) → SFits w32 z → ltZ z (pos 0) ≡ false → Plain z
-unfolding zig
-plain (pos n) f t = record { high = n; is = refl; low = f .sfits; folds = refl }
-plain (negsuc n) f t = absurd (subst T t tt)
-
-pub zig-low : (z : ℤ) → SFits w32 z → zig z < wide
-unfolding zig
-zig-low (pos n) f = let h : n < 2147483648 = f .sfits in omega arith
-zig-low (negsuc n) f = let h : n < 2147483648 = f .sfits in omega arith

@@ -1,17 +1,17 @@
 -- read_groups keeps its promise; the steps are laws of specs/NumberLaws.antt.
 use Prim.Native.Nat.{_≤_, _-_}
 use native.Mathlib.Omega.{arith}
-use Rattle.image_read.specs.NumberLaws.{told-low, told-none, told-end, told-last, told-zero, told-more, told-bad}
+use Rattle.image_numbers.specs.NumberLaws.{told-low, told-none, told-end, told-last, told-zero, told-more, told-bad}
 use borrow.Author.Needs.{needs}
 use Prim.Native.Nat.{ℕ, _<_}
 use borrow.Fn.Kinds.{In}
 use borrow.Fn.PlainCycle.{Measures, is, falls, and}
-use Rattle.image_read.proofs.read_groups.Reads as read-groups
-use Rattle.image_read.proofs.read_groups.Kinds as read-groups-kinds
-use Rattle.image_read.proofs.+read_groups.Lts-read_groups as read-groups-lts
-use Rattle.image_read.proofs.wide_byte.Reads as wide-byte-reads
-use Rattle.image_read.proofs.+read_groups.{statement}
-use Rattle.image_read.proofs.+read_groups.Tie.{close}
+use Rattle.image_numbers.proofs.read_groups.Reads as read-groups
+use Rattle.image_numbers.proofs.read_groups.Kinds as read-groups-kinds
+use Rattle.image_numbers.proofs.+read_groups.Lts-read_groups as read-groups-lts
+use Rattle.image_numbers.proofs.wide_byte.Reads as wide-byte-reads
+use Rattle.image_numbers.proofs.+read_groups.{statement}
+use Rattle.image_numbers.proofs.+read_groups.Tie.{close}
 
 abbrev μ-read-groups : Measures 1 read-groups-kinds.ps ℕ
 μ-read-groups κs a = a .1 .1 .0

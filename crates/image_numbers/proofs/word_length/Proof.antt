@@ -1,7 +1,7 @@
--- `terms::word_length` meets its contract: a group more for each bound passed. Assumes nothing.
-use Rattle.terms.specs.Numbers.{word-1, word-2, word-3, word-4, word-5}
-use Rattle.terms.proofs.word_length.Statement.{statement}
-use Rattle.terms.proofs.word_length.Tie as tie
+-- `image_numbers::word_length` meets its contract: a group more for each bound passed. Assumes nothing.
+use Rattle.image_numbers.specs.Lengths.{word-1, word-2, word-3, word-4, word-5}
+use Rattle.image_numbers.proofs.word_length.Statement.{statement}
+use Rattle.image_numbers.proofs.word_length.Tie as tie
 
 returns : tie.Need-returns
 returns c = word-1 _ (c .if1 .taken)

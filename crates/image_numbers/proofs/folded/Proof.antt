@@ -1,5 +1,5 @@
--- `terms::folded` meets its contract, by the number's sign. Assumes nothing.
-use Rattle.terms.specs.Numbers.{Flipped, flipped, Plain, plain}
+-- `image_numbers::folded` meets its contract, by the number's sign. Assumes nothing.
+use Rattle.image_numbers.specs.Signed.{Flipped, flipped, Plain, plain}
 use native.Mathlib.Omega.{arith}
 use lib.Signed.{nonNeg}
 use lib.IntN.{ℤ, pos, natAbs}
@@ -8,8 +8,8 @@ use mir.Facts.{toZ-ofZ}
 use mir.Val.{Fits, SFits}
 use mir.Syntax.{w32, w64}
 use mathlib.Core.Path.{_≡_, ap, subst, sym}
-use Rattle.terms.proofs.folded.Statement.{statement}
-use Rattle.terms.proofs.folded.Tie as tie
+use Rattle.image_numbers.proofs.folded.Statement.{statement}
+use Rattle.image_numbers.proofs.folded.Tie as tie
 
 fl : (c : tie.Then1) → Flipped (c .before .args .z)
 fl c = flipped _ (c .before .fits .z) (rw (toZ-ofZ (c .before .fits .z)) at (c .if1 .taken))
