@@ -1,13 +1,15 @@
 -- The image of a node by its kind, and that the kept count of nodes is no part of it. Assumes nothing.
-use mathlib.Core.Path.{_≡_, refl, ap, ap₂, _∙_}
+use mathlib.Core.Path.{_≡_, refl, sym, ap, ap₂, _∙_}
 use mathlib.Core.Bool.{cond}
 use mathlib.Core.List.{List, _++_, append-nil}
 use Prim.Native.Nat.{ℕ, zero, suc, _+_, _*_, _<_}
+use native.Mathlib.Omega.{arith}
 use lib.Dec.{ltb}
 use lib.IntN.{ℤ}
 use lib.ListN.{getD}
 use Rattle.model.specs.Reading.{word, zig}
-use Rattle.model.specs.Image.{kindOf}
+use Rattle.model.specs.Image.{kindOf, codeOf}
+use Rattle.model.specs.Laws.ImageExpr.{kind-code}
 use Rattle.model.specs.Memory.{Nodes, nodesIn, codeAt, leftAt, rightAt, valueAt}
 use Rattle.model.specs.Record.{followImage, nodeImageTo, nodeImage, rootImage}
 use Rattle.model.specs.declared.Op2.{Op2}
@@ -39,6 +41,15 @@ module _ (ns : Nodes) (b i : ℕ) (lt : i < b) (k : Kind) (ek : k ≡ kindOf (co
   pub node-other : k ≡ Other → nodeImage ns b i ≡ word (codeAt ns i)
   unfolding followImage
   node-other e = by-kind Other e ∙ append-nil (word (codeAt ns i))
+
+module _ (ns : Nodes) (b i : ℕ) (lt : i < b) where
+  -- below b, b is no part of the image
+  pub node-whole : nodeImage ns b i ≡ nodeImage ns (suc i) i
+  node-whole = image-node ns b i lt ∙ sym (image-node ns (suc i) i (omega arith))
+
+  pub node-short : codeAt ns i ≡ 11 → nodeImage ns b i ≡ word 11 ++ word (zig (valueAt ns i))
+  unfolding codeOf
+  node-short e = rw e at (node-imm16 ns b i lt Imm16 (rw e (sym (kind-code Imm16))) refl)
 
 module _ (ws : List ℕ) (vs : List ℤ) (n m : ℕ) where
   follow-free : (f g : ℕ → ℕ → List ℕ) (i : ℕ) → ((b j : ℕ) → f b j ≡ g b j) → (k : Kind) → followImage f (nodesIn ws vs n) i k ≡ followImage g (nodesIn ws vs m) i k

@@ -1,6 +1,6 @@
 // Writing a script record as its image: judged first, then measured against the slice, then written piece by piece.
 ghost use mathlib.Core.Path.{_≡_};
-ghost use Prim.Native.Nat.{_+_, _≤_, _<_};
+ghost use Prim.Native.Nat.{suc, _+_, _≤_, _<_};
 ghost use Rattle.model.specs.Memory.{nodesIn, memoryIn};
 ghost use Rattle.model.specs.Record.{nodeImage, rootImage, commandTail, commandImageIn, commandsImageIn, blockTail, blocksImageIn, recordImage};
 ghost use Rattle.model.specs.RecordCalls.{writeIn};
@@ -27,9 +27,35 @@ pub struct Written {
 
 // ---- expressions
 
-// Node i, which has to be below b: what is not is written as 19, which no image may have.
-// Calls go as deep as the expression, which the judgement keeps to 64 levels.
+// Node i. Calls go as deep as the expression, which the judgement keeps to 64 levels.
 fn write_expr(
+    ws: &[u16; 98304],
+    val: &[i32; 32768],
+    i: u16,
+    out: &mut [u8],
+    at: usize,
+) -> usize
+    requires { ⌜ (i < 32768) × Room (now out) at (nodeImage (nodesIn (now ws) (now val) 0) (suc i) i) ⌝ }
+    ensures { λ r. ⌜ Stored (now (out .entry)) at (nodeImage (nodesIn (now (ws .entry)) (now (val .entry)) 0) (suc i) i) (now (out .exit)) r ⌝ }
+{
+    let j = i as usize;
+    let c = ws[3 * j];
+    let p = write_short(out, at, c);
+    let k = kind_of(c);
+    match k {
+        Kind::Two(_) => {
+            let q = write_operand(ws, val, i, ws[3 * j + 1], out, p);
+            write_operand(ws, val, i, ws[3 * j + 2], out, q)
+        }
+        Kind::One(_) => write_operand(ws, val, i, ws[3 * j + 1], out, p),
+        Kind::Imm16 => write_value(out, p, val[j]),
+        Kind::Imm32 => write_value(out, p, val[j]),
+        Kind::Other => p,
+    }
+}
+
+// Node i, which has to be below b: what is not is written as 19, which no image may have. An Imm16, as most operands are, takes no call.
+fn write_operand(
     ws: &[u16; 98304],
     val: &[i32; 32768],
     b: u16,
@@ -45,18 +71,11 @@ fn write_expr(
     }
     let j = i as usize;
     let c = ws[3 * j];
-    let p = write_short(out, at, c);
-    let k = kind_of(c);
-    match k {
-        Kind::Two(_) => {
-            let q = write_expr(ws, val, i, ws[3 * j + 1], out, p);
-            write_expr(ws, val, i, ws[3 * j + 2], out, q)
-        }
-        Kind::One(_) => write_expr(ws, val, i, ws[3 * j + 1], out, p),
-        Kind::Imm16 => write_value(out, p, val[j]),
-        Kind::Imm32 => write_value(out, p, val[j]),
-        Kind::Other => p,
+    if c == 11 {
+        let p = write_short(out, at, 11);
+        return write_value(out, p, val[j]);
     }
+    write_expr(ws, val, i, out, at)
 }
 
 // An expression of a command: its root has to be below the kept count of nodes.
@@ -71,7 +90,7 @@ fn write_term(
     requires { ⌜ KeptBy counts × Room (now out) at (rootImage (nodesBy (now ws) (now val) counts) i) ⌝ }
     ensures { λ r. ⌜ Stored (now (out .entry)) at (rootImage (nodesBy (now (ws .entry)) (now (val .entry)) counts) i) (now (out .exit)) r ⌝ }
 {
-    write_expr(ws, val, counts.nodes, i, out, at)
+    write_operand(ws, val, counts.nodes, i, out, at)
 }
 
 // ---- commands

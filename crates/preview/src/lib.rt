@@ -10,7 +10,7 @@ ghost use Rattle.model.specs.Limits.{wide, slotCount, entryLimit};
 ghost use Rattle.model.specs.Signed.{eqZ, isZero, clamp};
 ghost use Rattle.model.specs.Sheet.{atcFor};
 ghost use Rattle.model.specs.Compile.{rateOf, acquiredReq};
-ghost use Rattle.model.specs.Meaning.{holds, allHold, acquired, hidden, listed, noTimerHeld, oneOf, uniqueMeaning, limitMeaning, meaningOf};
+ghost use Rattle.model.specs.Meaning.{holds, allHold, acquired, hidden, listed, noTimerHeld, oneOf, uniqueMeaning, limitMeaning, meaningOf, orOld};
 ghost use Rattle.model.specs.Preview.{previewCall};
 ghost use Rattle.shop.specs.declared.Sheet.{Sheet};
 ghost use Rattle.shop.specs.Shapes.{unshift, requirementOf, entries, sheetOf, timerIs, slotOf, slotsOf};
@@ -18,7 +18,7 @@ ghost use Rattle.shop_arrays.specs.Arrays.{arraysIn, slotAt, shopFrom};
 ghost use Rattle.checks.specs.Calls.{saveOf};
 ghost use Rattle.preview.specs.Tests.{placeOf, isMissing, isThere, ratedAt};
 ghost use Rattle.preview.specs.Parts.{partsOf};
-ghost use Rattle.preview.specs.Shown.{meaningIs, blankOf, shown, meaningsOf, previewedOf};
+ghost use Rattle.preview.specs.Shown.{meaningIs, blankOf, meaningsOf, previewedOf};
 use checks::check_save;
 use model::ItemId;
 use shop::ItemAtc;
@@ -381,22 +381,17 @@ fn blank(refusal: u8, vars: &[i32]) -> Previewed
     }
 }
 
-// The pair of slot i, and variable 0 after it.
-fn put(p: Previewed, i: usize, m: Meaning) -> Previewed
-    requires { ⌜ i < slotCount ⌝ }
-    ensures { λ r. ⌜ r ≡ shown p i (meaningIs m) ⌝ }
+// Variable 0 after a slot.
+fn temp_after(m: Meaning, temp: i32) -> i32
+    ensures { λ r. ⌜ r ≡ orOld (meaningIs m .temp) temp ⌝ }
 {
-    let mut out = p;
-    let item = m.item;
-    let count = m.count;
-    out.items[i] = item;
-    out.counts[i] = count;
     if m.kept {
-        out.temp = count;
+        return m.count;
     }
-    out
+    temp
 }
 
+// The answer is written where it stands: handed on at each slot, its 41 numbers would be copied each time.
 fn meanings(
     attached: &[u8],
     sheet: Sheet,
@@ -428,7 +423,11 @@ fn meanings(
             flags,
             times,
         );
-        out = put(out, i, m);
+        let item = m.item;
+        let count = m.count;
+        out.items[i] = item;
+        out.counts[i] = count;
+        out.temp = temp_after(m, out.temp);
         i += 1;
     }
     out

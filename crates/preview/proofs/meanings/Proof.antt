@@ -2,6 +2,8 @@
 use mathlib.Core.Path.{sym, ap, _∙_}
 use Prim.Native.Nat.{_-_}
 use native.Mathlib.Omega.{arith}
+use mir.Syntax.{w32}
+use mir.Facts.{toZ-ofZ}
 use borrow.Author.Needs.{needs}
 use Rattle.model.specs.Limits.{slotCount}
 use Rattle.model.specs.Meaning.{meaningOf}
@@ -32,8 +34,20 @@ loop-holds c = let s = c .before .before .before .before in shown-start (sheetOf
 meaning-at-requires : tie.Need-meaning-at-requires Inv-loop μ-loop
 meaning-at-requires c κs = search needs
 
-put-requires : tie.Need-put-requires Inv-loop μ-loop
-put-requires c κs = search needs
+mul-item : tie.Need-mul-item Inv-loop μ-loop
+mul-item c = search needs
+
+element-set-from-item : tie.Need-element-set-from-item Inv-loop μ-loop
+element-set-from-item c = search needs
+
+mul-count : tie.Need-mul-count Inv-loop μ-loop
+mul-count c = search needs
+
+element-set-from-count : tie.Need-element-set-from-count Inv-loop μ-loop
+element-set-from-count c = search needs
+
+temp-after-requires : tie.Need-temp-after-requires Inv-loop μ-loop
+temp-after-requires c κs = search needs
 
 add-i : tie.Need-add-i Inv-loop μ-loop
 add-i c = omega arith
@@ -43,12 +57,20 @@ loop-less c = omega arith
 
 loop-again : tie.Need-loop-again Inv-loop μ-loop
 loop-again c =
-    let s = c .before .before .before .before .before .before .before .before in
-    let a = c .before .before .before .loop in
-    shown-more (sheetOf (s .args .attached .now) (s .args .sheet)) (saveOf (s .args .items .now) (s .args .atcs .now) (s .args .flags .now) (s .args .times .now) (s .args .vars .now))
-    (shopFrom (arrays s) .slots) (a .i) (a .out) (a .inv) noSlot (omega (arith, slots-long (arrays s), c .before .before .loop-test .taken))
-    _ (c .before .meaning-at .ensures (s .args .vars .now) ∙ sym (ap (λ x. meaningOf (sheetOf (s .args .attached .now) (s .args .sheet)) (saveOf (s .args .items .now) (s .args .atcs .now) (s .args .flags .now) (s .args .times .now) (s .args .vars .now)) (slotOf x)) (slot-in (arrays s) (a .i) noSlot (c .before .before .loop-test .taken))))
-    _ (c .put .ensures)
+    let s = c .before .before .before .before .before .before .before .before .before .before .before in
+    let a = c .before .before .before .before .before .before .loop in
+    let l = c .before .before .before .before .before .loop-test .taken in
+    let h = sheetOf (s .args .attached .now) (s .args .sheet) in
+    let v = saveOf (s .args .items .now) (s .args .atcs .now) (s .args .flags .now) (s .args .times .now) (s .args .vars .now) in
+    let m = c .before .before .before .before .meaning-at .result in
+    let told = c .before .before .before .struct-told .given in
+    let item = toZ-ofZ {w = w32} {z = m .item} (record { sfits = told .0 .1 }) in
+    let count = toZ-ofZ {w = w32} {z = m .count} (record { sfits = told .1 .0 .1 }) in
+    let temp = toZ-ofZ {w = w32} {z = c .temp-after .result} (record { sfits = c .temp-after .ok }) in
+    let old = toZ-ofZ {w = w32} {z = a .out .temp} (record { sfits = c .before .struct-told3 .given .1 .1 .1 .0 .1 }) in
+    shown-more h v (shopFrom (arrays s) .slots) (a .i) (a .out) (a .inv) noSlot (omega (arith, slots-long (arrays s), l))
+    _ (c .before .before .before .before .meaning-at .ensures (s .args .vars .now) ∙ sym (ap (λ x. meaningOf h v (slotOf x)) (slot-in (arrays s) (a .i) noSlot l)))
+    _ (rw (item, count, temp, c .temp-after .ensures, old))
 
 returns : tie.Need-returns Inv-loop μ-loop
 unfolding slotsOf
@@ -66,7 +88,11 @@ meanings-spec =
     blank-requires
     loop-holds
     meaning-at-requires
-    put-requires
+    mul-item
+    element-set-from-item
+    mul-count
+    element-set-from-count
+    temp-after-requires
     add-i
     loop-less
     loop-again
