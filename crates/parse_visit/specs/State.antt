@@ -129,16 +129,16 @@ pub record Entered (h : Sheet) (m : Memory) (marks : List Bool) (f : ℕ → Opt
   pub answer : r .walk .answer ≡ stateAfter h m marks (f c) s w b .answer
   pub state : r .walk .answer ≡ 0 → stateOf (m .count) marks′ s′ (r .walk) ≡ stateAfter h m marks (f c) s w b
   pub good : r .walk .answer ≡ 0 → GoodShop s′
-  pub onNext : r .walk .answer ≡ 0 → (r .next ≡ 0 → ⊥) → f′ (r .then) ≡ scanIn m marks (f c) s w b .onNext
-  pub onElse : r .walk .answer ≡ 0 → (r .next ≡ 0 → ⊥) → f′ (r .otherwise) ≡ scanIn m marks (f c) s w b .onElse
-  pub next : r .next ≡ blockWord m b 3
-  pub other : r .other ≡ blockWord m b 4
+  pub onNext : r .walk .answer ≡ 0 → (r .next .0 ≡ 0 → ⊥) → f′ (r .then .0) ≡ scanIn m marks (f c) s w b .onNext
+  pub onElse : r .walk .answer ≡ 0 → (r .next .0 ≡ 0 → ⊥) → f′ (r .otherwise .0) ≡ scanIn m marks (f c) s w b .onElse
+  pub next : r .next .0 ≡ blockWord m b 3
+  pub other : r .other .0 ≡ blockWord m b 4
   pub marked : marks′ ≡ set marks b true
   pub same : (k : ℕ) → k ≤ 2 * w .cells → f′ k ≡ f k
   pub more : w .cells ≤ r .walk .cells
   pub most : r .walk .cells ≤ w .cells + 1
-  pub lowNext : r .then ≤ 2 * r .walk .cells
-  pub lowElse : r .otherwise ≤ 2 * r .walk .cells
+  pub lowNext : r .then .0 ≤ 2 * r .walk .cells
+  pub lowElse : r .otherwise .0 ≤ 2 * r .walk .cells
 
 -- there is room for one cell more, and for the entries of an If of at most n nodes: an If of e entries has 3 * e - 1 at least
 pub record Roomy (t : Stored) (w : Walk) (n : ℕ) : Type 0 where

@@ -81,7 +81,7 @@ module _ {known : Known} {m : Memory} {b₀ : ℕ} {t : Stored} {marks : List Bo
           pub falls : unmarked (take (m .count) marks′) < unmarked (take (m .count) marks)
           falls = omega (arith, less (q .ready) at some-left eb ec k left z)
 
-          pub turns : {stack′ : List ℕ} {depth′ : ℕ} → Pushed stack (top - 1) (ways (v .next) (v .then) (v .other) (v .otherwise)) stack′ depth′ → 2 * (top - 1) + 4 ≤ length stack → length stack′ ≡ length stack
+          pub turns : {stack′ : List ℕ} {depth′ : ℕ} → Pushed stack (top - 1) (ways (v .next .0) (v .then .0) (v .other .0) (v .otherwise .0)) stack′ depth′ → 2 * (top - 1) + 4 ≤ length stack → length stack′ ≡ length stack
               → Turning known m b₀ t′ marks′ stack′ s′ (v .walk) depth′
           turns p l e = record {
             conditions = g .conditions;
