@@ -4,7 +4,7 @@ use mathlib.Core.Bool.{Bool, true, false}
 use mathlib.Core.Option.{Option, none, some}
 use mathlib.Core.List.{List, []}
 use Prim.Native.Nat.{ℕ, _+_, _*_, _≤_, _<_}
-use lib.ListN.{length, set, take, replicate, length-replicate}
+use lib.ListN.{length, set, take}
 use Rattle.model.specs.Expr.{Expr}
 use Rattle.model.specs.Sheet.{Sheet}
 use Rattle.model.specs.Requirement.{Requirement}
@@ -48,13 +48,6 @@ oneCellMore w used keyed = record { limit = w .limit; cells = w .cells + 1; answ
 -- after the block's commands and slots
 abbrev pub scannedWalk : Walk → Scanned → Slotted → Walk
 scannedWalk w s a = record { limit = s .limit; cells = w .cells; answer = a .answer; used = w .used; keyed = w .keyed; marked = a .marked }
-
--- a sheet of so many items and atcs
-abbrev pub knownSheet : (k : Known) → Sheet
-knownSheet k = record { atcOf = replicate (k .items) none; atcCount = k .atcs; timer5 = 0; timer10 = 0; timer15 = 0 }
-
-pub knows : (k : Known) → Has (knownSheet k) (k .items) (k .atcs)
-knows k = record { items = length-replicate (k .items) none; atcs = refl }
 
 -- ---- the tables
 

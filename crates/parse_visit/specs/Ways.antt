@@ -12,6 +12,7 @@ use Rattle.model.specs.Memory.{Nodes, nodesIn, tree}
 use Rattle.model.specs.Parse.{join}
 use Rattle.model.specs.declared.Link.{Link}
 use Rattle.expr.specs.Tree.{treeBelow, below-in}
+use Rattle.parse_keys.specs.Sheets.{knownSheet, knows}
 use Rattle.parse_keys.specs.Tables.{Grown}
 use Rattle.parse_keys.specs.declared.Known.{Known}
 use Rattle.parse_conditions.specs.Gathered.{gathered}
@@ -19,7 +20,7 @@ use Rattle.parse_conditions.specs.Gathers.{gathered-size}
 use Rattle.parse_conditions.specs.Listing.{Listing, keysOf, usedOf, Place, Added, NoRoom}
 use Rattle.parse_conditions.specs.ListingLaws.{listing-length}
 use Rattle.parse_scan.specs.Block.{onNextOf, onElseOf}
-use Rattle.parse_visit.specs.State.{noRoom, oneCellMore, knownSheet, knows, Stored, storedIn, Holding, Roomy}
+use Rattle.parse_visit.specs.State.{noRoom, oneCellMore, Stored, storedIn, Holding, Roomy}
 use Rattle.parse_visit.specs.Joins.{withCell, withIf, if-next, if-else, if-same, IfRead, if-joined}
 use Rattle.parse_visit.specs.declared.Walk.{Walk}
 use Rattle.parse_visit.specs.declared.Visited.{Visited}

@@ -10,10 +10,11 @@ use Rattle.model.specs.Memory.{Memory}
 use Rattle.shop.specs.declared.Shop.{Shop}
 use Rattle.reach.specs.Marks.{unmarked}
 use Rattle.reach.specs.Stacks.{topOf, ways, Pushed, isCodeAt}
+use Rattle.parse_keys.specs.Sheets.{knownSheet, knows}
 use Rattle.parse_keys.specs.declared.Known.{Known}
 use Rattle.parse_visit.specs.declared.Walk.{Walk}
 use Rattle.parse_visit.specs.declared.Visited.{Visited}
-use Rattle.parse_visit.specs.State.{noRoom, knownSheet, knows, Stored, Held, Open, Entered, Roomy, nodesAt, Leaves, withAnswer}
+use Rattle.parse_visit.specs.State.{noRoom, Stored, Held, Open, Entered, Roomy, nodesAt, Leaves, withAnswer}
 use Rattle.parse_walk.specs.Walks.{Turning, Lengths, Large, Ends}
 use Rattle.parse_walk.proofs.Turns.{few-blocks, Coded, came-end, came-stopped, came-refused, opens, weight-here, one-less, top-low, less, again, same}
 
