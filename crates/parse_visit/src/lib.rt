@@ -380,8 +380,7 @@ pub fn visit(
 {
     let first = block_word(bw, b, 1);
     let held = block_word(bw, b, 2);
-    let at = b.0 as usize;
-    marks[at] = true;
+    marks[b.0 as usize] = true;
     let s = scan_block(ws, val, cw, ids, counts, first, held, w.limit);
     let old = w.marked;
     let a = slots_after(

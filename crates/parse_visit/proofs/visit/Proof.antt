@@ -17,8 +17,8 @@ block-word-requires c κs = (open-block (c .before .before .before .before .befo
 block-word-requires-2 : tie.Need-block-word-requires-2
 block-word-requires-2 c κs = (open-block (c .before .before .before .before .before .before .before .before .pre .1), omega arith)
 
-cast-at : tie.Need-cast-at
-cast-at c = search needs
+cast-marks : tie.Need-cast-marks
+cast-marks c = search needs
 
 element-write-marks : tie.Need-element-write-marks
 element-write-marks c = let l = open-block (c .before .before .before .before .before .before .before .before .before .before .pre .1) in omega arith
@@ -110,7 +110,7 @@ visit-spec =
     (tie.spec
     block-word-requires
     block-word-requires-2
-    cast-at
+    cast-marks
     element-write-marks
     scan-block-requires
     index-of-requires
