@@ -36,6 +36,9 @@ pub enum Kind {
 // Numbers that must not be mixed up: a block number is never taken where an item or atc id is due.
 pub struct BlockNo(pub u32);
 
+// A block's next or else as its word in the script has it: 0 for none, k + 1 for block k.
+pub struct Link(pub u16);
+
 pub struct ItemId(pub u16);
 
 pub struct AtcId(pub u16);

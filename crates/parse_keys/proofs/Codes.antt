@@ -170,12 +170,12 @@ zero-is : (op : Op2) (s t : ℕ) (z : Option ℤ) → Numbered s z → s ≡ hal
 zero-is op s t none e f g = absurd (omega arith)
 zero-is op s t (some z) e f g = rw (← zero-test s z (e .0) (e .1), eq-eqb s half f) g
 
-module _ (ws : List ℕ) (vs : List ℤ) (i l : ℕ) (op : Op2) (s : ℕ) (e : l ≡ getD ws (3 * i + 2) 0) (f : (n : ℕ) → Numbered s (value (treeBelow (nodesIn ws vs n) i l))) where
+module _ (ws : List ℕ) (vs : List ℤ) (i : ℕ) (op : Op2) (s : ℕ) (f : (n : ℕ) → Numbered s (value (treeBelow (nodesIn ws vs n) i (rightAt (nodesIn ws vs n) i)))) where
   pub zero-other : (s ≡ half → ⊥) → (n : ℕ) → 2 ≡ zeroSign op (value (treeBelow (nodesIn ws vs n) i (rightAt (nodesIn ws vs n) i)))
-  zero-other d n = rw (← e) (zero-not op s (value (treeBelow (nodesIn ws vs n) i l)) (f n) d)
+  zero-other d n = zero-not op s (value (treeBelow (nodesIn ws vs n) i (rightAt (nodesIn ws vs n) i))) (f n) d
 
   pub zero-same : (t : ℕ) → s ≡ half → t ≡ signOf op → (n : ℕ) → t ≡ zeroSign op (value (treeBelow (nodesIn ws vs n) i (rightAt (nodesIn ws vs n) i)))
-  zero-same t d g n = rw (← e) (zero-is op s t (value (treeBelow (nodesIn ws vs n) i l)) (f n) d g)
+  zero-same t d g n = zero-is op s t (value (treeBelow (nodesIn ws vs n) i (rightAt (nodesIn ws vs n) i))) (f n) d g
 
 sign-most : (op : Op2) (z : Option ℤ) → zeroSign op z ≤ 2
 sign-most op none = omega arith
@@ -214,11 +214,11 @@ module _ (ws : List ℕ) (vs : List ℤ) (k : Known) (b i : ℕ) (neg : Bool) wh
     pub means-other : d ≡ Other → Means ws vs k b i neg 0
     means-other f h n g = rw (below-other (nodesIn ws vs n) b i lt d e f) refl
 
-    pub means-one : (o : Op1) (l s c x : ℕ) → d ≡ One o → l ≡ getD ws (3 * i + 1) 0
-        → ((n : ℕ) → Numbered s (value (treeBelow (nodesIn ws vs n) i l))) → ReadCode (k .items) (k .atcs) o s c → x ≡ signedCode c neg → Means ws vs k b i neg x
-    means-one o l s c x f el y u v h n g =
-        rw (below-one (nodesIn ws vs n) b i lt d e o f, v, ← el)
-        (signed-is c neg (readReq h o (value (treeBelow (nodesIn ws vs n) i l))) (u .is h (value (treeBelow (nodesIn ws vs n) i l)) g (y n)))
+    pub means-one : (o : Op1) (s c x : ℕ) → d ≡ One o
+        → ((n : ℕ) → Numbered s (value (treeBelow (nodesIn ws vs n) i (leftAt (nodesIn ws vs n) i)))) → ReadCode (k .items) (k .atcs) o s c → x ≡ signedCode c neg → Means ws vs k b i neg x
+    means-one o s c x f y u v h n g =
+        let z = value (treeBelow (nodesIn ws vs n) i (leftAt (nodesIn ws vs n) i)) in
+        rw (below-one (nodesIn ws vs n) b i lt d e o f, v) (signed-is c neg (readReq h o z) (u .is h z g (y n)))
 
     -- a comparison with the sign t
     module _ (o : Op2) (t : ℕ) (f : d ≡ Two o) (s : (n : ℕ) → t ≡ zeroSign o (value (treeBelow (nodesIn ws vs n) i (rightAt (nodesIn ws vs n) i)))) where

@@ -7,20 +7,19 @@ use Prim.Native.Nat.{ℕ, _+_, _-_, _*_, _/_, _%_, _≤_, _<_}
 use native.Mathlib.Omega.{arith}
 use native.Mathlib.Decide.{ℕ-discrete}
 use lib.IntN.{ℤ}
-use lib.ListN.{getD, set, length, length-set, replicate, length-replicate}
+use lib.ListN.{getD, set, length, length-set}
 use lib.Seq.{getD-set-same, getD-set-other}
 use Rattle.model.specs.Requirement.{Requirement}
-use Rattle.model.specs.Sheet.{Sheet}
 use Rattle.model.specs.Memory.{nodesIn}
 use Rattle.model.specs.Parse.{mapReq, signed, parseRequirement}
 use Rattle.shop.specs.Shapes.{requirementOf}
 use Rattle.expr.specs.Tree.{treeBelow}
-use Rattle.expr.specs.Requirement.{Has}
 use Rattle.parse_keys.specs.Entries.{odd, turned, entryReq, Valid, Subject, Stand, Leaf}
 use Rattle.parse_keys.specs.Turns.{turn-even, turn-odd}
 use Rattle.parse_keys.specs.Search.{Room, Free, Is, Search, placed-new}
 use Rattle.parse_keys.specs.Reads.{Reading}
 use Rattle.parse_keys.specs.Tables.{Companions, Tables, Grown, noRoom, Entered, ReadEntry}
+use Rattle.parse_keys.specs.Sheets.{knownSheet, knows}
 use Rattle.parse_keys.specs.Growth.{grown-same}
 use Rattle.parse_keys.specs.declared.Known.{Known}
 use Rattle.parse_keys.specs.declared.Found.{Found}
@@ -101,19 +100,13 @@ module _ (ks kd cs : List ℕ) (m x : ℕ) (t : Tables ks kd cs m) where
 
 -- ---- a node
 
-abbrev sheetBy : Known → Sheet
-sheetBy k = record { atcOf = replicate (k .items) none; atcCount = k .atcs; timer5 = 0; timer10 = 0; timer15 = 0 }
-
-by-counts : (k : Known) → Has (sheetBy k) (k .items) (k .atcs)
-by-counts k = record { items = simp length-replicate; atcs = refl }
-
 reads-subject : (c : ℕ) (o : Option Requirement) → Reading c o → (c ≡ 0 → ⊥) → Subject (c / 2)
 reads-subject c none q n = absurd (n q)
 reads-subject c (some r) q n = q .subject
 
 module _ (ws : List ℕ) (vs : List ℤ) (k : Known) (b i : ℕ) (neg : Bool) (c : ℕ) (y : Means ws vs k b i neg c) where
   pub node-subject : (c ≡ 0 → ⊥) → Subject (c / 2)
-  node-subject n = reads-subject c (mapReq (signed neg) (parseRequirement (sheetBy k) (treeBelow (nodesIn ws vs 0) b i))) (y (sheetBy k) 0 (by-counts k)) n
+  node-subject n = reads-subject c (mapReq (signed neg) (parseRequirement (knownSheet k) (treeBelow (nodesIn ws vs 0) b i))) (y (knownSheet k) 0 (knows k)) n
 
   pub read-none : (m : ℕ) (ks kd cs : List ℕ) → Tables ks kd cs m → c ≡ 0 → ReadEntry ws vs k b i neg m ks ks kd cs (record { word = 0; count = m })
   read-none m ks kd cs t z = record {

@@ -4,4 +4,5 @@ pub mod Search
 pub mod Small
 pub mod Reads
 pub mod Tables
+pub mod Sheets
 pub mod Growth

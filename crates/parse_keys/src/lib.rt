@@ -10,6 +10,8 @@ ghost use Rattle.parse_keys.specs.Entries.{InRange, Subject};
 ghost use Rattle.parse_keys.specs.Search.{Table, Search};
 ghost use Rattle.parse_keys.specs.Reads.{Numbered, idCode, flagCode, signOf, zeroSign, signedCode, ReadCode, Reading};
 ghost use Rattle.parse_keys.specs.Tables.{Tables, OfNode, Entered, ReadEntry};
+use expr::MaybeNumber;
+use expr::number_below;
 use memory::index_of;
 use memory::kind_of;
 use model::Kind;
@@ -76,21 +78,15 @@ fn shifted(x: i32) -> u64
     b - 2147483648
 }
 
-// The number of node i, which has to be an Imm below b; 2^32 where there is none.
-fn number_below(ws: &[u16; 98304], val: &[i32; 32768], b: usize, i: usize) -> u64
+// The number of node i, which has to be an Imm below b, moved up by 2^31; 2^32 where there is none.
+fn shifted_below(ws: &[u16; 98304], val: &[i32; 32768], b: u16, i: u16) -> u64
     requires { ⌜ b ≤ 32768 ⌝ }
     ensures { λ r. ⌜ ((n : ℕ) → Numbered r (value (treeBelow (nodesIn (now (ws .entry)) (now (val .entry)) n) b i))) ⌝ }
 {
-    if b <= i {
-        return 4294967296;
-    }
-    let k = kind_of(ws[3 * i]);
-    match k {
-        Kind::Two(_) => 4294967296,
-        Kind::One(_) => 4294967296,
-        Kind::Imm16 => shifted(val[i]),
-        Kind::Imm32 => shifted(val[i]),
-        Kind::Other => 4294967296,
+    let v = number_below(ws, val, b, i);
+    match v {
+        MaybeNumber::Is(x) => shifted(x),
+        MaybeNumber::Nothing => 4294967296,
     }
 }
 
@@ -155,7 +151,7 @@ fn zero_sign(ws: &[u16; 98304], val: &[i32; 32768], i: usize, o: Op2) -> u16
     requires { ⌜ i < 32768 ⌝ }
     ensures { λ r. ⌜ ((n : ℕ) → r ≡ zeroSign o (value (treeBelow (nodesIn (now (ws .entry)) (now (val .entry)) n) i (rightAt (nodesIn (now (ws .entry)) (now (val .entry)) n) i)))) ⌝ }
 {
-    let s = number_below(ws, val, i, index_of(ws[3 * i + 2]));
+    let s = shifted_below(ws, val, i as u16, ws[3 * i + 2]);
     if s != 2147483648 {
         return 2;
     }
@@ -205,7 +201,7 @@ fn code_below(
             code_below(ws, val, known, i, left, neg)
         }
         Kind::One(o) => {
-            let s = number_below(ws, val, i, index_of(ws[3 * i + 1]));
+            let s = shifted_below(ws, val, i as u16, ws[3 * i + 1]);
             signed_code(read_code(o, s, known.items, known.atcs), neg)
         }
         Kind::Imm16 => 0,

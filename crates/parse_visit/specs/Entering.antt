@@ -112,7 +112,7 @@ module _ {m : Memory} {x : Shop} {w : Walk} {b c : ℕ} (o : Open m x w b c) whe
             let y : a .answer ≡ 0 = sym (g .answer there) ∙ z in
             made (moved .slots y ∙ slots-then) (take-set-lt (m .count) marks b true (o .block)) (g .limit ∙ limit-then) (g .answer there ∙ answer-then)
 
-        entered : (nx : v .next ≡ blockWord m b 3) → (el : v .other ≡ blockWord m b 4) → Entered h m marks f x w b c (set marks b true) (g .conditions) x′ v
+        entered : (nx : v .next .0 ≡ blockWord m b 3) → (el : v .other .0 ≡ blockWord m b 4) → Entered h m marks f x w b c (set marks b true) (g .conditions) x′ v
         entered nx el = record {
           answer = g .answer there ∙ answer-then;
           state = state-then;
@@ -131,7 +131,7 @@ module _ {m : Memory} {x : Shop} {w : Walk} {b c : ℕ} (o : Open m x w b c) whe
 
     pub visits : (n : ℕ) (ks' kd' cs' ls' cells' : List ℕ) (v : Visited) → n ≡ m .coded .nodes .count
         → GoesOn (m .coded .nodes .words) (m .coded .nodes .values) n known (t .keys) (t .kids) (t .companions) (t .list) (t .cells) w1 c (s .«last_if») ks' kd' cs' ls' cells' v
-        → v .next ≡ blockWord m b 3 → v .other ≡ blockWord m b 4
+        → v .next .0 ≡ blockWord m b 3 → v .other .0 ≡ blockWord m b 4
         → Leaves m known t marks x w b c f (storedIn ks' kd' cs' ls' seen′ alive′ cells') (set marks b true) x′ v
     visits n ks' kd' cs' ls' cells' v e g nx el =
         let r : Left (m .coded .nodes) known t1 w1 c (s .«last_if») f (storedIn ks' kd' cs' ls' seen′ alive′ cells') v =

@@ -16,6 +16,7 @@ use Rattle.model.specs.Sheet.{Sheet}
 use Rattle.model.specs.Parse.{join}
 use Rattle.expr.specs.Requirement.{Has}
 use Rattle.parse_keys.specs.Entries.{Valid}
+use Rattle.parse_keys.specs.Sheets.{knownSheet, knows}
 use Rattle.parse_keys.specs.Tables.{Tables, Grown}
 use Rattle.parse_keys.specs.Turns.{turn-valid}
 use Rattle.parse_keys.specs.declared.Known.{Known}
@@ -27,7 +28,7 @@ use Rattle.parse_filter.specs.ChainLaws.{entries-at}
 use Rattle.parse_filter.specs.Frames.{Kept, entries-frame, marked-frame}
 use Rattle.parse_filter.specs.Marks.{MarkedAs}
 use Rattle.parse_visit.specs.Entries.{Reads, reads-append, reads-grown, reads-other, reads-plain, listing-reads, listing-valid}
-use Rattle.parse_visit.specs.State.{knownSheet, knows, Stored, storedIn, gatheredOf, Holding}
+use Rattle.parse_visit.specs.State.{Stored, storedIn, gatheredOf, Holding}
 use Rattle.parse_visit.specs.declared.Walk.{Walk}
 
 -- cell n holds condition p and where the If's entries begin and end

@@ -4,7 +4,7 @@ use mathlib.Core.Bool.{Bool, true, false}
 use mathlib.Core.Option.{Option, none, some}
 use mathlib.Core.List.{List, []}
 use Prim.Native.Nat.{ℕ, _+_, _*_, _≤_, _<_}
-use lib.ListN.{length, set, take, replicate, length-replicate}
+use lib.ListN.{length, set, take}
 use Rattle.model.specs.Expr.{Expr}
 use Rattle.model.specs.Sheet.{Sheet}
 use Rattle.model.specs.Requirement.{Requirement}
@@ -48,13 +48,6 @@ oneCellMore w used keyed = record { limit = w .limit; cells = w .cells + 1; answ
 -- after the block's commands and slots
 abbrev pub scannedWalk : Walk → Scanned → Slotted → Walk
 scannedWalk w s a = record { limit = s .limit; cells = w .cells; answer = a .answer; used = w .used; keyed = w .keyed; marked = a .marked }
-
--- a sheet of so many items and atcs
-abbrev pub knownSheet : (k : Known) → Sheet
-knownSheet k = record { atcOf = replicate (k .items) none; atcCount = k .atcs; timer5 = 0; timer10 = 0; timer15 = 0 }
-
-pub knows : (k : Known) → Has (knownSheet k) (k .items) (k .atcs)
-knows k = record { items = length-replicate (k .items) none; atcs = refl }
 
 -- ---- the tables
 
@@ -129,16 +122,16 @@ pub record Entered (h : Sheet) (m : Memory) (marks : List Bool) (f : ℕ → Opt
   pub answer : r .walk .answer ≡ stateAfter h m marks (f c) s w b .answer
   pub state : r .walk .answer ≡ 0 → stateOf (m .count) marks′ s′ (r .walk) ≡ stateAfter h m marks (f c) s w b
   pub good : r .walk .answer ≡ 0 → GoodShop s′
-  pub onNext : r .walk .answer ≡ 0 → (r .next ≡ 0 → ⊥) → f′ (r .then) ≡ scanIn m marks (f c) s w b .onNext
-  pub onElse : r .walk .answer ≡ 0 → (r .next ≡ 0 → ⊥) → f′ (r .otherwise) ≡ scanIn m marks (f c) s w b .onElse
-  pub next : r .next ≡ blockWord m b 3
-  pub other : r .other ≡ blockWord m b 4
+  pub onNext : r .walk .answer ≡ 0 → (r .next .0 ≡ 0 → ⊥) → f′ (r .then .0) ≡ scanIn m marks (f c) s w b .onNext
+  pub onElse : r .walk .answer ≡ 0 → (r .next .0 ≡ 0 → ⊥) → f′ (r .otherwise .0) ≡ scanIn m marks (f c) s w b .onElse
+  pub next : r .next .0 ≡ blockWord m b 3
+  pub other : r .other .0 ≡ blockWord m b 4
   pub marked : marks′ ≡ set marks b true
   pub same : (k : ℕ) → k ≤ 2 * w .cells → f′ k ≡ f k
   pub more : w .cells ≤ r .walk .cells
   pub most : r .walk .cells ≤ w .cells + 1
-  pub lowNext : r .then ≤ 2 * r .walk .cells
-  pub lowElse : r .otherwise ≤ 2 * r .walk .cells
+  pub lowNext : r .then .0 ≤ 2 * r .walk .cells
+  pub lowElse : r .otherwise .0 ≤ 2 * r .walk .cells
 
 -- there is room for one cell more, and for the entries of an If of at most n nodes: an If of e entries has 3 * e - 1 at least
 pub record Roomy (t : Stored) (w : Walk) (n : ℕ) : Type 0 where

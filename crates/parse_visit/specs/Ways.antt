@@ -10,7 +10,9 @@ use lib.ListN.{length}
 use Rattle.model.specs.Expr.{Expr, negate, size}
 use Rattle.model.specs.Memory.{Nodes, nodesIn, tree}
 use Rattle.model.specs.Parse.{join}
+use Rattle.model.specs.declared.Link.{Link}
 use Rattle.expr.specs.Tree.{treeBelow, below-in}
+use Rattle.parse_keys.specs.Sheets.{knownSheet, knows}
 use Rattle.parse_keys.specs.Tables.{Grown}
 use Rattle.parse_keys.specs.declared.Known.{Known}
 use Rattle.parse_conditions.specs.Gathered.{gathered}
@@ -18,7 +20,7 @@ use Rattle.parse_conditions.specs.Gathers.{gathered-size}
 use Rattle.parse_conditions.specs.Listing.{Listing, keysOf, usedOf, Place, Added, NoRoom}
 use Rattle.parse_conditions.specs.ListingLaws.{listing-length}
 use Rattle.parse_scan.specs.Block.{onNextOf, onElseOf}
-use Rattle.parse_visit.specs.State.{noRoom, oneCellMore, knownSheet, knows, Stored, storedIn, Holding, Roomy}
+use Rattle.parse_visit.specs.State.{noRoom, oneCellMore, Stored, storedIn, Holding, Roomy}
 use Rattle.parse_visit.specs.Joins.{withCell, withIf, if-next, if-else, if-same, IfRead, if-joined}
 use Rattle.parse_visit.specs.declared.Walk.{Walk}
 use Rattle.parse_visit.specs.declared.Visited.{Visited}
@@ -59,13 +61,13 @@ pub record Left (ns : Nodes) (known : Known) (t : Stored) (w : Walk) (c last : �
   pub holding : r .walk .answer ≡ 0 → Holding known t′ (r .walk) conditions
   pub spent : (n : ℕ) → IfFits ns last n → r .walk .answer ≡ 0 → 3 * r .walk .used + w .cells ≤ 3 * w .used + n + r .walk .cells
   pub room : (n : ℕ) → IfFits ns last n → Roomy t w n → r .walk .answer ≡ noRoom → ⊥
-  pub onNext : (n : ℕ) → IfFits ns last n → r .walk .answer ≡ 0 → (r .next ≡ 0 → ⊥) → conditions (r .then) ≡ onNextOf ns (f c) last
-  pub onElse : (n : ℕ) → IfFits ns last n → r .walk .answer ≡ 0 → (r .next ≡ 0 → ⊥) → conditions (r .otherwise) ≡ onElseOf ns (f c) last
+  pub onNext : (n : ℕ) → IfFits ns last n → r .walk .answer ≡ 0 → (r .next .0 ≡ 0 → ⊥) → conditions (r .then .0) ≡ onNextOf ns (f c) last
+  pub onElse : (n : ℕ) → IfFits ns last n → r .walk .answer ≡ 0 → (r .next .0 ≡ 0 → ⊥) → conditions (r .otherwise .0) ≡ onElseOf ns (f c) last
   pub same : (k : ℕ) → k ≤ 2 * w .cells → conditions k ≡ f k
   pub more : (r .walk .answer ≡ noRoom → ⊥) → w .cells ≤ r .walk .cells
   pub most : (r .walk .answer ≡ noRoom → ⊥) → r .walk .cells ≤ w .cells + 1
-  pub lowNext : (r .walk .answer ≡ noRoom → ⊥) → r .then ≤ 2 * r .walk .cells
-  pub lowElse : (r .walk .answer ≡ noRoom → ⊥) → r .otherwise ≤ 2 * r .walk .cells
+  pub lowNext : (r .walk .answer ≡ noRoom → ⊥) → r .then .0 ≤ 2 * r .walk .cells
+  pub lowElse : (r .walk .answer ≡ noRoom → ⊥) → r .otherwise .0 ≤ 2 * r .walk .cells
 
 -- whether the last If is read
 pub record ReadsOn (answer last next : ℕ) (r : Bool) : Type 0 where
@@ -79,8 +81,8 @@ GoesOn ws vs n known ks kd cs ls cells w c last ks' kd' cs' ls' cells' r =
     → Left (nodesIn ws vs n) known (storedIn ks kd cs ls seen alive cells) w c last f (storedIn ks' kd' cs' ls' seen alive cells') r
 
 -- nothing is read where there was a refusal, where there is no If, and where there is no next; condition 0 is none
-module _ (ns : Nodes) (known : Known) (t : Stored) (w : Walk) (c last : ℕ) (f : ℕ → Option Expr) (hold : Holding known t w f) (fine : w .answer ≡ noRoom → ⊥) (nx el : ℕ) where
-  pub left-unread : ((w .answer ≡ 0) → (nx ≡ 0 → ⊥) → last ≡ 0) → Left ns known t w c last f t (record { walk = w; next = nx; then = 0; other = el; otherwise = 0 })
+module _ (ns : Nodes) (known : Known) (t : Stored) (w : Walk) (c last : ℕ) (f : ℕ → Option Expr) (hold : Holding known t w f) (fine : w .answer ≡ noRoom → ⊥) (nx el : Link) where
+  pub left-unread : ((w .answer ≡ 0) → (nx .0 ≡ 0 → ⊥) → last ≡ 0) → Left ns known t w c last f t (record { walk = w; next = nx; then = record { 0 = 0 }; other = el; otherwise = record { 0 = 0 } })
   left-unread p = record {
     conditions = f;
     limit = refl;
@@ -162,8 +164,8 @@ module _ (ws : List ℕ) (vs : List ℤ) (b : ℕ) (known : Known) (t : Stored) 
   here : r .answer ≡ 0 → r .answer ≡ noRoom → ⊥
   here z q = omega arith
 
-  pub left-joined : (nx el th ot : ℕ) → th ≡ 2 * w .cells + 1 → ot ≡ 2 * w .cells + 2
-      → Left (nodesIn ws vs b) known t w c last f (storedIn ks' kd' cs' ls' (t .seen) (t .alive) cells') (record { walk = r; next = nx; then = th; other = el; otherwise = ot })
+  pub left-joined : (nx el : Link) (th ot : ℕ) → th ≡ 2 * w .cells + 1 → ot ≡ 2 * w .cells + 2
+      → Left (nodesIn ws vs b) known t w c last f (storedIn ks' kd' cs' ls' (t .seen) (t .alive) cells') (record { walk = r; next = nx; then = record { 0 = th }; other = el; otherwise = record { 0 = ot } })
   left-joined nx el th ot ht ho = record {
     conditions = withIf f (w .cells) c e;
     limit = j .limit;

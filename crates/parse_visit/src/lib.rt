@@ -19,6 +19,7 @@ ghost use Rattle.parse_visit.specs.Ways.{placeOf, Joined, ReadsOn, GoesO
 use memory::Counts;
 use memory::index_of;
 use model::BlockNo;
+use model::Link;
 use parse_conditions::FULL;
 use parse_conditions::read_condition;
 use parse_filter::Filtered;
@@ -30,6 +31,7 @@ use parse_scan::hides;
 use parse_scan::scan_block;
 use parse_scan::size;
 use parse_scan::update_slots;
+use reach::Condition;
 
 // What is carried from block to block beside the arrays: the current limit, how many cells of conditions there are, the refusal or 0, how many entries of Ifs and keys there are, and the condition whose entries are marked.
 pub struct Walk {
@@ -41,13 +43,13 @@ pub struct Walk {
     pub marked: Marked,
 }
 
-// What a block leaves, its next and else as they stand in the script, and the numbers of their conditions.
+// What a block leaves, its next and else, and their conditions.
 pub struct Visited {
     pub walk: Walk,
-    pub next: u16,
-    pub then: u16,
-    pub other: u16,
-    pub otherwise: u16,
+    pub next: Link,
+    pub then: Condition,
+    pub other: Link,
+    pub otherwise: Condition,
 }
 
 // The refusal of the slots or 0, and the condition whose entries are marked.
@@ -162,11 +164,11 @@ fn slots_after(
 // ---- the conditions after a block
 
 // Cell n holds the condition c and where the entries of the If that it is joined with begin and end.
-fn add_cell(cells: &mut [u16], n: usize, c: u16, from: u16, to: u16)
+fn add_cell(cells: &mut [u16], n: usize, c: Condition, from: u16, to: u16)
     requires { ⌜ 3 * n + 3 ≤ length (now cells) ⌝ }
-    ensures { λ _. ⌜ now (cells .exit) ≡ withCell (now (cells .entry)) n c from to ⌝ }
+    ensures { λ _. ⌜ now (cells .exit) ≡ withCell (now (cells .entry)) n (c .0) from to ⌝ }
 {
-    cells[3 * n] = c;
+    cells[3 * n] = c.0;
     cells[3 * n + 1] = from;
     cells[3 * n + 2] = to;
 }
@@ -220,11 +222,11 @@ fn join(
     known: Known,
     n: usize,
     i: usize,
-    c: u16,
+    c: Condition,
     w: Walk,
 ) -> Walk
     requires { ⌜ ((n ≤ 32768) × (w .cells < blockLimit)) × ((w .answer ≡ noRoom → ⊥) × Place (now keys) (now kids) (now companions) (now list) (placeOf w)) ⌝ }
-    ensures { λ r. ⌜ Joined (now (ws .entry)) (now (val .entry)) known n i c w (now (keys .entry)) (now (list .entry)) (now (cells .entry)) (now (keys .exit)) (now (kids .exit)) (now (companions .exit)) (now (list .exit)) (now (cells .exit)) r ⌝ }
+    ensures { λ r. ⌜ Joined (now (ws .entry)) (now (val .entry)) known n i (c .0) w (now (keys .entry)) (now (list .entry)) (now (cells .entry)) (now (keys .exit)) (now (kids .exit)) (now (companions .exit)) (now (list .exit)) (now (cells .exit)) r ⌝ }
 {
     let at = index_of(w.cells);
     if cells.len() < 3 * at + 3 {
@@ -260,8 +262,8 @@ fn block_word(bw: &[u16; 20480], b: BlockNo, j: usize) -> u16
     bw[5 * at + j]
 }
 
-fn reads_on(answer: u8, last: u16, next: u16) -> bool
-    ensures { λ r. ⌜ ReadsOn answer last next r ⌝ }
+fn reads_on(answer: u8, last: u16, next: Link) -> bool
+    ensures { λ r. ⌜ ReadsOn answer last (next .0) r ⌝ }
 {
     if answer != 0 {
         return false;
@@ -269,7 +271,7 @@ fn reads_on(answer: u8, last: u16, next: u16) -> bool
     if last == 0 {
         return false;
     }
-    if next == 0 {
+    if next.0 == 0 {
         return false;
     }
     true
@@ -290,20 +292,20 @@ fn go_on(
     last: u16,
     w: Walk,
     b: BlockNo,
-    c: u16,
+    c: Condition,
 ) -> Visited
     requires { ⌜ ((n ≤ 32768) × ((w .cells < blockLimit) × (b .0 < blockLimit))) × ((w .answer ≡ noRoom → ⊥) × Place (now keys) (now kids) (now companions) (now list) (placeOf w)) ⌝ }
-    ensures { λ r. ⌜ GoesOn (now (ws .entry)) (now (val .entry)) n known (now (keys .entry)) (now (kids .entry)) (now (companions .entry)) (now (list .entry)) (now (cells .entry)) w c last (now (keys .exit)) (now (kids .exit)) (now (companions .exit)) (now (list .exit)) (now (cells .exit)) r × ((r .next ≡ getD (now (bw .entry)) (5 * b .0 + 3) 0) × (r .other ≡ getD (now (bw .entry)) (5 * b .0 + 4) 0)) ⌝ }
+    ensures { λ r. ⌜ GoesOn (now (ws .entry)) (now (val .entry)) n known (now (keys .entry)) (now (kids .entry)) (now (companions .entry)) (now (list .entry)) (now (cells .entry)) w (c .0) last (now (keys .exit)) (now (kids .exit)) (now (companions .exit)) (now (list .exit)) (now (cells .exit)) r × ((r .next .0 ≡ getD (now (bw .entry)) (5 * b .0 + 3) 0) × (r .other .0 ≡ getD (now (bw .entry)) (5 * b .0 + 4) 0)) ⌝ }
 {
-    let next = block_word(bw, b, 3);
-    let other = block_word(bw, b, 4);
+    let next = Link(block_word(bw, b, 3));
+    let other = Link(block_word(bw, b, 4));
     if !reads_on(w.answer, last, next) {
         return Visited {
             walk: w,
             next,
-            then: 0,
+            then: Condition(0),
             other,
-            otherwise: 0,
+            otherwise: Condition(0),
         };
     }
     let j = join(
@@ -323,9 +325,9 @@ fn go_on(
     Visited {
         walk: j,
         next,
-        then: 2 * w.cells + 1,
+        then: Condition(2 * w.cells + 1),
         other,
-        otherwise: 2 * w.cells + 2,
+        otherwise: Condition(2 * w.cells + 2),
     }
 }
 
@@ -370,16 +372,15 @@ pub fn visit(
     known: Known,
     w: Walk,
     b: BlockNo,
-    c: u16,
+    c: Condition,
 ) -> Visited
     requires { ⌜ Held known (storedIn (now keys) (now kids) (now companions) (now list) (now seen) (now alive) (now cells)) w ⌝ }
-    requires { ⌜ Open (memoryIn (now ws) (now val) (now cw) (now bw) (k .nodes) (k .commands) (k .blocks)) (shopFrom (arraysIn (now items) (now limits) (now codes) (now lens))) w (b .0) c ⌝ }
-    ensures { λ r. ⌜ Visits (memoryIn (now (ws .entry)) (now (val .entry)) (now (cw .entry)) (now (bw .entry)) (k .nodes) (k .commands) (k .blocks)) known (storedIn (now (keys .entry)) (now (kids .entry)) (now (companions .entry)) (now (list .entry)) (now (seen .entry)) (now (alive .entry)) (now (cells .entry))) (now (marks .entry)) (shopFrom (arraysIn (now (items .entry)) (now (limits .entry)) (now (codes .entry)) (now (lens .entry)))) w (b .0) c (storedIn (now (keys .exit)) (now (kids .exit)) (now (companions .exit)) (now (list .exit)) (now (seen .exit)) (now (alive .exit)) (now (cells .exit))) (now (marks .exit)) (shopFrom (arraysIn (now (items .exit)) (now (limits .exit)) (now (codes .exit)) (now (lens .exit)))) r ⌝ }
+    requires { ⌜ Open (memoryIn (now ws) (now val) (now cw) (now bw) (k .nodes) (k .commands) (k .blocks)) (shopFrom (arraysIn (now items) (now limits) (now codes) (now lens))) w (b .0) (c .0) ⌝ }
+    ensures { λ r. ⌜ Visits (memoryIn (now (ws .entry)) (now (val .entry)) (now (cw .entry)) (now (bw .entry)) (k .nodes) (k .commands) (k .blocks)) known (storedIn (now (keys .entry)) (now (kids .entry)) (now (companions .entry)) (now (list .entry)) (now (seen .entry)) (now (alive .entry)) (now (cells .entry))) (now (marks .entry)) (shopFrom (arraysIn (now (items .entry)) (now (limits .entry)) (now (codes .entry)) (now (lens .entry)))) w (b .0) (c .0) (storedIn (now (keys .exit)) (now (kids .exit)) (now (companions .exit)) (now (list .exit)) (now (seen .exit)) (now (alive .exit)) (now (cells .exit))) (now (marks .exit)) (shopFrom (arraysIn (now (items .exit)) (now (limits .exit)) (now (codes .exit)) (now (lens .exit)))) r ⌝ }
 {
     let first = block_word(bw, b, 1);
     let held = block_word(bw, b, 2);
-    let at = b.0 as usize;
-    marks[at] = true;
+    marks[b.0 as usize] = true;
     let s = scan_block(ws, val, cw, ids, counts, first, held, w.limit);
     let old = w.marked;
     let a = slots_after(
@@ -398,7 +399,7 @@ pub fn visit(
         known.items,
         s,
         old,
-        index_of(c),
+        index_of(c.0),
     );
     go_on(
         ws,

@@ -10,10 +10,11 @@ use Rattle.model.specs.Memory.{Memory}
 use Rattle.shop.specs.declared.Shop.{Shop}
 use Rattle.reach.specs.Marks.{unmarked}
 use Rattle.reach.specs.Stacks.{topOf, ways, Pushed, isCodeAt}
+use Rattle.parse_keys.specs.Sheets.{knownSheet, knows}
 use Rattle.parse_keys.specs.declared.Known.{Known}
 use Rattle.parse_visit.specs.declared.Walk.{Walk}
 use Rattle.parse_visit.specs.declared.Visited.{Visited}
-use Rattle.parse_visit.specs.State.{noRoom, knownSheet, knows, Stored, Held, Open, Entered, Roomy, nodesAt, Leaves, withAnswer}
+use Rattle.parse_visit.specs.State.{noRoom, Stored, Held, Open, Entered, Roomy, nodesAt, Leaves, withAnswer}
 use Rattle.parse_walk.specs.Walks.{Turning, Lengths, Large, Ends}
 use Rattle.parse_walk.proofs.Turns.{few-blocks, Coded, came-end, came-stopped, came-refused, opens, weight-here, one-less, top-low, less, again, same}
 
@@ -81,7 +82,7 @@ module _ {known : Known} {m : Memory} {b₀ : ℕ} {t : Stored} {marks : List Bo
           pub falls : unmarked (take (m .count) marks′) < unmarked (take (m .count) marks)
           falls = omega (arith, less (q .ready) at some-left eb ec k left z)
 
-          pub turns : {stack′ : List ℕ} {depth′ : ℕ} → Pushed stack (top - 1) (ways (v .next) (v .then) (v .other) (v .otherwise)) stack′ depth′ → 2 * (top - 1) + 4 ≤ length stack → length stack′ ≡ length stack
+          pub turns : {stack′ : List ℕ} {depth′ : ℕ} → Pushed stack (top - 1) (ways (v .next .0) (v .then .0) (v .other .0) (v .otherwise .0)) stack′ depth′ → 2 * (top - 1) + 4 ≤ length stack → length stack′ ≡ length stack
               → Turning known m b₀ t′ marks′ stack′ s′ (v .walk) depth′
           turns p l e = record {
             conditions = g .conditions;

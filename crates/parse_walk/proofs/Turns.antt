@@ -221,7 +221,7 @@ module _ {m : Memory} {marks : List Bool} {stack : List ℕ} {s : Shop} {w : Wal
           left-less : nodesLeft m marks′ + nodesAt m b ≡ nodesLeft m marks
           left-less = ap (λ l. weightOf blockNodes l (scriptOf m .blocks) + nodesAt m b) new-marks ∙ weight-here
 
-          module _ {stack′ : List ℕ} {depth′ : ℕ} (p : Pushed stack (top - 1) (ways (v .next) (v .then) (v .other) (v .otherwise)) stack′ depth′) where
+          module _ {stack′ : List ℕ} {depth′ : ℕ} (p : Pushed stack (top - 1) (ways (v .next .0) (v .then .0) (v .other .0) (v .otherwise .0)) stack′ depth′) where
             grows-two : (x : Ways ℕ) → grows x ≤ 2
             grows-two nowhere = omega arith
             grows-two (to x) = omega arith
@@ -231,23 +231,23 @@ module _ {m : Memory} {marks : List Bool} {stack : List ℕ} {s : Shop} {w : Wal
             again t l u = record {
               accepted = r .accepted;
               long = ap length new-marks ∙ length-set (take (m .count) marks) b true ∙ r .long;
-              tall = omega (arith, l, t, p .most, grows-two (ways (v .next) (v .then) (v .other) (v .otherwise)));
-              room = omega (arith, p .most, r .room, less, top-low, grows-two (ways (v .next) (v .then) (v .other) (v .otherwise)));
+              tall = omega (arith, l, t, p .most, grows-two (ways (v .next .0) (v .then .0) (v .other .0) (v .otherwise .0)));
+              room = omega (arith, p .most, r .room, less, top-low, grows-two (ways (v .next .0) (v .then .0) (v .other .0) (v .otherwise .0)));
               free = omega (arith, g .most, r .free, less);
               spent = omega (arith, r .spent, left-less, u);
               fine = z;
               good = g .good z;
-              low = subst (AllLow (v .walk .cells)) (sym (p .is)) (low-pushed (w .cells) (v .walk .cells) (linkIn (v .next)) (linkIn (v .other)) (v .then) (v .otherwise) (stackOf stack (top - 1)) (g .more) (g .lowNext) (g .lowElse) (top-lows .1));
+              low = subst (AllLow (v .walk .cells)) (sym (p .is)) (low-pushed (w .cells) (v .walk .cells) (linkIn (v .next .0)) (linkIn (v .other .0)) (v .then .0) (v .otherwise .0) (stackOf stack (top - 1)) (g .more) (g .lowNext) (g .lowElse) (top-lows .1));
             }
 
             pub same : walksIn h m marks′ f′ stack′ depth′ s′ (v .walk) ≡ walksIn h m marks f stack depth s w
             same =
                 ap (λ es. walks h (scriptOf m .blocks) (map (under f′) es) (stateOf (m .count) marks′ s′ (v .walk))) (p .is)
-                ∙ ap₂ (walks h (scriptOf m .blocks)) (under-pushed f′ (linkIn (v .next)) (linkIn (v .other)) (v .then) (v .otherwise) (stackOf stack (top - 1)) ∙ as-read) (g .state z)
+                ∙ ap₂ (walks h (scriptOf m .blocks)) (under-pushed f′ (linkIn (v .next .0)) (linkIn (v .other .0)) (v .then .0) (v .otherwise .0) (stackOf stack (top - 1)) ∙ as-read) (g .state z)
                 ∙ sym went-code
               where
-                as-read : pushed (waysBy (linkIn (v .next)) (linkIn (v .other)) (f′ (v .then)) (f′ (v .otherwise))) (map (under f′) (stackOf stack (top - 1)))
+                as-read : pushed (waysBy (linkIn (v .next .0)) (linkIn (v .other .0)) (f′ (v .then .0)) (f′ (v .otherwise .0))) (map (under f′) (stackOf stack (top - 1)))
                     ≡ pushed (waysBy (linkIn (blockWord m b 3)) (linkIn (blockWord m b 4)) (scanIn m marks (f c) s w b .onNext) (scanIn m marks (f c) s w b .onElse)) (map (under f) (stackOf stack (top - 1)))
                 as-read =
-                    ways-same (v .next) (linkIn (v .other)) (f′ (v .then)) (scanIn m marks (f c) s w b .onNext) (f′ (v .otherwise)) (scanIn m marks (f c) s w b .onElse) (map (under f′) (stackOf stack (top - 1))) (g .onNext z) (g .onElse z)
+                    ways-same (v .next .0) (linkIn (v .other .0)) (f′ (v .then .0)) (scanIn m marks (f c) s w b .onNext) (f′ (v .otherwise .0)) (scanIn m marks (f c) s w b .onElse) (map (under f′) (stackOf stack (top - 1))) (g .onNext z) (g .onElse z)
                     ∙ rw (g .next, g .other, under-same (w .cells) f′ f (g .same) (stackOf stack (top - 1)) (top-lows .1))

@@ -18,6 +18,7 @@ use parse_visit::NO_ROOM;
 use parse_visit::Walk;
 use parse_visit::answered;
 use parse_visit::visit;
+use reach::Condition;
 use reach::is_code;
 use reach::push;
 use reach::top_unmarked;
@@ -103,7 +104,7 @@ fn walk_all(
             known,
             w,
             b,
-            stack[2 * d + 1],
+            Condition(stack[2 * d + 1]),
         );
         w = v.walk;
         if w.answer != 0 {

@@ -1,12 +1,16 @@
 // A walk of blocks: marks, and a stack of blocks with a number each, next above else.
 ghost use mathlib.Core.Path.{_≡_};
 ghost use mathlib.Core.Bool.{false};
-ghost use Prim.Native.Nat.{_+_, _*_, _≤_};
+ghost use Prim.Native.Nat.{_+_, _*_, _-_, _≤_, _<_};
 ghost use lib.ListN.{length, getD, take};
 ghost use Rattle.reach.specs.Dfs.{entry, to};
 ghost use Rattle.reach.specs.Stacks.{isCodeAt, topOf, ways, Pushed};
 use memory::index_of;
 use model::BlockNo;
+use model::Link;
+
+// The number of a condition, 0 for none: what an entry of the stack holds beside its block.
+pub struct Condition(pub u16);
 
 // Whether block b is one of nb blocks and marked.
 fn is_marked(marks: &[bool; 4096], nb: u16, b: u16) -> bool
@@ -34,28 +38,36 @@ pub fn top_unmarked(marks: &[bool; 4096], stack: &[u16], nb: u16, depth: usize) 
     0
 }
 
-fn push_one(stack: &mut [u16], depth: usize, b: u16, c: u16) -> usize
-    requires { ⌜ 2 * depth + 2 ≤ length (now stack) ⌝ }
-    ensures { λ r. ⌜ Pushed (now (stack .entry)) depth (to (entry b c)) (now (stack .exit)) r ⌝ }
+// The block that a link names, under a condition.
+fn push_one(stack: &mut [u16], depth: usize, link: Link, under: Condition) -> usize
+    requires { ⌜ (2 * depth + 2 ≤ length (now stack)) × (0 < link .0) ⌝ }
+    ensures { λ r. ⌜ Pushed (now (stack .entry)) depth (to (entry (link .0 - 1) (under .0))) (now (stack .exit)) r ⌝ }
 {
-    stack[2 * depth] = b;
-    stack[2 * depth + 1] = c;
+    stack[2 * depth] = link.0 - 1;
+    stack[2 * depth + 1] = under.0;
     depth + 1
 }
 
-// Next before else, else only where there is a next: next goes above else. nx and el as they stand in the script, c and e their numbers.
-pub fn push(stack: &mut [u16], depth: usize, nx: u16, c: u16, el: u16, e: u16) -> usize
+// Next before else, else only where there is a next: next goes above else.
+pub fn push(
+    stack: &mut [u16],
+    depth: usize,
+    next: Link,
+    then: Condition,
+    other: Link,
+    otherwise: Condition,
+) -> usize
     requires { ⌜ 2 * depth + 4 ≤ length (now stack) ⌝ }
-    ensures { λ r. ⌜ Pushed (now (stack .entry)) depth (ways nx c el e) (now (stack .exit)) r ⌝ }
+    ensures { λ r. ⌜ Pushed (now (stack .entry)) depth (ways (next .0) (then .0) (other .0) (otherwise .0)) (now (stack .exit)) r ⌝ }
 {
-    if nx == 0 {
+    if next.0 == 0 {
         return depth;
     }
-    if el == 0 {
-        return push_one(stack, depth, nx - 1, c);
+    if other.0 == 0 {
+        return push_one(stack, depth, next, then);
     }
-    let d = push_one(stack, depth, el - 1, e);
-    push_one(stack, d, nx - 1, c)
+    let d = push_one(stack, depth, other, otherwise);
+    push_one(stack, d, next, then)
 }
 
 // Whether block b is one of nb blocks and code.

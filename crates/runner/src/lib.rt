@@ -21,6 +21,7 @@ use expr::Value;
 use expr::evaluate;
 use memory::Counts;
 use model::BlockNo;
+use model::Link;
 use shop::Sheet;
 
 // Where a block leads: to a block, to Return, to a refusal.
@@ -29,9 +30,6 @@ enum Step {
     Done,
     Halt(u8),
 }
-
-// A block's next as its word has it: 0 for none, k + 1 for block k.
-struct Link(u16);
 
 // Where a command leads: to the command after it, or out of the block.
 enum Flow {

@@ -12,7 +12,7 @@ use Rattle.parse_keys.proofs.code_below.Kinds as code-below-kinds
 use Rattle.parse_keys.proofs.+code_below.Lts-code_below as code-below-lts
 use Rattle.memory.proofs.index_of.Reads as index-of-reads
 use Rattle.memory.proofs.kind_of.Reads as kind-of-reads
-use Rattle.parse_keys.proofs.number_below.Reads as number-below-reads
+use Rattle.parse_keys.proofs.shifted_below.Reads as shifted-below-reads
 use Rattle.parse_keys.proofs.read_code.Reads as read-code-reads
 use Rattle.parse_keys.proofs.signed_code.Reads as signed-code-reads
 use Rattle.parse_keys.proofs.zero_sign.Reads as zero-sign-reads
@@ -32,7 +32,7 @@ code-below-below t =
 
 -- what the calls ask and give, at the measure t
 abbrev code-below-claims : ℕ → code-below-lts.Claims
-code-below-claims t = (kind-of-reads.Asked, kind-of-reads.Learnt, zero-sign-reads.Asked, zero-sign-reads.Learnt, index-of-reads.Asked, index-of-reads.Learnt, code-below-below t, code-below.Post, number-below-reads.Asked, number-below-reads.Learnt, read-code-reads.Asked, read-code-reads.Learnt, signed-code-reads.Asked, signed-code-reads.Learnt)
+code-below-claims t = (kind-of-reads.Asked, kind-of-reads.Learnt, zero-sign-reads.Asked, zero-sign-reads.Learnt, index-of-reads.Asked, index-of-reads.Learnt, code-below-below t, code-below.Post, shifted-below-reads.Asked, shifted-below-reads.Learnt, read-code-reads.Asked, read-code-reads.Learnt, signed-code-reads.Asked, signed-code-reads.Learnt)
 
 code-below-returns : (t : ℕ) → code-below-lts.Need-returns (code-below-claims t) (code-below-at t) code-below.Post
 code-below-returns t c = means-out (now (c .before .args .ws)) (now (c .before .args .val)) (c .before .args .known) (c .before .args .b) (c .before .args .i) (c .before .args .neg) (c .if1 .taken)
@@ -97,23 +97,23 @@ code-below-code-below-requires-2 t c κs = let p : c .before .before .before .be
 code-below-enum-known-k-2 : (t : ℕ) → code-below-lts.Need-enum-known-k-2 (code-below-claims t) (code-below-at t) code-below.Post
 code-below-enum-known-k-2 t c = search needs
 
-code-below-mul-index-of-3 : (t : ℕ) → code-below-lts.Need-mul-index-of-3 (code-below-claims t) (code-below-at t) code-below.Post
-code-below-mul-index-of-3 t c = search needs
+code-below-cast-shifted-below : (t : ℕ) → code-below-lts.Need-cast-shifted-below (code-below-claims t) (code-below-at t) code-below.Post
+code-below-cast-shifted-below t c = search needs
 
-code-below-add-index-of-2 : (t : ℕ) → code-below-lts.Need-add-index-of-2 (code-below-claims t) (code-below-at t) code-below.Post
-code-below-add-index-of-2 t c = search needs
+code-below-mul-shifted-below : (t : ℕ) → code-below-lts.Need-mul-shifted-below (code-below-claims t) (code-below-at t) code-below.Post
+code-below-mul-shifted-below t c = search needs
 
-code-below-mul-index-of-4 : (t : ℕ) → code-below-lts.Need-mul-index-of-4 (code-below-claims t) (code-below-at t) code-below.Post
-code-below-mul-index-of-4 t c = search needs
+code-below-add-shifted-below : (t : ℕ) → code-below-lts.Need-add-shifted-below (code-below-claims t) (code-below-at t) code-below.Post
+code-below-add-shifted-below t c = search needs
 
-code-below-element-copy-out-index-of-2 : (t : ℕ) → code-below-lts.Need-element-copy-out-index-of-2 (code-below-claims t) (code-below-at t) code-below.Post
-code-below-element-copy-out-index-of-2 t c = search needs
+code-below-mul-shifted-below-2 : (t : ℕ) → code-below-lts.Need-mul-shifted-below-2 (code-below-claims t) (code-below-at t) code-below.Post
+code-below-mul-shifted-below-2 t c = search needs
 
-code-below-index-of-requires-2 : (t : ℕ) → code-below-lts.Need-index-of-requires-2 (code-below-claims t) (code-below-at t) code-below.Post
-code-below-index-of-requires-2 t c κs = search needs
+code-below-element-copy-out-shifted-below : (t : ℕ) → code-below-lts.Need-element-copy-out-shifted-below (code-below-claims t) (code-below-at t) code-below.Post
+code-below-element-copy-out-shifted-below t c = search needs
 
-code-below-number-below-requires : (t : ℕ) → code-below-lts.Need-number-below-requires (code-below-claims t) (code-below-at t) code-below.Post
-code-below-number-below-requires t c κs = search needs
+code-below-shifted-below-requires : (t : ℕ) → code-below-lts.Need-shifted-below-requires (code-below-claims t) (code-below-at t) code-below.Post
+code-below-shifted-below-requires t c κs = search needs
 
 code-below-read-code-requires : (t : ℕ) → code-below-lts.Need-read-code-requires (code-below-claims t) (code-below-at t) code-below.Post
 code-below-read-code-requires t c κs = search needs
@@ -144,13 +144,12 @@ code-below-returns-4 t c =
 
 code-below-returns-5 : (t : ℕ) → code-below-lts.Need-returns-5 (code-below-claims t) (code-below-at t) code-below.Post
 code-below-returns-5 t c =
-    let x6 = c .before .before .before .before .before .before in
-    let x8 = x6 .before .before in
-    let x10 = x8 .before .before in
-    let start = x10 .before in
-    means-one (now (start .args .ws)) (now (start .args .val)) (start .args .known) (start .args .b) (start .args .i) (start .args .neg) (x10 .if1 .left) _
-    (x8 .kind-of .ensures) _ _ _ _ _ (x6 .k2 .given .1) (c .before .before .before .index-of2 .ensures) (c .before .before .number-below .ensures)
-    (c .before .read-code .ensures) (c .signed-code .ensures)
+    let x5 = c .before .before .before .before .before in
+    let x7 = x5 .before .before in
+    let x9 = x7 .before .before in
+    let start = x9 .before in
+    means-one (now (start .args .ws)) (now (start .args .val)) (start .args .known) (start .args .b) (start .args .i) (start .args .neg) (x9 .if1 .left) _
+    (x7 .kind-of .ensures) _ _ _ _ (x5 .k2 .given .1) (c .before .before .shifted-below .ensures) (c .before .read-code .ensures) (c .signed-code .ensures)
 
 code-below-returns-6 : (t : ℕ) → code-below-lts.Need-returns-6 (code-below-claims t) (code-below-at t) code-below.Post
 code-below-returns-6 t c =
@@ -194,12 +193,12 @@ pub +code-below-spec : {M : Type 1} → statement M
     (code-below-returns-3 t)
     (code-below-code-below-requires-2 t)
     (code-below-enum-known-k-2 t)
-    (code-below-mul-index-of-3 t)
-    (code-below-add-index-of-2 t)
-    (code-below-mul-index-of-4 t)
-    (code-below-element-copy-out-index-of-2 t)
-    (code-below-index-of-requires-2 t)
-    (code-below-number-below-requires t)
+    (code-below-cast-shifted-below t)
+    (code-below-mul-shifted-below t)
+    (code-below-add-shifted-below t)
+    (code-below-mul-shifted-below-2 t)
+    (code-below-element-copy-out-shifted-below t)
+    (code-below-shifted-below-requires t)
     (code-below-read-code-requires t)
     (code-below-signed-code-requires t)
     (code-below-enum-told t)

@@ -5,43 +5,43 @@ use borrow.Author.Needs.{needs}
 use Rattle.parse_keys.proofs.zero_sign.Statement.{statement}
 use Rattle.parse_keys.proofs.zero_sign.Tie as tie
 
-mul-index-of : tie.Need-mul-index-of
-mul-index-of c = search needs
+cast-shifted-below : tie.Need-cast-shifted-below
+cast-shifted-below c = search needs
 
-add-index-of : tie.Need-add-index-of
-add-index-of c = search needs
+mul-shifted-below : tie.Need-mul-shifted-below
+mul-shifted-below c = search needs
 
-mul-index-of-2 : tie.Need-mul-index-of-2
-mul-index-of-2 c = search needs
+add-shifted-below : tie.Need-add-shifted-below
+add-shifted-below c = search needs
 
-element-copy-out-index-of : tie.Need-element-copy-out-index-of
-element-copy-out-index-of c = search needs
+mul-shifted-below-2 : tie.Need-mul-shifted-below-2
+mul-shifted-below-2 c = search needs
 
-index-of-requires : tie.Need-index-of-requires
-index-of-requires c κs = search needs
+element-copy-out-shifted-below : tie.Need-element-copy-out-shifted-below
+element-copy-out-shifted-below c = search needs
 
-number-below-requires : tie.Need-number-below-requires
-number-below-requires c κs = search needs
+shifted-below-requires : tie.Need-shifted-below-requires
+shifted-below-requires c κs = search needs
 
 returns : tie.Need-returns
-returns c = zero-other (now (c .before .before .before .before .args .ws)) (now (c .before .before .before .before .args .val)) (c .before .before .before .before .args .i) _ (c .before .before .before .before .args .o) _ (c .before .before .index-of .ensures) (c .before .number-below .ensures) (c .if1 .taken)
+returns c = let a = c .before .before .before .args in zero-other (now (a .ws)) (now (a .val)) (a .i) (a .o) _ (c .before .shifted-below .ensures) (c .if1 .taken)
 
 sign-of-requires : tie.Need-sign-of-requires
 sign-of-requires c κs = search needs
 
 returns-2 : tie.Need-returns-2
-returns-2 c = zero-same (now (c .before .before .before .before .before .args .ws)) (now (c .before .before .before .before .before .args .val)) (c .before .before .before .before .before .args .i) _ (c .before .before .before .before .before .args .o) _ (c .before .before .before .index-of .ensures) (c .before .before .number-below .ensures) _ (c .before .if1 .left) (c .sign-of .ensures)
+returns-2 c = let a = c .before .before .before .before .args in zero-same (now (a .ws)) (now (a .val)) (a .i) (a .o) _ (c .before .before .shifted-below .ensures) _ (c .before .if1 .left) (c .sign-of .ensures)
 
 pub zero-sign-spec : {M : Type 1} → statement M
 zero-sign-spec =
     tie.close
     (tie.spec
-    mul-index-of
-    add-index-of
-    mul-index-of-2
-    element-copy-out-index-of
-    index-of-requires
-    number-below-requires
+    cast-shifted-below
+    mul-shifted-below
+    add-shifted-below
+    mul-shifted-below-2
+    element-copy-out-shifted-below
+    shifted-below-requires
     returns
     sign-of-requires
     returns-2)

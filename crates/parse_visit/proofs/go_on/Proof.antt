@@ -27,17 +27,17 @@ index-of-requires c κs = search needs
 join-requires : tie.Need-join-requires
 join-requires c κs = search needs
 
-mul-t31 : tie.Need-mul-t31
-mul-t31 c = omega (arith, c .before .before .before .before .before .before .before .before .before .before .before .before .before .before .before .before .before .before .before .before .before .before .before .before .before .before .before .pre .0 .1 .0)
-
-add-t32 : tie.Need-add-t32
-add-t32 c = omega (arith, c .before .before .before .before .before .before .before .before .before .before .before .before .before .before .before .before .before .before .before .before .before .before .before .before .before .before .before .pre .0 .1 .0)
-
-mul-t33 : tie.Need-mul-t33
-mul-t33 c = omega (arith, c .before .before .before .before .before .before .before .before .before .before .before .before .before .before .before .before .before .before .before .before .before .before .before .before .before .before .before .before .pre .0 .1 .0)
+mul-t18 : tie.Need-mul-t18
+mul-t18 c = omega (arith, c .before .before .before .before .before .before .before .before .before .before .before .before .before .before .before .before .before .before .before .before .before .before .before .before .before .before .before .pre .0 .1 .0)
 
 add-t34 : tie.Need-add-t34
-add-t34 c = omega (arith, c .before .before .before .before .before .before .before .before .before .before .before .before .before .before .before .before .before .before .before .before .before .before .before .before .before .before .before .before .pre .0 .1 .0)
+add-t34 c = omega (arith, c .before .before .before .before .before .before .before .before .before .before .before .before .before .before .before .before .before .before .before .before .before .before .before .before .before .before .before .pre .0 .1 .0)
+
+mul-t36 : tie.Need-mul-t36
+mul-t36 c = omega (arith, c .before .before .before .before .before .before .before .before .before .before .before .before .before .before .before .before .before .before .before .before .before .before .before .before .before .before .before .before .pre .0 .1 .0)
+
+add-t37 : tie.Need-add-t37
+add-t37 c = omega (arith, c .before .before .before .before .before .before .before .before .before .before .before .before .before .before .before .before .before .before .before .before .before .before .before .before .before .before .before .before .pre .0 .1 .0)
 
 same-length : tie.Need-same-length
 same-length c = search needs
@@ -79,10 +79,10 @@ go-on-spec =
     sub-index-of
     index-of-requires
     join-requires
-    mul-t31
-    add-t32
-    mul-t33
+    mul-t18
     add-t34
+    mul-t36
+    add-t37
     same-length
     same-length-2
     same-length-3

@@ -15,7 +15,7 @@ returns-3 : tie.Need-returns-3
 returns-3 c = record { yes = λ e. let z : _≡_ {A = ℕ} 0 1 = cc in absurd (omega arith); no = λ e z d. absurd (d (c .if3 .taken)) }
 
 returns-4 : tie.Need-returns-4
-returns-4 c = record { yes = λ e. (c .before .before .if1 .left, (c .before .if2 .left, c .if3 .left)); no = λ e. let z : _≡_ {A = ℕ} 0 1 = cc in absurd (omega arith) }
+returns-4 c = record { yes = λ e. (c .before .before .before .if1 .left, (c .before .before .if2 .left, c .if3 .left)); no = λ e. let z : _≡_ {A = ℕ} 0 1 = cc in absurd (omega arith) }
 
 pub reads-on-spec : {M : Type 1} → statement M
 reads-on-spec = tie.close (tie.spec returns returns-2 returns-3 returns-4)

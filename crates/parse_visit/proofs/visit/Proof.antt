@@ -17,8 +17,8 @@ block-word-requires c κs = (open-block (c .before .before .before .before .befo
 block-word-requires-2 : tie.Need-block-word-requires-2
 block-word-requires-2 c κs = (open-block (c .before .before .before .before .before .before .before .before .pre .1), omega arith)
 
-cast-at : tie.Need-cast-at
-cast-at c = search needs
+cast-marks : tie.Need-cast-marks
+cast-marks c = search needs
 
 element-write-marks : tie.Need-element-write-marks
 element-write-marks c = let l = open-block (c .before .before .before .before .before .before .before .before .before .before .pre .1) in omega arith
@@ -78,7 +78,7 @@ same-length-5 : tie.Need-same-length-5
 same-length-5 c = c .before .before .before .before .before .before .before .before .before .before .before .before .before .before .before .before .before .before .before .before .before .seen .given
 
 same-length-6 : tie.Need-same-length-6
-same-length-6 c = search needs
+same-length-6 c = c .before .before .before .before .before .before .before .before .before .before .before .before .before .before .before .before .before .before .before .alive .given
 
 same-length-7 : tie.Need-same-length-7
 same-length-7 c = search needs
@@ -110,7 +110,7 @@ visit-spec =
     (tie.spec
     block-word-requires
     block-word-requires-2
-    cast-at
+    cast-marks
     element-write-marks
     scan-block-requires
     index-of-requires

@@ -154,26 +154,26 @@ returns-3 c =
     ends-full (c6 .loop .inv .0) (c5 .top-unmarked .ensures) (c4 .if1 .left) refl refl (is-code _ _ (sym (c3 .is-code .ensures) ∙ not-false _ (c2 .if2 .left))) (c6 .loop .inv .1)
     (c1 .if3 .taken) (c .answered2 .ensures)
 
-mul-visit : tie.Need-mul-visit Inv-loop μ-loop
-mul-visit c =
+mul-t32-2 : tie.Need-mul-t32-2 Inv-loop μ-loop
+mul-t32-2 c =
     let c1 = c .before .before .before .before .before .before .before .before .before .before .before .before .before .before .before .before .before .before .before in
     let c2 = c1 .before .before .before .before in
     omega (arith, top-few (c2 .loop .inv .0 .ready) (c1 .top-unmarked .ensures))
 
-add-visit : tie.Need-add-visit Inv-loop μ-loop
-add-visit c =
+add-t33 : tie.Need-add-t33 Inv-loop μ-loop
+add-t33 c =
     let c1 = c .before .before .before .before .before .before .before .before .before .before .before .before .before .before .before .before .before .before .before in
     let c2 = c1 .before .before .before .before in
     omega (arith, top-few (c2 .loop .inv .0 .ready) (c1 .top-unmarked .ensures))
 
-mul-visit-2 : tie.Need-mul-visit-2 Inv-loop μ-loop
-mul-visit-2 c =
+mul-t38 : tie.Need-mul-t38 Inv-loop μ-loop
+mul-t38 c =
     let c1 = c .before .before .before .before .before .before .before .before .before .before .before .before .before .before .before .before .before .before .before in
     let c2 = c1 .before .before .before .before in
     omega (arith, top-few (c2 .loop .inv .0 .ready) (c1 .top-unmarked .ensures))
 
-slice-read-visit : tie.Need-slice-read-visit Inv-loop μ-loop
-slice-read-visit c = omega (arith, c .before .before .before .before .before .before .before .before .before .before .before .before .before .before .before .if3 .left)
+slice-read-t35-2 : tie.Need-slice-read-t35-2 Inv-loop μ-loop
+slice-read-t35-2 c = omega (arith, c .before .before .before .before .before .before .before .before .before .before .before .before .before .before .before .if3 .left)
 
 visit-requires : tie.Need-visit-requires Inv-loop μ-loop
 visit-requires c κs =
@@ -366,10 +366,10 @@ walk-all-spec =
     same-length-23
     same-length-24
     returns-3
-    mul-visit
-    add-visit
-    mul-visit-2
-    slice-read-visit
+    mul-t32-2
+    add-t33
+    mul-t38
+    slice-read-t35-2
     visit-requires
     same-length-25
     same-length-26

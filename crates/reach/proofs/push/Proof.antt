@@ -5,10 +5,7 @@ use Rattle.reach.proofs.push.Statement.{statement}
 use Rattle.reach.proofs.push.Tie as tie
 
 returns : tie.Need-returns
-returns c = let a = c .before .before .args in push-none _ _ _ (a .c) (a .el) (a .e) (c .if1 .taken)
-
-sub-push-one : tie.Need-sub-push-one
-sub-push-one c = search needs
+returns c = let a = c .before .before .before .args in push-none _ _ _ (a .then .0) (a .other .0) (a .otherwise .0) (c .if1 .taken)
 
 push-one-requires : tie.Need-push-one-requires
 push-one-requires c κs = search needs
@@ -17,16 +14,10 @@ same-length : tie.Need-same-length
 same-length c = search needs
 
 returns-2 : tie.Need-returns-2
-returns-2 c = push-next _ _ _ _ _ (c .before .before .before .before .before .before .before .args .e) _ _ (c .before .before .before .before .before .if1 .left) (c .before .before .before .before .if2 .taken) (c .before .before .push-one .ensures)
-
-sub-push-one-2 : tie.Need-sub-push-one-2
-sub-push-one-2 c = search needs
+returns-2 c = push-next _ _ _ _ _ (c .before .before .before .before .before .before .before .before .before .args .otherwise .0) _ _ (c .before .before .before .before .before .before .if1 .left) (c .before .before .before .before .if2 .taken) (c .before .before .push-one .ensures)
 
 push-one-requires-2 : tie.Need-push-one-requires-2
 push-one-requires-2 c κs = search needs
-
-sub-push-one-3 : tie.Need-sub-push-one-3
-sub-push-one-3 c = search needs
 
 push-one-requires-3 : tie.Need-push-one-requires-3
 push-one-requires-3 c κs = search needs
@@ -35,20 +26,17 @@ same-length-2 : tie.Need-same-length-2
 same-length-2 c = search needs
 
 returns-3 : tie.Need-returns-3
-returns-3 c = push-both _ _ _ _ _ _ _ _ _ _ (c .before .before .before .before .before .before .before .before .before .if1 .left) (c .before .before .before .before .before .before .before .before .if2 .left) (c .before .before .before .before .before .before .push-one2 .ensures) (c .before .before .push-one3 .ensures)
+returns-3 c = push-both _ _ _ _ _ _ _ _ _ _ (c .before .before .before .before .before .before .before .before .before .before .if1 .left) (c .before .before .before .before .before .before .before .before .if2 .left) (c .before .before .before .before .before .before .push-one2 .ensures) (c .before .before .push-one3 .ensures)
 
 pub push-spec : {M : Type 1} → statement M
 push-spec =
     tie.close
     (tie.spec
     returns
-    sub-push-one
     push-one-requires
     same-length
     returns-2
-    sub-push-one-2
     push-one-requires-2
-    sub-push-one-3
     push-one-requires-3
     same-length-2
     returns-3)

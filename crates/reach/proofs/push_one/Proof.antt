@@ -6,6 +6,9 @@ use borrow.Author.Needs.{needs}
 use Rattle.reach.proofs.push_one.Statement.{statement}
 use Rattle.reach.proofs.push_one.Tie as tie
 
+sub-stack : tie.Need-sub-stack
+sub-stack c = search needs
+
 mul-stack : tie.Need-mul-stack
 mul-stack c = search needs
 
@@ -25,7 +28,7 @@ mul-stack-4 : tie.Need-mul-stack-4
 mul-stack-4 c = search needs
 
 slice-write-stack-2 : tie.Need-slice-write-stack-2
-slice-write-stack-2 c = simp length-set (omega (arith, c .pre))
+slice-write-stack-2 c = simp length-set (omega (arith, c .before .pre))
 
 add-result : tie.Need-add-result
 add-result c = search needs
@@ -34,12 +37,13 @@ same-length : tie.Need-same-length
 same-length c = search needs
 
 returns : tie.Need-returns
-returns c = push-entry _ _ _ _ (c .pre)
+returns c = push-entry _ _ _ _ (c .before .pre .0)
 
 pub push-one-spec : {M : Type 1} → statement M
 push-one-spec =
     tie.close
     (tie.spec
+    sub-stack
     mul-stack
     mul-stack-2
     slice-write-stack
