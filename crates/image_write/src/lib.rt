@@ -28,13 +28,7 @@ pub struct Written {
 // ---- expressions
 
 // Node i. Calls go as deep as the expression, which the judgement keeps to 64 levels.
-fn write_expr(
-    ws: &[u16; 98304],
-    val: &[i32; 32768],
-    i: u16,
-    out: &mut [u8],
-    at: usize,
-) -> usize
+fn write_expr(ws: &[u16; 98304], val: &[i32; 32768], i: u16, out: &mut [u8], at: usize) -> usize
     requires { ⌜ (i < 32768) × Room (now out) at (nodeImage (nodesIn (now ws) (now val) 0) (suc i) i) ⌝ }
     ensures { λ r. ⌜ Stored (now (out .entry)) at (nodeImage (nodesIn (now (ws .entry)) (now (val .entry)) 0) (suc i) i) (now (out .exit)) r ⌝ }
 {

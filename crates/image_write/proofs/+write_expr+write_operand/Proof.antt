@@ -66,7 +66,10 @@ write-expr-element-copy-out-c : (t : ℕ) → write-expr-lts.Need-element-copy-o
 write-expr-element-copy-out-c t c = search needs
 
 write-expr-write-short-requires : (t : ℕ) → write-expr-lts.Need-write-short-requires (write-expr-claims t) (write-expr-at t) write-expr.Post
-write-expr-write-short-requires t c κs = let s = c .before .before .before in let ns = nodesIn (s .args .ws .now) (s .args .val .now) 0 in room-first (followImage (nodeImage ns) ns (s .args .i) (kindOf (codeAt ns (s .args .i)))) (room-as (image-node ns (suc (s .args .i)) (s .args .i) (omega arith)) (s .pre .1 .1))
+write-expr-write-short-requires t c κs =
+    let s = c .before .before .before in
+    let ns = nodesIn (s .args .ws .now) (s .args .val .now) 0 in
+    room-first (followImage (nodeImage ns) ns (s .args .i) (kindOf (codeAt ns (s .args .i)))) (room-as (image-node ns (suc (s .args .i)) (s .args .i) (omega arith)) (s .pre .1 .1))
 
 write-expr-kind-of-requires : (t : ℕ) → write-expr-lts.Need-kind-of-requires (write-expr-claims t) (write-expr-at t) write-expr.Post
 write-expr-kind-of-requires t c κs = search needs
@@ -88,7 +91,11 @@ write-expr-element-copy-out-write-operand :
 write-expr-element-copy-out-write-operand t c = search needs
 
 write-expr-write-operand-requires : (t : ℕ) → write-expr-lts.Need-write-operand-requires (write-expr-claims t) (write-expr-at t) write-expr.Post
-write-expr-write-operand-requires t c κs = let s = c .before .before .before .before .before .before .before .before .before .before .before in let ns = nodesIn (s .args .ws .now) (s .args .val .now) 0 in let m : 2 * (s .args .i) + 1 ≡ t = s .pre .0 in (omega arith, (omega (arith, s .pre .1 .0), room-first (nodeImage ns (s .args .i) (rightAt ns (s .args .i))) (room-next (c .before .before .before .before .before .before .before .write-short .ensures) (room-as (node-two ns (suc (s .args .i)) (s .args .i) (omega arith) _ (c .before .before .before .before .kind-of .ensures) _ (c .before .before .enum-told .given .1)) (s .pre .1 .1)))))
+write-expr-write-operand-requires t c κs =
+    let s = c .before .before .before .before .before .before .before .before .before .before .before in
+    let ns = nodesIn (s .args .ws .now) (s .args .val .now) 0 in
+    let m : 2 * (s .args .i) + 1 ≡ t = s .pre .0 in
+    (omega arith, (omega (arith, s .pre .1 .0), room-first (nodeImage ns (s .args .i) (rightAt ns (s .args .i))) (room-next (c .before .before .before .before .before .before .before .write-short .ensures) (room-as (node-two ns (suc (s .args .i)) (s .args .i) (omega arith) _ (c .before .before .before .before .kind-of .ensures) _ (c .before .before .enum-told .given .1)) (s .pre .1 .1)))))
 
 write-expr-mul-write-operand-3 : (t : ℕ) → write-expr-lts.Need-mul-write-operand-3 (write-expr-claims t) (write-expr-at t) write-expr.Post
 write-expr-mul-write-operand-3 t c = search needs
@@ -104,7 +111,11 @@ write-expr-element-copy-out-write-operand-2 :
 write-expr-element-copy-out-write-operand-2 t c = search needs
 
 write-expr-write-operand-requires-2 : (t : ℕ) → write-expr-lts.Need-write-operand-requires-2 (write-expr-claims t) (write-expr-at t) write-expr.Post
-write-expr-write-operand-requires-2 t c κs = let s = c .before .before .before .before .before .before .before .before .before .before .before .before .before .before .before .before in let ns = nodesIn (s .args .ws .now) (s .args .val .now) 0 in let m : 2 * (s .args .i) + 1 ≡ t = s .pre .0 in (omega arith, (omega (arith, s .pre .1 .0), room-next (c .before .before .before .before .write-operand .ensures) (room-next (c .before .before .before .before .before .before .before .before .before .before .before .before .write-short .ensures) (room-as (node-two ns (suc (s .args .i)) (s .args .i) (omega arith) _ (c .before .before .before .before .before .before .before .before .before .kind-of .ensures) _ (c .before .before .before .before .before .before .before .enum-told .given .1)) (s .pre .1 .1)))))
+write-expr-write-operand-requires-2 t c κs =
+    let s = c .before .before .before .before .before .before .before .before .before .before .before .before .before .before .before .before in
+    let ns = nodesIn (s .args .ws .now) (s .args .val .now) 0 in
+    let m : 2 * (s .args .i) + 1 ≡ t = s .pre .0 in
+    (omega arith, (omega (arith, s .pre .1 .0), room-next (c .before .before .before .before .write-operand .ensures) (room-next (c .before .before .before .before .before .before .before .before .before .before .before .before .write-short .ensures) (room-as (node-two ns (suc (s .args .i)) (s .args .i) (omega arith) _ (c .before .before .before .before .before .before .before .before .before .kind-of .ensures) _ (c .before .before .before .before .before .before .before .enum-told .given .1)) (s .pre .1 .1)))))
 
 write-expr-enum-told-2 : (t : ℕ) → write-expr-lts.Need-enum-told-2 (write-expr-claims t) (write-expr-at t) write-expr.Post
 write-expr-enum-told-2 t c = search needs
@@ -123,7 +134,11 @@ write-expr-element-copy-out-write-operand-3 :
 write-expr-element-copy-out-write-operand-3 t c = search needs
 
 write-expr-write-operand-requires-3 : (t : ℕ) → write-expr-lts.Need-write-operand-requires-3 (write-expr-claims t) (write-expr-at t) write-expr.Post
-write-expr-write-operand-requires-3 t c κs = let s = c .before .before .before .before .before .before .before .before .before .before .before in let ns = nodesIn (s .args .ws .now) (s .args .val .now) 0 in let m : 2 * (s .args .i) + 1 ≡ t = s .pre .0 in (omega arith, (omega (arith, s .pre .1 .0), room-next (c .before .before .before .before .before .before .before .write-short .ensures) (room-as (node-one ns (suc (s .args .i)) (s .args .i) (omega arith) _ (c .before .before .before .before .kind-of .ensures) _ (c .before .before .enum-told2 .given .1)) (s .pre .1 .1))))
+write-expr-write-operand-requires-3 t c κs =
+    let s = c .before .before .before .before .before .before .before .before .before .before .before in
+    let ns = nodesIn (s .args .ws .now) (s .args .val .now) 0 in
+    let m : 2 * (s .args .i) + 1 ≡ t = s .pre .0 in
+    (omega arith, (omega (arith, s .pre .1 .0), room-next (c .before .before .before .before .before .before .before .write-short .ensures) (room-as (node-one ns (suc (s .args .i)) (s .args .i) (omega arith) _ (c .before .before .before .before .kind-of .ensures) _ (c .before .before .enum-told2 .given .1)) (s .pre .1 .1))))
 
 write-expr-enum-told-3 : (t : ℕ) → write-expr-lts.Need-enum-told-3 (write-expr-claims t) (write-expr-at t) write-expr.Post
 write-expr-enum-told-3 t c = search needs
@@ -136,7 +151,10 @@ write-expr-element-copy-out-write-value :
 write-expr-element-copy-out-write-value t c = search needs
 
 write-expr-write-value-requires : (t : ℕ) → write-expr-lts.Need-write-value-requires (write-expr-claims t) (write-expr-at t) write-expr.Post
-write-expr-write-value-requires t c κs = let s = c .before .before .before .before .before .before .before .before .before .before .before in let ns = nodesIn (s .args .ws .now) (s .args .val .now) 0 in rw (toZ-ofZ {w = w32} (record { sfits = c .write-value-arg2 .given })) (room-next (c .before .before .before .before .before .before .before .write-short .ensures) (room-as (node-imm16 ns (suc (s .args .i)) (s .args .i) (omega arith) _ (c .before .before .before .before .kind-of .ensures) (c .before .before .enum-told3 .given .1)) (s .pre .1 .1)))
+write-expr-write-value-requires t c κs =
+    let s = c .before .before .before .before .before .before .before .before .before .before .before in
+    let ns = nodesIn (s .args .ws .now) (s .args .val .now) 0 in
+    rw (toZ-ofZ {w = w32} (record { sfits = c .write-value-arg2 .given })) (room-next (c .before .before .before .before .before .before .before .write-short .ensures) (room-as (node-imm16 ns (suc (s .args .i)) (s .args .i) (omega arith) _ (c .before .before .before .before .kind-of .ensures) (c .before .before .enum-told3 .given .1)) (s .pre .1 .1)))
 
 write-expr-enum-told-4 : (t : ℕ) → write-expr-lts.Need-enum-told-4 (write-expr-claims t) (write-expr-at t) write-expr.Post
 write-expr-enum-told-4 t c = search needs
@@ -149,7 +167,10 @@ write-expr-element-copy-out-write-value-2 :
 write-expr-element-copy-out-write-value-2 t c = search needs
 
 write-expr-write-value-requires-2 : (t : ℕ) → write-expr-lts.Need-write-value-requires-2 (write-expr-claims t) (write-expr-at t) write-expr.Post
-write-expr-write-value-requires-2 t c κs = let s = c .before .before .before .before .before .before .before .before .before .before .before in let ns = nodesIn (s .args .ws .now) (s .args .val .now) 0 in rw (toZ-ofZ {w = w32} (record { sfits = c .write-value-arg4 .given })) (room-next (c .before .before .before .before .before .before .before .write-short .ensures) (room-as (node-imm32 ns (suc (s .args .i)) (s .args .i) (omega arith) _ (c .before .before .before .before .kind-of .ensures) (c .before .before .enum-told4 .given .1)) (s .pre .1 .1)))
+write-expr-write-value-requires-2 t c κs =
+    let s = c .before .before .before .before .before .before .before .before .before .before .before in
+    let ns = nodesIn (s .args .ws .now) (s .args .val .now) 0 in
+    rw (toZ-ofZ {w = w32} (record { sfits = c .write-value-arg4 .given })) (room-next (c .before .before .before .before .before .before .before .write-short .ensures) (room-as (node-imm32 ns (suc (s .args .i)) (s .args .i) (omega arith) _ (c .before .before .before .before .kind-of .ensures) (c .before .before .enum-told4 .given .1)) (s .pre .1 .1)))
 
 write-expr-enum-told-5 : (t : ℕ) → write-expr-lts.Need-enum-told-5 (write-expr-claims t) (write-expr-at t) write-expr.Post
 write-expr-enum-told-5 t c = search needs
@@ -158,44 +179,63 @@ write-expr-same-length : (t : ℕ) → write-expr-lts.Need-same-length (write-ex
 write-expr-same-length t c = search needs
 
 write-expr-returns : (t : ℕ) → write-expr-lts.Need-returns (write-expr-claims t) (write-expr-at t) write-expr.Post
-write-expr-returns t c = let s = c .before .before .before .before .before .before .before .before .before .before .before .before .before .before .before .before .before .before .before in let ns = nodesIn (s .args .ws .now) (s .args .val .now) 0 in stored-as (node-two ns (suc (s .args .i)) (s .args .i) (omega arith) _ (c .before .before .before .before .before .before .before .before .before .before .before .before .kind-of .ensures) _ (c .before .before .before .before .before .before .before .before .before .before .enum-told .given .1)) (stored-on (c .before .before .before .before .before .before .before .before .before .before .before .before .before .before .before .write-short .ensures) (stored-on (c .before .before .before .before .before .before .before .write-operand .ensures) (c .before .before .write-operand2 .ensures)))
+write-expr-returns t c =
+    let s = c .before .before .before .before .before .before .before .before .before .before .before .before .before .before .before .before .before .before .before in
+    let ns = nodesIn (s .args .ws .now) (s .args .val .now) 0 in
+    stored-as (node-two ns (suc (s .args .i)) (s .args .i) (omega arith) _ (c .before .before .before .before .before .before .before .before .before .before .before .before .kind-of .ensures) _ (c .before .before .before .before .before .before .before .before .before .before .enum-told .given .1)) (stored-on (c .before .before .before .before .before .before .before .before .before .before .before .before .before .before .before .write-short .ensures) (stored-on (c .before .before .before .before .before .before .before .write-operand .ensures) (c .before .before .write-operand2 .ensures)))
 
 write-expr-same-length-2 : (t : ℕ) → write-expr-lts.Need-same-length-2 (write-expr-claims t) (write-expr-at t) write-expr.Post
 write-expr-same-length-2 t c = search needs
 
 write-expr-returns-2 : (t : ℕ) → write-expr-lts.Need-returns-2 (write-expr-claims t) (write-expr-at t) write-expr.Post
-write-expr-returns-2 t c = let s = c .before .before .before .before .before .before .before .before .before .before .before .before .before .before in let ns = nodesIn (s .args .ws .now) (s .args .val .now) 0 in stored-as (node-one ns (suc (s .args .i)) (s .args .i) (omega arith) _ (c .before .before .before .before .before .before .before .kind-of .ensures) _ (c .before .before .before .before .before .enum-told2 .given .1)) (stored-on (c .before .before .before .before .before .before .before .before .before .before .write-short .ensures) (c .before .before .write-operand3 .ensures))
+write-expr-returns-2 t c =
+    let s = c .before .before .before .before .before .before .before .before .before .before .before .before .before .before in
+    let ns = nodesIn (s .args .ws .now) (s .args .val .now) 0 in
+    stored-as (node-one ns (suc (s .args .i)) (s .args .i) (omega arith) _ (c .before .before .before .before .before .before .before .kind-of .ensures) _ (c .before .before .before .before .before .enum-told2 .given .1)) (stored-on (c .before .before .before .before .before .before .before .before .before .before .write-short .ensures) (c .before .before .write-operand3 .ensures))
 
 write-expr-same-length-3 : (t : ℕ) → write-expr-lts.Need-same-length-3 (write-expr-claims t) (write-expr-at t) write-expr.Post
 write-expr-same-length-3 t c = search needs
 
 write-expr-returns-3 : (t : ℕ) → write-expr-lts.Need-returns-3 (write-expr-claims t) (write-expr-at t) write-expr.Post
-write-expr-returns-3 t c = let s = c .before .before .before .before .before .before .before .before .before .before .before .before .before .before in let ns = nodesIn (s .args .ws .now) (s .args .val .now) 0 in stored-as (node-imm16 ns (suc (s .args .i)) (s .args .i) (omega arith) _ (c .before .before .before .before .before .before .before .kind-of .ensures) (c .before .before .before .before .before .enum-told3 .given .1)) (stored-on (c .before .before .before .before .before .before .before .before .before .before .write-short .ensures) (rw (toZ-ofZ {w = w32} (record { sfits = c .before .before .before .write-value-arg2 .given })) at (c .before .before .write-value .ensures)))
+write-expr-returns-3 t c =
+    let s = c .before .before .before .before .before .before .before .before .before .before .before .before .before .before in
+    let ns = nodesIn (s .args .ws .now) (s .args .val .now) 0 in
+    stored-as (node-imm16 ns (suc (s .args .i)) (s .args .i) (omega arith) _ (c .before .before .before .before .before .before .before .kind-of .ensures) (c .before .before .before .before .before .enum-told3 .given .1)) (stored-on (c .before .before .before .before .before .before .before .before .before .before .write-short .ensures) (rw (toZ-ofZ {w = w32} (record { sfits = c .before .before .before .write-value-arg2 .given })) at (c .before .before .write-value .ensures)))
 
 write-expr-same-length-4 : (t : ℕ) → write-expr-lts.Need-same-length-4 (write-expr-claims t) (write-expr-at t) write-expr.Post
 write-expr-same-length-4 t c = search needs
 
 write-expr-returns-4 : (t : ℕ) → write-expr-lts.Need-returns-4 (write-expr-claims t) (write-expr-at t) write-expr.Post
-write-expr-returns-4 t c = let s = c .before .before .before .before .before .before .before .before .before .before .before .before .before .before in let ns = nodesIn (s .args .ws .now) (s .args .val .now) 0 in stored-as (node-imm32 ns (suc (s .args .i)) (s .args .i) (omega arith) _ (c .before .before .before .before .before .before .before .kind-of .ensures) (c .before .before .before .before .before .enum-told4 .given .1)) (stored-on (c .before .before .before .before .before .before .before .before .before .before .write-short .ensures) (rw (toZ-ofZ {w = w32} (record { sfits = c .before .before .before .write-value-arg4 .given })) at (c .before .before .write-value2 .ensures)))
+write-expr-returns-4 t c =
+    let s = c .before .before .before .before .before .before .before .before .before .before .before .before .before .before in
+    let ns = nodesIn (s .args .ws .now) (s .args .val .now) 0 in
+    stored-as (node-imm32 ns (suc (s .args .i)) (s .args .i) (omega arith) _ (c .before .before .before .before .before .before .before .kind-of .ensures) (c .before .before .before .before .before .enum-told4 .given .1)) (stored-on (c .before .before .before .before .before .before .before .before .before .before .write-short .ensures) (rw (toZ-ofZ {w = w32} (record { sfits = c .before .before .before .write-value-arg4 .given })) at (c .before .before .write-value2 .ensures)))
 
 write-expr-same-length-5 : (t : ℕ) → write-expr-lts.Need-same-length-5 (write-expr-claims t) (write-expr-at t) write-expr.Post
 write-expr-same-length-5 t c = search needs
 
 write-expr-returns-5 : (t : ℕ) → write-expr-lts.Need-returns-5 (write-expr-claims t) (write-expr-at t) write-expr.Post
-write-expr-returns-5 t c = let s = c .before .before .before .before .before .before .before .before .before in let ns = nodesIn (s .args .ws .now) (s .args .val .now) 0 in stored-as (node-other ns (suc (s .args .i)) (s .args .i) (omega arith) _ (c .before .before .kind-of .ensures) (c .enum-told5 .given .1)) (c .before .before .before .before .before .write-short .ensures)
+write-expr-returns-5 t c =
+    let s = c .before .before .before .before .before .before .before .before .before in
+    let ns = nodesIn (s .args .ws .now) (s .args .val .now) 0 in
+    stored-as (node-other ns (suc (s .args .i)) (s .args .i) (omega arith) _ (c .before .before .kind-of .ensures) (c .enum-told5 .given .1)) (c .before .before .before .before .before .write-short .ensures)
 
 -- what the calls ask and give, at the measure t
 abbrev write-operand-claims : ℕ → write-operand-lts.Claims
 write-operand-claims t = (write-short-reads.Asked, write-short-reads.Learnt, write-value-reads.Asked, write-value-reads.Learnt, write-expr-below t, write-expr.Post)
 
 write-operand-write-short-requires : (t : ℕ) → write-operand-lts.Need-write-short-requires (write-operand-claims t) (write-operand-at t) write-operand.Post
-write-operand-write-short-requires t c κs = let s = c .before .before .before in room-as (image-none (nodesIn (s .args .ws .now) (s .args .val .now) 0) (s .args .b) (s .args .i) (c .before .if1 .taken)) (s .pre .1 .1)
+write-operand-write-short-requires t c κs =
+    let s = c .before .before .before in
+    room-as (image-none (nodesIn (s .args .ws .now) (s .args .val .now) 0) (s .args .b) (s .args .i) (c .before .if1 .taken)) (s .pre .1 .1)
 
 write-operand-same-length : (t : ℕ) → write-operand-lts.Need-same-length (write-operand-claims t) (write-operand-at t) write-operand.Post
 write-operand-same-length t c = search needs
 
 write-operand-returns : (t : ℕ) → write-operand-lts.Need-returns (write-operand-claims t) (write-operand-at t) write-operand.Post
-write-operand-returns t c = let s = c .before .before .before .before .before .before in stored-as (image-none (nodesIn (s .args .ws .now) (s .args .val .now) 0) (s .args .b) (s .args .i) (c .before .before .before .before .if1 .taken)) (c .before .before .write-short .ensures)
+write-operand-returns t c =
+    let s = c .before .before .before .before .before .before in
+    stored-as (image-none (nodesIn (s .args .ws .now) (s .args .val .now) 0) (s .args .b) (s .args .i) (c .before .before .before .before .if1 .taken)) (c .before .before .write-short .ensures)
 
 write-operand-mul-c : (t : ℕ) → write-operand-lts.Need-mul-c (write-operand-claims t) (write-operand-at t) write-operand.Post
 write-operand-mul-c t c = search needs
@@ -207,7 +247,10 @@ write-operand-element-copy-out-c : (t : ℕ) → write-operand-lts.Need-element-
 write-operand-element-copy-out-c t c = search needs
 
 write-operand-write-short-requires-2 : (t : ℕ) → write-operand-lts.Need-write-short-requires-2 (write-operand-claims t) (write-operand-at t) write-operand.Post
-write-operand-write-short-requires-2 t c κs = let s = c .before .before .before .before .before in let ns = nodesIn (s .args .ws .now) (s .args .val .now) 0 in room-first (word (zig (valueAt ns (s .args .i)))) (room-as (node-short ns (s .args .b) (s .args .i) (c .before .before .before .if1 .left) (c .before .if2 .taken)) (s .pre .1 .1))
+write-operand-write-short-requires-2 t c κs =
+    let s = c .before .before .before .before .before in
+    let ns = nodesIn (s .args .ws .now) (s .args .val .now) 0 in
+    room-first (word (zig (valueAt ns (s .args .i)))) (room-as (node-short ns (s .args .b) (s .args .i) (c .before .before .before .if1 .left) (c .before .if2 .taken)) (s .pre .1 .1))
 
 write-operand-mul-write-value : (t : ℕ) → write-operand-lts.Need-mul-write-value (write-operand-claims t) (write-operand-at t) write-operand.Post
 write-operand-mul-write-value t c = search needs
@@ -217,22 +260,31 @@ write-operand-element-copy-out-write-value :
 write-operand-element-copy-out-write-value t c = search needs
 
 write-operand-write-value-requires : (t : ℕ) → write-operand-lts.Need-write-value-requires (write-operand-claims t) (write-operand-at t) write-operand.Post
-write-operand-write-value-requires t c κs = let s = c .before .before .before .before .before .before .before .before .before .before in rw (toZ-ofZ {w = w32} (record { sfits = c .write-value-arg2 .given })) (room-next (c .before .before .before .before .write-short2 .ensures) (room-as (node-short (nodesIn (s .args .ws .now) (s .args .val .now) 0) (s .args .b) (s .args .i) (c .before .before .before .before .before .before .before .before .if1 .left) (c .before .before .before .before .before .before .if2 .taken)) (s .pre .1 .1)))
+write-operand-write-value-requires t c κs =
+    let s = c .before .before .before .before .before .before .before .before .before .before in
+    rw (toZ-ofZ {w = w32} (record { sfits = c .write-value-arg2 .given })) (room-next (c .before .before .before .before .write-short2 .ensures) (room-as (node-short (nodesIn (s .args .ws .now) (s .args .val .now) 0) (s .args .b) (s .args .i) (c .before .before .before .before .before .before .before .before .if1 .left) (c .before .before .before .before .before .before .if2 .taken)) (s .pre .1 .1)))
 
 write-operand-same-length-2 : (t : ℕ) → write-operand-lts.Need-same-length-2 (write-operand-claims t) (write-operand-at t) write-operand.Post
 write-operand-same-length-2 t c = search needs
 
 write-operand-returns-2 : (t : ℕ) → write-operand-lts.Need-returns-2 (write-operand-claims t) (write-operand-at t) write-operand.Post
-write-operand-returns-2 t c = let s = c .before .before .before .before .before .before .before .before .before .before .before .before .before in stored-as (node-short (nodesIn (s .args .ws .now) (s .args .val .now) 0) (s .args .b) (s .args .i) (c .before .before .before .before .before .before .before .before .before .before .before .if1 .left) (c .before .before .before .before .before .before .before .before .before .if2 .taken)) (stored-on (c .before .before .before .before .before .before .before .write-short2 .ensures) (rw (toZ-ofZ {w = w32} (record { sfits = c .before .before .before .write-value-arg2 .given })) at (c .before .before .write-value .ensures)))
+write-operand-returns-2 t c =
+    let s = c .before .before .before .before .before .before .before .before .before .before .before .before .before in
+    stored-as (node-short (nodesIn (s .args .ws .now) (s .args .val .now) 0) (s .args .b) (s .args .i) (c .before .before .before .before .before .before .before .before .before .before .before .if1 .left) (c .before .before .before .before .before .before .before .before .before .if2 .taken)) (stored-on (c .before .before .before .before .before .before .before .write-short2 .ensures) (rw (toZ-ofZ {w = w32} (record { sfits = c .before .before .before .write-value-arg2 .given })) at (c .before .before .write-value .ensures)))
 
 write-operand-write-expr-requires : (t : ℕ) → write-operand-lts.Need-write-expr-requires (write-operand-claims t) (write-operand-at t) write-operand.Post
-write-operand-write-expr-requires t c κs = let s = c .before .before .before .before .before in let m : 2 * (s .args .b) ≡ t = s .pre .0 in (omega (arith, c .before .before .before .if1 .left), (omega (arith, c .before .before .before .if1 .left, s .pre .1 .0), room-as (node-whole (nodesIn (s .args .ws .now) (s .args .val .now) 0) (s .args .b) (s .args .i) (c .before .before .before .if1 .left)) (s .pre .1 .1)))
+write-operand-write-expr-requires t c κs =
+    let s = c .before .before .before .before .before in
+    let m : 2 * (s .args .b) ≡ t = s .pre .0 in
+    (omega (arith, c .before .before .before .if1 .left), (omega (arith, c .before .before .before .if1 .left, s .pre .1 .0), room-as (node-whole (nodesIn (s .args .ws .now) (s .args .val .now) 0) (s .args .b) (s .args .i) (c .before .before .before .if1 .left)) (s .pre .1 .1)))
 
 write-operand-same-length-3 : (t : ℕ) → write-operand-lts.Need-same-length-3 (write-operand-claims t) (write-operand-at t) write-operand.Post
 write-operand-same-length-3 t c = search needs
 
 write-operand-returns-3 : (t : ℕ) → write-operand-lts.Need-returns-3 (write-operand-claims t) (write-operand-at t) write-operand.Post
-write-operand-returns-3 t c = let s = c .before .before .before .before .before .before .before .before in stored-as (node-whole (nodesIn (s .args .ws .now) (s .args .val .now) 0) (s .args .b) (s .args .i) (c .before .before .before .before .before .before .if1 .left)) (c .before .before .write-expr .ensures)
+write-operand-returns-3 t c =
+    let s = c .before .before .before .before .before .before .before .before in
+    stored-as (node-whole (nodesIn (s .args .ws .now) (s .args .val .now) 0) (s .args .b) (s .args .i) (c .before .before .before .before .before .before .if1 .left)) (c .before .before .write-expr .ensures)
 
 pub +write-expr+write-operand-spec : {M : Type 1} → statement M
 +write-expr+write-operand-spec = close μ-write-expr μ-write-operand (λ t. write-expr-lts.spec (write-expr-claims t)
