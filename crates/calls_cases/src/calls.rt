@@ -490,11 +490,15 @@ pub fn written(
 ) {
     let mut out: [u8; 65600] = [7; 65600];
     let w = write_by(a[1], ws, val, cw, bw, kept, &mut out);
+    tell_written(w, image, len, &out, t);
+}
+
+fn tell_written(w: Written, image: &[u8; 65600], len: usize, out: &[u8; 65600], t: &mut [u32; 16]) {
     let n = w.len;
     t[0] = w.refusal as u32;
     t[1] = short(n);
-    t[2] = bit(n == len && same(image, &out, n));
-    t[3] = bit(sevens(&out, n));
+    t[2] = bit(n == len && same(image, out, n));
+    t[3] = bit(sevens(out, n));
 }
 
 fn write_by(

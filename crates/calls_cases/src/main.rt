@@ -32,15 +32,27 @@ fn main() {
     let mut val: [i32; 32768] = [0; 32768];
     let mut cw: [u16; 65536] = [0; 65536];
     let mut bw: [u16; 20480] = [0; 20480];
-    let n = io::read_full(libc::STDIN_FILENO, &mut input);
-    cases(
-        &input[..n],
+    start(
+        &mut input,
         &mut image,
         &mut ws,
         &mut val,
         &mut cw,
         &mut bw,
     );
+}
+
+// Large arrays are not read where they are made: the proof would go through their elements.
+fn start(
+    input: &mut [u8],
+    image: &mut [u8; 65600],
+    ws: &mut [u16; 98304],
+    val: &mut [i32; 32768],
+    cw: &mut [u16; 65536],
+    bw: &mut [u16; 20480],
+) {
+    let n = io::read_full(libc::STDIN_FILENO, input);
+    cases(&input[..n], image, ws, val, cw, bw);
 }
 
 // ---- lines
@@ -105,15 +117,29 @@ fn case(
 ) -> Held {
     let mut a: [u32; 224] = [0; 224];
     let mut t: [u32; 16] = [0; 16];
-    let colon = numbers(line, &mut a);
+    done(line, &mut a, &mut t, image, ws, val, cw, bw, h)
+}
+
+fn done(
+    line: &[u8],
+    a: &mut [u32; 224],
+    t: &mut [u32; 16],
+    image: &mut [u8; 65600],
+    ws: &mut [u16; 98304],
+    val: &mut [i32; 32768],
+    cw: &mut [u16; 65536],
+    bw: &mut [u16; 20480],
+    h: Held,
+) -> Held {
+    let colon = numbers(line, a);
     if line.len() <= colon {
         return h;
     }
     let op = line[0];
-    let len = bytes(op, &a, image, h.image);
+    let len = bytes(op, a, image, h.image);
     let counts = h.counts;
-    let k = step(op, &mut a, image, len, ws, val, cw, bw, counts, &mut t);
-    told(&line[colon + 1..], &a, &t, h, k, len)
+    let k = step(op, a, image, len, ws, val, cw, bw, counts, t);
+    told(&line[colon + 1..], a, t, h, k, len)
 }
 
 // A line that says no answer is no case.
