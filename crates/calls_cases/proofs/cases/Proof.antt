@@ -6,13 +6,13 @@ use Rattle.calls_cases.proofs.cases.Statement.{statement}
 use Rattle.calls_cases.proofs.cases.Tie as tie
 
 abbrev Inv-loop : tie.InvT-loop
-Inv-loop text ws₀ val₀ cw₀ bw₀ k₀ at₀ ws val cw bw k at = Unit {0}
+Inv-loop text image₀ ws₀ val₀ cw₀ bw₀ h₀ at₀ image ws val cw bw h at = Unit {0}
 
 abbrev μ-loop : tie.MeasureT-loop
-μ-loop text ws₀ val₀ cw₀ bw₀ k₀ at₀ ws val cw bw k at = length text - at
+μ-loop text image₀ ws₀ val₀ cw₀ bw₀ h₀ at₀ image ws val cw bw h at = length text - at
 
-counts-requires : tie.Need-counts-requires Inv-loop μ-loop
-counts-requires c κs = search needs
+nothing-requires : tie.Need-nothing-requires Inv-loop μ-loop
+nothing-requires c κs = search needs
 
 loop-holds : tie.Need-loop-holds Inv-loop μ-loop
 loop-holds c = search needs
@@ -44,6 +44,9 @@ loop-less c = search needs
 loop-again : tie.Need-loop-again Inv-loop μ-loop
 loop-again c = search needs
 
+total-requires : tie.Need-total-requires Inv-loop μ-loop
+total-requires c κs = search needs
+
 returns-3 : tie.Need-returns-3 Inv-loop μ-loop
 returns-3 c = search needs
 
@@ -53,7 +56,7 @@ cases-spec =
     (tie.spec
     Inv-loop
     μ-loop
-    counts-requires
+    nothing-requires
     loop-holds
     line-end-requires
     returns
@@ -64,4 +67,5 @@ cases-spec =
     add-at
     loop-less
     loop-again
+    total-requires
     returns-3)

@@ -1,8 +1,8 @@
--- `calls_cases::lines::empties` meets its contract: the invariant keeps i within the slots. Assumes nothing.
+-- `calls_cases::calls::empties` meets its contract: the invariant keeps i within the slots. Assumes nothing.
 use Prim.Native.Nat.{_-_, _≤_}
 use borrow.Author.Needs.{needs}
-use Rattle.calls_cases.proofs.lines.empties.Statement.{statement}
-use Rattle.calls_cases.proofs.lines.empties.Tie as tie
+use Rattle.calls_cases.proofs.calls.empties.Statement.{statement}
+use Rattle.calls_cases.proofs.calls.empties.Tie as tie
 
 abbrev Inv-loop : tie.InvT-loop
 Inv-loop shop n₀ i₀ n i = i ≤ 20

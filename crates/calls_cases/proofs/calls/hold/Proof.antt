@@ -1,8 +1,8 @@
--- `calls_cases::lines::hold` meets its contract: the invariant keeps i within the twenty. Assumes nothing.
+-- `calls_cases::calls::hold` meets its contract: the invariant keeps i within the twenty. Assumes nothing.
 use Prim.Native.Nat.{_-_, _≤_}
 use borrow.Author.Needs.{needs}
-use Rattle.calls_cases.proofs.lines.hold.Statement.{statement}
-use Rattle.calls_cases.proofs.lines.hold.Tie as tie
+use Rattle.calls_cases.proofs.calls.hold.Statement.{statement}
+use Rattle.calls_cases.proofs.calls.hold.Tie as tie
 
 abbrev Inv-loop : tie.InvT-loop
 Inv-loop vars first xs i₀ i = i ≤ 20

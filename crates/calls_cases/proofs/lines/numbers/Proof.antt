@@ -1,9 +1,9 @@
--- `calls_cases::numbers` meets its contract: the measure is what is left of the line. Assumes nothing.
+-- `calls_cases::lines::numbers` ends: the measure is what is left of the line. Assumes nothing.
 use lib.ListN.{length}
 use Prim.Native.Nat.{_-_}
 use borrow.Author.Needs.{needs}
-use Rattle.calls_cases.proofs.numbers.Statement.{statement}
-use Rattle.calls_cases.proofs.numbers.Tie as tie
+use Rattle.calls_cases.proofs.lines.numbers.Statement.{statement}
+use Rattle.calls_cases.proofs.lines.numbers.Tie as tie
 
 abbrev Inv-loop : tie.InvT-loop
 Inv-loop line a₀ n₀ i₀ a n i = Unit {0}
@@ -22,6 +22,9 @@ returns c = search needs
 
 shared-slice-read-digit : tie.Need-shared-slice-read-digit Inv-loop μ-loop
 shared-slice-read-digit c = search needs
+
+shared-slice-read-digit-2 : tie.Need-shared-slice-read-digit-2 Inv-loop μ-loop
+shared-slice-read-digit-2 c = search needs
 
 digit-requires : tie.Need-digit-requires Inv-loop μ-loop
 digit-requires c κs = search needs
@@ -48,6 +51,7 @@ numbers-spec =
     shared-slice-read-if1
     returns
     shared-slice-read-digit
+    shared-slice-read-digit-2
     digit-requires
     add-i
     loop-less

@@ -1,9 +1,9 @@
--- `calls_cases::lines::sum_words` meets its contract: the invariant keeps i within the slice. Assumes nothing.
+-- `calls_cases::calls::sum_words` meets its contract: the invariant keeps i within the slice. Assumes nothing.
 use lib.ListN.{length}
 use Prim.Native.Nat.{_-_, _≤_}
 use borrow.Author.Needs.{needs}
-use Rattle.calls_cases.proofs.lines.sum_words.Statement.{statement}
-use Rattle.calls_cases.proofs.lines.sum_words.Tie as tie
+use Rattle.calls_cases.proofs.calls.sum_words.Statement.{statement}
+use Rattle.calls_cases.proofs.calls.sum_words.Tie as tie
 
 abbrev Inv-loop : tie.InvT-loop
 Inv-loop s from h₀ i₀ h i = i ≤ length s

@@ -1,0 +1,545 @@
+// Each call with the numbers of a line, and what it answered as numbers: compile, parse, run beside preview, judge, and an image read or written.
+use crate::changes::low8;
+use compile::Compiled;
+use compile::compile;
+use image_read::Image;
+use image_read::read_script;
+use image_write::Written;
+use image_write::write_script;
+use judge::Judged;
+use judge::judge_record;
+use memory::Counts;
+use model::BlockNo;
+use model::ItemId;
+use parse::ParsedShop;
+use parse::parse;
+use preview::Previewed;
+use preview::preview;
+use runner::Ran;
+use runner::run;
+use shop::Sheet;
+use shop::Shop;
+use shop::Slot;
+use shop::SlotItem;
+use shop::empty_shop;
+use shop::with_slot;
+
+// ---- numbers
+
+fn low16(x: u32) -> u16 {
+    (x % 65536) as u16
+}
+
+fn signed16(x: u32) -> i16 {
+    ints::from_bits16(low16(x))
+}
+
+fn wide(x: u16) -> u32 {
+    x as u32
+}
+
+pub fn bit(b: bool) -> u32 {
+    if b { 1 } else { 0 }
+}
+
+// ---- counts
+
+pub fn counts(blocks: u32, commands: u32, nodes: u32) -> Counts {
+    Counts {
+        nodes: low16(nodes),
+        commands: low16(commands),
+        blocks: low16(blocks),
+    }
+}
+
+fn tell_counts(t: &mut [u32; 16], refusal: u8, k: Counts) {
+    t[0] = refusal as u32;
+    t[1] = k.blocks as u32;
+    t[2] = k.commands as u32;
+    t[3] = k.nodes as u32;
+}
+
+// ---- sheet and shop
+
+// Sixteen items: 0, 1 and 2 are the timers, 3 has atc 0, 7 is plain. Timer10 can be another one.
+fn sheet_with(timer10: u16) -> Sheet {
+    Sheet {
+        atcs: 1,
+        timer5: ItemId(0),
+        timer10: ItemId(timer10),
+        timer15: ItemId(2),
+    }
+}
+
+fn attached() -> [u8; 16] {
+    let mut out: [u8; 16] = [0; 16];
+    out[3] = 1;
+    out
+}
+
+// One slot: item, limit, how many entries, and the first two of them.
+fn shop_of(a: &[u32; 224]) -> Shop {
+    let codes = entries(a);
+    let slot = Slot {
+        item: item_of(low16(a[1])),
+        limit: signed16(a[2]),
+        requirements: codes,
+        len: low8(a[3]),
+    };
+    with_slot(empty_shop(), 0, slot)
+}
+
+fn entries(a: &[u32; 224]) -> [u64; 32] {
+    let mut codes: [u64; 32] = [0; 32];
+    codes[0] = code(a[4], a[5]);
+    codes[1] = code(a[6], a[7]);
+    codes
+}
+
+// Item 999 stands for none.
+fn item_of(x: u16) -> SlotItem {
+    if x == 999 {
+        return SlotItem::Nothing;
+    }
+    SlotItem::Of(ItemId(x))
+}
+
+// A requirement's code: its kind times 2^32, plus 2^31, plus its number.
+fn code(kind: u32, number: u32) -> u64 {
+    (kind % 6) as u64 * 4294967296 + 2147483648 + (number % 65536) as u64
+}
+
+// ---- compile
+
+// Whether the script is as it was is told by a sum over all of it.
+pub fn compiled(
+    a: &[u32; 224],
+    ws: &mut [u16; 98304],
+    val: &mut [i32; 32768],
+    cw: &mut [u16; 65536],
+    bw: &mut [u16; 20480],
+    kept: Counts,
+    t: &mut [u32; 16],
+) -> Counts {
+    let before = sum(ws, val, cw, bw, kept);
+    let c = compile_by(a, ws, val, cw, bw, kept);
+    let k = c.counts;
+    let after = sum(ws, val, cw, bw, k);
+    tell_counts(t, c.refusal, k);
+    t[4] = root_of(bw, low16(a[8]));
+    t[5] = bit(before == after);
+    k
+}
+
+fn compile_by(
+    a: &[u32; 224],
+    ws: &mut [u16; 98304],
+    val: &mut [i32; 32768],
+    cw: &mut [u16; 65536],
+    bw: &mut [u16; 20480],
+    kept: Counts,
+) -> Compiled {
+    let atcs = attached();
+    let sheet = sheet_with(low16(a[9]));
+    let at = BlockNo(a[8]);
+    compile(&atcs, sheet, ws, val, cw, bw, kept, at, shop_of(a))
+}
+
+// The block that a setup block has as next; 0 where it has none.
+fn root_of(bw: &[u16; 20480], at: u16) -> u32 {
+    if at < 4096 {
+        let i = at as usize;
+        return block_of(bw[5 * i + 3]);
+    }
+    0
+}
+
+fn block_of(link: u16) -> u32 {
+    if link == 0 {
+        return 0;
+    }
+    (link - 1) as u32
+}
+
+// ---- a sum over the whole script, with the place of each word
+
+fn sum(
+    ws: &[u16; 98304],
+    val: &[i32; 32768],
+    cw: &[u16; 65536],
+    bw: &[u16; 20480],
+    k: Counts,
+) -> u64 {
+    let a = mixed(
+        mixed(mixed(0, k.nodes as u32), k.commands as u32),
+        k.blocks as u32,
+    );
+    sum_words(bw, sum_words(cw, sum_numbers(val, sum_words(ws, a))))
+}
+
+fn sum_words(s: &[u16], from: u64) -> u64 {
+    let mut h = from;
+    let mut i: usize = 0;
+    while i < s.len() {
+        h = mixed(h, wide(s[i]));
+        i += 1;
+    }
+    h
+}
+
+fn sum_numbers(s: &[i32], from: u64) -> u64 {
+    let mut h = from;
+    let mut i: usize = 0;
+    while i < s.len() {
+        h = mixed(h, ints::to_bits(s[i]));
+        i += 1;
+    }
+    h
+}
+
+fn mixed(h: u64, x: u32) -> u64 {
+    h % 4294967296 * 31 + x as u64
+}
+
+// ---- parse
+
+pub fn parsed(
+    a: &[u32; 224],
+    ws: &[u16; 98304],
+    val: &[i32; 32768],
+    cw: &[u16; 65536],
+    bw: &[u16; 20480],
+    kept: Counts,
+    t: &mut [u32; 16],
+) {
+    let atcs = attached();
+    let at = BlockNo(a[1]);
+    let p = parse(&atcs, sheet_with(1), ws, val, cw, bw, kept, at);
+    tell_parsed(p, t);
+}
+
+// How many slots are empty, and slot 0.
+fn tell_parsed(p: ParsedShop, t: &mut [u32; 16]) {
+    let shop = p.shop;
+    t[0] = p.refusal as u32;
+    t[1] = empties(shop);
+    tell_slot(shop.slots[0], t);
+}
+
+// Item, limit, how many requirements, and kind and number of the first five.
+fn tell_slot(slot: Slot, t: &mut [u32; 16]) {
+    let item = slot.item;
+    let codes = slot.requirements;
+    let limit = slot.limit;
+    t[2] = item_number(item);
+    t[3] = ints::to_bits(ints::widen16(limit));
+    t[4] = slot.len as u32;
+    requirements(codes, slot.len as usize, t);
+}
+
+fn item_number(item: SlotItem) -> u32 {
+    match item {
+        SlotItem::Nothing => 999,
+        SlotItem::Of(w) => w.0 as u32,
+    }
+}
+
+fn requirements(codes: [u64; 32], n: usize, t: &mut [u32; 16]) {
+    let mut i: usize = 0;
+    while i < n {
+        if 5 <= i {
+            return;
+        }
+        t[5 + 2 * i] = kind_in(codes[i]);
+        t[6 + 2 * i] = number_in(codes[i]);
+        i += 1;
+    }
+}
+
+fn kind_in(code: u64) -> u32 {
+    (code / 4294967296 % 8) as u32
+}
+
+// The number of a requirement is kept with 2^31 added.
+fn number_in(code: u64) -> u32 {
+    ((code % 4294967296 + 2147483648) % 4294967296) as u32
+}
+
+fn empties(shop: Shop) -> u32 {
+    let mut n: u32 = 0;
+    let mut i: usize = 0;
+    while i < 20 {
+        n = one_more(n, shop.slots[i]);
+        i += 1;
+    }
+    n
+}
+
+// One more where the slot is empty.
+fn one_more(n: u32, slot: Slot) -> u32 {
+    if slot.len != 0 || slot.limit != 0 {
+        return n;
+    }
+    if 20 <= n {
+        return n;
+    }
+    let item = slot.item;
+    match item {
+        SlotItem::Nothing => n + 1,
+        SlotItem::Of(_) => n,
+    }
+}
+
+// ---- run and preview
+
+// The save has so many of item 7 and of Timer10 and a flag set; 2048 is none. So many of its sixteen counts are lent. Every variable is 9 before.
+pub fn ran(
+    a: &[u32; 224],
+    ws: &[u16; 98304],
+    val: &[i32; 32768],
+    cw: &[u16; 65536],
+    bw: &[u16; 20480],
+    kept: Counts,
+    t: &mut [u32; 16],
+) {
+    let mut items: [i16; 16] = [0; 16];
+    items[7] = signed16(a[9]);
+    items[1] = signed16(a[10]);
+    let mut flags: [u8; 2048] = [0; 2048];
+    set_flag(&mut flags, a[11]);
+    meet(a, ws, val, cw, bw, kept, &items, low8(a[13]), &flags, t);
+}
+
+fn set_flag(flags: &mut [u8; 2048], flag: u32) {
+    let i = flag as usize;
+    if i < 2048 {
+        flags[i] = 1;
+    }
+}
+
+fn meet(
+    a: &[u32; 224],
+    ws: &[u16; 98304],
+    val: &[i32; 32768],
+    cw: &[u16; 65536],
+    bw: &[u16; 20480],
+    kept: Counts,
+    items: &[i16],
+    count: u8,
+    flags: &[u8; 2048],
+    t: &mut [u32; 16],
+) {
+    let n = count as usize;
+    if items.len() < n {
+        return;
+    }
+    let mut vars: [i32; 1024] = [9; 1024];
+    let p = preview_by(shop_of(a), &items[0..n], flags, &vars);
+    let r = run_by(a, ws, val, cw, bw, kept, &items[0..n], flags, &mut vars);
+    tell_ran(r, &vars, p, t);
+}
+
+fn preview_by(shop: Shop, items: &[i16], flags: &[u8; 2048], vars: &[i32; 1024]) -> Previewed {
+    let entries = attached();
+    let atcs: [u8; 1] = [0; 1];
+    let times: [i16; 8] = [0; 8];
+    preview(
+        &entries,
+        sheet_with(1),
+        shop,
+        items,
+        &atcs,
+        flags,
+        &times,
+        vars,
+    )
+}
+
+fn run_by(
+    a: &[u32; 224],
+    ws: &[u16; 98304],
+    val: &[i32; 32768],
+    cw: &[u16; 65536],
+    bw: &[u16; 20480],
+    kept: Counts,
+    items: &[i16],
+    flags: &[u8; 2048],
+    vars: &mut [i32; 1024],
+) -> Ran {
+    let entries = attached();
+    let atcs: [u8; 1] = [0; 1];
+    let times: [i16; 8] = [0; 8];
+    run(
+        &entries,
+        sheet_with(1),
+        ws,
+        val,
+        cw,
+        bw,
+        kept,
+        BlockNo(a[8]),
+        items,
+        &atcs,
+        flags,
+        &times,
+        vars,
+        a[12],
+    )
+}
+
+// Blocks entered, the pair of slot 0, variable 5, and what the preview says.
+fn tell_ran(r: Ran, vars: &[i32; 1024], p: Previewed, t: &mut [u32; 16]) {
+    t[0] = r.refusal as u32;
+    t[1] = r.entered;
+    t[2] = ints::to_bits(vars[600]);
+    t[3] = ints::to_bits(vars[620]);
+    t[4] = ints::to_bits(vars[5]);
+    t[5] = p.refusal as u32;
+    t[6] = bit(agrees(vars, p));
+}
+
+// All pairs and variable 0.
+fn agrees(vars: &[i32; 1024], p: Previewed) -> bool {
+    if p.refusal != 0 {
+        return false;
+    }
+    if vars[0] != p.temp {
+        return false;
+    }
+    let items = p.items;
+    let counts = p.counts;
+    hold(vars, 600, &items) && hold(vars, 620, &counts)
+}
+
+// Whether the twenty variables from first on are xs.
+fn hold(vars: &[i32; 1024], first: usize, xs: &[i32; 20]) -> bool {
+    if 1000 < first {
+        return false;
+    }
+    let mut i: usize = 0;
+    while i < 20 {
+        if vars[first + i] != xs[i] {
+            return false;
+        }
+        i += 1;
+    }
+    true
+}
+
+// ---- the record and its image
+
+pub fn judged(
+    ws: &[u16; 98304],
+    val: &[i32; 32768],
+    cw: &[u16; 65536],
+    bw: &[u16; 20480],
+    kept: Counts,
+    t: &mut [u32; 16],
+) {
+    let r = judge_record(ws, val, cw, bw, kept);
+    match r {
+        Judged::Fine(len) => t[1] = short(len),
+        Judged::No(e) => t[0] = e as u32,
+    }
+}
+
+fn short(x: usize) -> u32 {
+    (x % 4294967296) as u32
+}
+
+// The script of the image; one of no blocks where it is refused.
+pub fn read(
+    image: &[u8],
+    len: usize,
+    ws: &mut [u16; 98304],
+    val: &mut [i32; 32768],
+    cw: &mut [u16; 65536],
+    bw: &mut [u16; 20480],
+    t: &mut [u32; 16],
+) -> Counts {
+    if image.len() < len {
+        return counts(0, 0, 0);
+    }
+    tell_read(read_script(&image[0..len], 0, ws, val, cw, bw), t)
+}
+
+fn tell_read(r: Image, t: &mut [u32; 16]) -> Counts {
+    match r {
+        Image::Read(k) => {
+            tell_counts(t, 0, k);
+            k
+        }
+        Image::No(e) => {
+            t[0] = e as u32;
+            counts(0, 0, 0)
+        }
+    }
+}
+
+// Into so many of bytes that are all 7: the length, whether they are then the image last given, and whether all others still are 7.
+pub fn written(
+    a: &[u32; 224],
+    image: &[u8; 65600],
+    len: usize,
+    ws: &[u16; 98304],
+    val: &[i32; 32768],
+    cw: &[u16; 65536],
+    bw: &[u16; 20480],
+    kept: Counts,
+    t: &mut [u32; 16],
+) {
+    let mut out: [u8; 65600] = [7; 65600];
+    let w = write_by(a[1], ws, val, cw, bw, kept, &mut out);
+    tell_written(w, image, len, &out, t);
+}
+
+fn tell_written(w: Written, image: &[u8; 65600], len: usize, out: &[u8; 65600], t: &mut [u32; 16]) {
+    let n = w.len;
+    t[0] = w.refusal as u32;
+    t[1] = short(n);
+    t[2] = bit(n == len && same(image, out, n));
+    t[3] = bit(sevens(out, n));
+}
+
+fn write_by(
+    most: u32,
+    ws: &[u16; 98304],
+    val: &[i32; 32768],
+    cw: &[u16; 65536],
+    bw: &[u16; 20480],
+    kept: Counts,
+    out: &mut [u8],
+) -> Written {
+    let room = most as usize;
+    if out.len() < room {
+        return write_script(ws, val, cw, bw, kept, out);
+    }
+    write_script(ws, val, cw, bw, kept, &mut out[0..room])
+}
+
+// Whether the first n bytes are the same.
+fn same(a: &[u8; 65600], b: &[u8; 65600], n: usize) -> bool {
+    let mut i: usize = 0;
+    while i < n {
+        if 65600 <= i {
+            return false;
+        }
+        if a[i] != b[i] {
+            return false;
+        }
+        i += 1;
+    }
+    true
+}
+
+// Whether each byte from n on is 7.
+fn sevens(a: &[u8; 65600], n: usize) -> bool {
+    let mut i = n;
+    while i < 65600 {
+        if a[i] != 7 {
+            return false;
+        }
+        i += 1;
+    }
+    true
+}

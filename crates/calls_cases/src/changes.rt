@@ -1,0 +1,106 @@
+// What a line writes by itself: words of the script's arrays, and bytes of the image.
+
+// A node, a command, a block: the first, how many, the words of one, and what each word is more in each further one. A value: of which node, and its bits.
+pub fn change(
+    op: u8,
+    a: &mut [u32; 224],
+    ws: &mut [u16; 98304],
+    val: &mut [i32; 32768],
+    cw: &mut [u16; 65536],
+    bw: &mut [u16; 20480],
+) {
+    match op {
+        b'n' => rows(ws, a[1] % 65536 * 3, 3, a),
+        b'c' => rows(cw, a[1] % 65536 * 4, 4, a),
+        b'b' => rows(bw, a[1] % 65536 * 5, 5, a),
+        _ => set_value(val, a[1], a[2]),
+    }
+}
+
+fn set_value(val: &mut [i32; 32768], node: u32, bits: u32) {
+    let i = node as usize;
+    if i < 32768 {
+        val[i] = ints::from_bits(bits);
+    }
+}
+
+fn rows(words: &mut [u16], from: u32, size: u32, a: &mut [u32; 224]) {
+    let mut at = from;
+    let mut left = a[2];
+    while left > 0 {
+        row(words, at, size, a);
+        at = std::num::wrapping_add_u32(at, size);
+        left -= 1;
+    }
+}
+
+fn row(words: &mut [u16], at: u32, size: u32, a: &mut [u32; 224]) {
+    let mut i: u32 = 0;
+    while i < size {
+        word(words, at, size, a, i);
+        i += 1;
+    }
+}
+
+// Word i of a row, which is then what it is in the next.
+fn word(words: &mut [u16], at: u32, size: u32, a: &mut [u32; 224], i: u32) {
+    if 20 < i {
+        return;
+    }
+    if 20 < size {
+        return;
+    }
+    let j = 3 + i as usize;
+    set_word(words, at as usize + i as usize, a[j]);
+    a[j] = std::num::wrapping_add_u32(a[j], a[j + size as usize]);
+}
+
+fn set_word(words: &mut [u16], i: usize, x: u32) {
+    if i < words.len() {
+        words[i] = (x % 65536) as u16;
+    }
+}
+
+// B and I: from where on, how often, the bytes. Answers the length of the image.
+pub fn bytes(op: u8, a: &[u32; 224], image: &mut [u8; 65600], len: usize) -> usize {
+    match op {
+        b'B' | b'I' => repeated(a, image),
+        _ => len,
+    }
+}
+
+fn repeated(a: &[u32; 224], image: &mut [u8; 65600]) -> usize {
+    let mut at = size(a[1]);
+    let mut left = a[2];
+    while left > 0 {
+        at = once(a, image, at);
+        left -= 1;
+    }
+    at
+}
+
+fn size(x: u32) -> usize {
+    x as usize
+}
+
+fn once(a: &[u32; 224], image: &mut [u8; 65600], from: usize) -> usize {
+    let last = size(a[0]);
+    let mut at = from;
+    let mut i: usize = 3;
+    while i <= last {
+        if 200 <= i {
+            return at;
+        }
+        if 65600 <= at {
+            return at;
+        }
+        image[at] = low8(a[i]);
+        at += 1;
+        i += 1;
+    }
+    at
+}
+
+pub fn low8(x: u32) -> u8 {
+    (x % 256) as u8
+}
