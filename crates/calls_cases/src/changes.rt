@@ -9,29 +9,34 @@ pub fn change(
     cw: &mut [u16; 65536],
     bw: &mut [u16; 20480],
 ) {
-    match op {
-        b'n' => rows(ws, a[1] % 65536 * 3, 3, a),
-        b'c' => rows(cw, a[1] % 65536 * 4, 4, a),
-        b'b' => rows(bw, a[1] % 65536 * 5, 5, a),
-        _ => set_value(val, a[1], a[2]),
-    }
+    rows(op == b'n', ws, a[1] % 65536 * 3, 3, a);
+    rows(op == b'c', cw, a[1] % 65536 * 4, 4, a);
+    rows(op == b'b', bw, a[1] % 65536 * 5, 5, a);
+    set_value(op == b'v', val, a[1], a[2]);
 }
 
-fn set_value(val: &mut [i32; 32768], node: u32, bits: u32) {
+fn set_value(here: bool, val: &mut [i32; 32768], node: u32, bits: u32) {
     let i = node as usize;
-    if i < 32768 {
+    if here && i < 32768 {
         val[i] = ints::from_bits(bits);
     }
 }
 
-fn rows(words: &mut [u16], from: u32, size: u32, a: &mut [u32; 224]) {
+fn rows(here: bool, words: &mut [u16], from: u32, size: u32, a: &mut [u32; 224]) {
     let mut at = from;
-    let mut left = a[2];
+    let mut left = if_here(here, a[2]);
     while left > 0 {
         row(words, at, size, a);
         at = std::num::wrapping_add_u32(at, size);
         left -= 1;
     }
+}
+
+fn if_here(here: bool, x: u32) -> u32 {
+    if here {
+        return x;
+    }
+    0
 }
 
 fn row(words: &mut [u16], at: u32, size: u32, a: &mut [u32; 224]) {

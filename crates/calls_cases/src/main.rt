@@ -3,7 +3,9 @@ mod calls;
 mod changes;
 mod lines;
 
+use calls::bit;
 use calls::compiled;
+use calls::counts;
 use calls::judged;
 use calls::parsed;
 use calls::ran;
@@ -11,11 +13,11 @@ use calls::read;
 use calls::written;
 use changes::bytes;
 use changes::change;
-use memory::Counts;
 use lines::as_said;
 use lines::numbers;
 use lines::put;
 use lines::tell;
+use memory::Counts;
 
 // What goes from a line to the next: the counts of the script, the length of the image, how many cases there were, and how many answered as said.
 struct Held {
@@ -32,14 +34,7 @@ fn main() {
     let mut val: [i32; 32768] = [0; 32768];
     let mut cw: [u16; 65536] = [0; 65536];
     let mut bw: [u16; 20480] = [0; 20480];
-    start(
-        &mut input,
-        &mut image,
-        &mut ws,
-        &mut val,
-        &mut cw,
-        &mut bw,
-    );
+    start(&mut input, &mut image, &mut ws, &mut val, &mut cw, &mut bw);
 }
 
 // Large arrays are not read where they are made: the proof would go through their elements.
@@ -137,8 +132,8 @@ fn done(
     }
     let op = line[0];
     let len = bytes(op, a, image, h.image);
-    let counts = h.counts;
-    let k = step(op, a, image, len, ws, val, cw, bw, counts, t);
+    let before = h.counts;
+    let k = step(op, a, image, len, ws, val, cw, bw, before, t);
     told(&line[colon + 1..], a, t, h, k, len)
 }
 
@@ -158,7 +153,7 @@ fn told(name: &[u8], a: &[u32; 224], t: &[u32; 16], h: Held, k: Counts, len: usi
         counts: k,
         image: len,
         cases: std::num::wrapping_add_u32(h.cases, 1),
-        good: std::num::wrapping_add_u32(h.good, calls::bit(good)),
+        good: std::num::wrapping_add_u32(h.good, bit(good)),
     }
 }
 
@@ -171,7 +166,7 @@ fn total(h: Held) {
 
 // ---- the calls
 
-// Those that change the script or its counts.
+// Compile and read return at once: where ways meet, each array that one of them changes costs a proof.
 fn step(
     op: u8,
     a: &mut [u32; 224],
@@ -184,16 +179,22 @@ fn step(
     k: Counts,
     t: &mut [u32; 16],
 ) -> Counts {
-    match op {
-        b'C' => compiled(a, ws, val, cw, bw, k, t),
-        b'I' => read(image, len, ws, val, cw, bw, t),
-        b'K' => calls::counts(a[1], a[2], a[3]),
-        b'n' | b'c' | b'b' | b'v' => {
-            change(op, a, ws, val, cw, bw);
-            k
-        }
-        _ => shown(op, a, image, len, ws, val, cw, bw, k, t),
+    if op == b'C' {
+        return compiled(a, ws, val, cw, bw, k, t);
     }
+    if op == b'I' {
+        return read(image, len, ws, val, cw, bw, t);
+    }
+    change(op, a, ws, val, cw, bw);
+    shown(op, a, image, len, ws, val, cw, bw, k, t);
+    kept(op, a, k)
+}
+
+fn kept(op: u8, a: &[u32; 224], k: Counts) -> Counts {
+    if op == b'K' {
+        return counts(a[1], a[2], a[3]);
+    }
+    k
 }
 
 // Those that only read the script.
@@ -208,7 +209,7 @@ fn shown(
     bw: &[u16; 20480],
     k: Counts,
     t: &mut [u32; 16],
-) -> Counts {
+) {
     match op {
         b'P' => parsed(a, ws, val, cw, bw, k, t),
         b'R' => ran(a, ws, val, cw, bw, k, t),
@@ -216,5 +217,4 @@ fn shown(
         b'W' => written(a, image, len, ws, val, cw, bw, k, t),
         _ => (),
     }
-    k
 }

@@ -6,13 +6,16 @@ use Rattle.calls_cases.proofs.changes.rows.Statement.{statement}
 use Rattle.calls_cases.proofs.changes.rows.Tie as tie
 
 abbrev Inv-loop : tie.InvT-loop
-Inv-loop words₀ from size a₀ at₀ left₀ words a at left = length words ≡ length words₀
+Inv-loop here words₀ from size a₀ at₀ left₀ words a at left = length words ≡ length words₀
 
 abbrev μ-loop : tie.MeasureT-loop
-μ-loop words₀ from size a₀ at₀ left₀ words a at left = left
+μ-loop here words₀ from size a₀ at₀ left₀ words a at left = left
 
-element-copy-out-left : tie.Need-element-copy-out-left Inv-loop μ-loop
-element-copy-out-left c = search needs
+element-copy-out-if-here : tie.Need-element-copy-out-if-here Inv-loop μ-loop
+element-copy-out-if-here c = search needs
+
+if-here-requires : tie.Need-if-here-requires Inv-loop μ-loop
+if-here-requires c κs = search needs
 
 loop-holds : tie.Need-loop-holds Inv-loop μ-loop
 loop-holds c = search needs
@@ -44,7 +47,8 @@ rows-spec =
     (tie.spec
     Inv-loop
     μ-loop
-    element-copy-out-left
+    element-copy-out-if-here
+    if-here-requires
     loop-holds
     row-requires
     wrapping-add-u32-requires
