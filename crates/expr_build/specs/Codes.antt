@@ -17,9 +17,9 @@ use Rattle.model.specs.declared.Op2.the-variants.{Equal, NotEqual}
 use Rattle.model.specs.declared.Op1.the-variants.{Not, Flag, Item, Atc}
 use Rattle.model.specs.Requirement.{Requirement, haveItem, missingItem, haveAtc, missingAtc, haveFlag, missingFlag}
 use Rattle.model.specs.Compile.{test, itemTest, atcTest, flagTest}
-use Rattle.shop.specs.Shapes.{unshift, idOf, ofKind, requirementOf}
+use Rattle.shop_codes.specs.Codes.{unshift, idOf, ofKind, requirementOf, subject}
 use Rattle.expr_negate.specs.Turns.{Turns, flips, gains, compared, turns-size}
-use Rattle.expr_build.specs.Tests.{withZero, subject, missingKind}
+use Rattle.expr_build.specs.Tests.{withZero, missingKind}
 use Rattle.expr_build.specs.Laws.{size-imm}
 
 pub unshift-low : (m : ℕ) → m < 2147483648 → unshift m ≡ negsuc (2147483647 - m)

@@ -11,7 +11,7 @@ use Rattle.model.specs.declared.Op2.the-variants.{Equal, NotEqual, BitAnd, BitO
 use Rattle.model.specs.declared.Op1.the-variants.{Item, Time}
 use Rattle.model.specs.Requirement.{Requirement, haveItem, missingItem, haveAtc, missingAtc, haveFlag, missingFlag}
 use Rattle.model.specs.Compile.{test, joinTests}
-use Rattle.shop.specs.Shapes.{requirementOf}
+use Rattle.shop_codes.specs.Codes.{requirementOf}
 use Rattle.expr_build.specs.declared.Acquired.{Acquired}
 
 -- o[z] compared with 0

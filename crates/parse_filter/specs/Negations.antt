@@ -12,9 +12,10 @@ use Rattle.model.specs.Requirement.{Requirement, haveItem, missingItem, haveAtc
 use Rattle.model.specs.Laws.Checks.{and-right}
 use Rattle.model.specs.Laws.Sets.{same-refl, Sorted, insert-sorted, sorted-sorted, member-insert, member-keep, ext}
 use Rattle.model.specs.Laws.Runs.{sameReq-true}
-use Rattle.shop.specs.Shapes.{codeOf, requirementOf}
+use Rattle.shop_codes.specs.Codes.{codeOf, requirementOf, Narrow, AllNarrow}
 use Rattle.shop.specs.Sets.{sortedCodes}
-use Rattle.shop.specs.Codes.{Narrow, AllNarrow, sorted-code, code-narrow}
+use Rattle.shop_codes.specs.Laws.{code-narrow}
+use Rattle.shop.specs.Codes.{sorted-code}
 use Rattle.expr.specs.Requirement.{negate-twice}
 use Rattle.parse_keys.specs.Entries.{isHave, turned, entryCode, entryReq, Valid, Keys}
 use Rattle.parse_keys.specs.Turns.{by-parity, req-even, req-odd, turn-req, turn-valid}

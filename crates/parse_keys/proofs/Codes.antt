@@ -22,14 +22,13 @@ use Rattle.model.specs.declared.Op2.{Op2}
 use Rattle.model.specs.declared.Op2.the-variants.{Equal, NotEqual, Less, LessEqual, Greater, GreaterEqual, Add, Subtract, BitAnd, BitOr}
 use Rattle.model.specs.declared.Op1.{Op1}
 use Rattle.model.specs.declared.Op1.the-variants.{Not, Flag, Variable, Item, Atc, Time}
-use Rattle.shop.specs.Shapes.{shift, codeOf}
-use Rattle.shop.specs.Codes.{Narrow, code-stands}
+use Rattle.shop_codes.specs.Codes.{shift, codeOf, Narrow, InRange, half}
+use Rattle.shop_codes.specs.Laws.{code-stands, shift-most}
 use Rattle.expr.specs.Tree.{treeBelow, below-out, below-two, below-one, below-imm16, below-imm32, below-other}
 use Rattle.expr.specs.Requirement.{Has}
-use Rattle.parse_keys.specs.Entries.{InRange, isHave, Subject}
+use Rattle.parse_keys.specs.Entries.{isHave, Subject}
 use Rattle.parse_keys.specs.Turns.{signs-meet}
-use Rattle.parse_keys.specs.Small.{shift-most}
-use Rattle.parse_keys.specs.Reads.{Numbered, half, idCode, flagCode, signOf, zeroSign, bitOf, signedCode, Codes, Coded, ReadCode, Reading}
+use Rattle.parse_keys.specs.Reads.{Numbered, idCode, flagCode, signOf, zeroSign, bitOf, signedCode, Codes, Coded, ReadCode, Reading}
 use Rattle.parse_keys.specs.Tables.{OfNode}
 use Rattle.parse_keys.specs.declared.Known.{Known}
 

@@ -14,9 +14,8 @@ use Rattle.model.specs.Parse.{value}
 use Rattle.model.specs.declared.Kind.{Kind}
 use Rattle.model.specs.declared.Kind.the-variants.{Two, One, Imm16, Imm32, Other}
 use Rattle.expr.specs.Tree.{treeBelow, below-in, below-out, tree-node}
-use Rattle.shop.specs.Shapes.{shift}
-use Rattle.parse_keys.specs.Entries.{InRange}
-use Rattle.parse_keys.specs.Reads.{Numbered, half}
+use Rattle.shop_codes.specs.Codes.{shift, InRange, half}
+use Rattle.parse_keys.specs.Reads.{Numbered}
 
 pub shift-low : (x : ℤ) (b : ℕ) → SFits w32 x → b ≡ ofZ w32 x → b < half → (b + half ≡ shift x) × InRange x
 shift-low (pos n) b f e h = (ap (λ k. k + half) e, f .sfits)

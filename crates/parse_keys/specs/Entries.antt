@@ -11,7 +11,7 @@ use lib.Signed.{mag}
 use Rattle.model.specs.Limits.{wide}
 use Rattle.model.specs.Requirement.{Requirement, haveItem, missingItem, haveAtc, missingAtc, haveFlag, missingFlag}
 use Rattle.model.specs.Parse.{signed}
-use Rattle.shop.specs.Shapes.{codeOf, requirementOf}
+use Rattle.shop_codes.specs.Codes.{codeOf, requirementOf}
 
 -- keys count from 1; entry 2 * i is key i with Have, entry 2 * i + 1 with Missing
 abbrev pub odd : ℕ → Bool

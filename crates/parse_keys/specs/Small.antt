@@ -6,9 +6,9 @@ use lib.ListN.{getD}
 use lib.IntN.{ℤ, pos, negsuc}
 use Rattle.model.specs.Limits.{wide}
 use Rattle.model.specs.Requirement.{Requirement, haveItem, missingItem, haveAtc, missingAtc, haveFlag, missingFlag, kind, number}
-use Rattle.shop.specs.Shapes.{shift, codeOf, requirementOf}
-use Rattle.shop.specs.Codes.{Narrow, code-narrow}
-use Rattle.parse_keys.specs.Entries.{InRange, Keys}
+use Rattle.shop_codes.specs.Codes.{shift, codeOf, requirementOf, Narrow, InRange}
+use Rattle.shop_codes.specs.Laws.{code-narrow}
+use Rattle.parse_keys.specs.Entries.{Keys}
 
 kind-most : (r : Requirement) → kind r ≤ 5
 kind-most (haveItem i) = omega arith

@@ -13,8 +13,9 @@ use Rattle.model.specs.Save.{Save, natAt}
 use Rattle.model.specs.Sheet.{all}
 use Rattle.model.specs.Requirement.{Requirement, haveItem, missingItem, haveAtc, missingAtc, haveFlag, missingFlag}
 use Rattle.model.specs.Meaning.{held, holds, allHold}
-use Rattle.shop.specs.Shapes.{unshift, idOf, ofKind, requirementOf, entries}
-use Rattle.preview.specs.Tests.{isMissing, isThere}
+use Rattle.shop_codes.specs.Codes.{unshift, idOf, ofKind, requirementOf, isMissing}
+use Rattle.shop.specs.Shapes.{entries}
+use Rattle.preview.specs.Tests.{isThere}
 
 -- ---- whether it has to be missing
 

@@ -13,7 +13,7 @@ use mir.Val.{SFits, ofZ}
 use Rattle.model.specs.Limits.{mostItems}
 use Rattle.model.specs.Signed.{eqZ}
 use Rattle.model.specs.Save.{natAt}
-use Rattle.shop.specs.Shapes.{idOf}
+use Rattle.shop_codes.specs.Codes.{idOf}
 use Rattle.preview.specs.Tests.{placeOf}
 
 -- a number of 16 bits is the natural number k where its bits are

@@ -14,7 +14,8 @@ use Rattle.model.specs.Limits.{entryLimit, slotCount, wide}
 use Rattle.model.specs.Requirement.{Requirement, number}
 use Rattle.model.specs.Printer.{digitsTo, decimal, signedDecimal, letter, requirementsText, itemText, slotLine, slotLines, refusedText}
 use Rattle.model.specs.Shop
-use Rattle.shop.specs.Shapes.{unshift, ofKind, requirementOf, entries, itemOf, slotOf, slotsOf}
+use Rattle.shop_codes.specs.Codes.{unshift, ofKind, requirementOf}
+use Rattle.shop.specs.Shapes.{entries, itemOf, slotOf, slotsOf}
 use Rattle.shop.specs.Slots.{entries-take, entries-length}
 use Rattle.shop.specs.declared.Slot.{Slot}
 use Rattle.model.specs.declared.ItemId.{ItemId}

@@ -13,7 +13,7 @@ use lib.ListN.{length-append}
 use Rattle.model.specs.Limits.{mostItems}
 use Rattle.model.specs.Requirement.{number}
 use Rattle.model.specs.Printer.{digitsTo, decimal, signedDecimal}
-use Rattle.shop.specs.Shapes.{unshift, idOf, ofKind}
+use Rattle.shop_codes.specs.Codes.{unshift, idOf, ofKind}
 use Rattle.image_write.specs.Stored.{Stored, stored-none, stored-on, stored-as}
 use Rattle.text.specs.Written.{textLimit, Space, space-as}
 

@@ -6,7 +6,7 @@ use lib.IntN.{pos}
 use lib.ListN.{getD}
 use Rattle.model.specs.Limits.{wide}
 use Rattle.model.specs.Signed.{isZero}
-use Rattle.shop.specs.Shapes.{unshift}
+use Rattle.shop_codes.specs.Codes.{unshift}
 use Rattle.checks.specs.Calls.{saveOf}
 use Rattle.preview.proofs.Places.{id-place, bit-place}
 use Rattle.preview.proofs.Codes.{item-there, atc-there, flag-there, none-there}
