@@ -18,25 +18,6 @@ use Rattle.expr_build.specs.declared.Acquired.{Acquired}
 abbrev pub withZero : Op2 → Op1 → ℤ → Expr
 withZero b o z = two b (one o (imm z)) (imm16 (pos 0))
 
--- a requirement as if it were to be had
-abbrev pub subject : Requirement → Requirement
-subject (haveItem i) = haveItem i
-subject (missingItem i) = haveItem i
-subject (haveAtc a) = haveAtc a
-subject (missingAtc a) = haveAtc a
-subject (haveFlag f) = haveFlag f
-subject (missingFlag f) = haveFlag f
-
--- MissingItem, MissingAtc, MissingFlag
-abbrev pub missingKind : ℕ → Bool
-missingKind zero = false
-missingKind (suc zero) = true
-missingKind (suc (suc zero)) = false
-missingKind (suc (suc (suc zero))) = true
-missingKind (suc (suc (suc (suc zero)))) = false
-missingKind (suc (suc (suc (suc (suc zero))))) = true
-missingKind (suc (suc (suc (suc (suc (suc k)))))) = false
-
 abbrev pub codesRest : List ℕ → ℕ → List Requirement
 codesRest cs n = map requirementOf (take (n - 1) (drop 1 cs))
 

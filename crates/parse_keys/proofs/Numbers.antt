@@ -1,11 +1,8 @@
 -- Numbers of nodes, moved up by 2 ^ 31. Assumes nothing.
-use mathlib.Core.Path.{_≡_, refl, sym, ap, _∙_}
+use mathlib.Core.Path.{_≡_, refl, sym, _∙_}
 use mathlib.Core.Option.{Option, none, some}
-use Prim.Native.Nat.{ℕ, _+_, _-_, _<_, _≤_}
-use native.Mathlib.Omega.{arith}
-use lib.IntN.{ℤ, pos, negsuc}
-use mir.Syntax.{w32}
-use mir.Val.{SFits, ofZ}
+use Prim.Native.Nat.{ℕ, _<_, _≤_}
+use lib.IntN.{ℤ}
 use Rattle.model.specs.Limits.{wide}
 use Rattle.model.specs.Expr.{Expr}
 use Rattle.model.specs.Image.{kindOf}
@@ -14,16 +11,7 @@ use Rattle.model.specs.Parse.{value}
 use Rattle.model.specs.declared.Kind.{Kind}
 use Rattle.model.specs.declared.Kind.the-variants.{Two, One, Imm16, Imm32, Other}
 use Rattle.expr.specs.Tree.{treeBelow, below-in, below-out, tree-node}
-use Rattle.shop_codes.specs.Codes.{shift, InRange, half}
 use Rattle.parse_keys.specs.Reads.{Numbered}
-
-pub shift-low : (x : ℤ) (b : ℕ) → SFits w32 x → b ≡ ofZ w32 x → b < half → (b + half ≡ shift x) × InRange x
-shift-low (pos n) b f e h = (ap (λ k. k + half) e, f .sfits)
-shift-low (negsuc n) b f e h = let g : n < half = f .sfits in absurd (omega arith)
-
-pub shift-high : (x : ℤ) (b : ℕ) → SFits w32 x → b ≡ ofZ w32 x → half ≤ b → (b - half ≡ shift x) × InRange x
-shift-high (pos n) b f e h = let g : n < half = f .sfits in absurd (omega arith)
-shift-high (negsuc n) b f e h = let g : n < half = f .sfits in (omega arith, g)
 
 abbrev numberOf : Kind → ℤ → Option ℤ
 numberOf (Two o) z = none

@@ -139,7 +139,7 @@ module _ (s : Shop) (size : length (s .slots) ≡ slotCount) where
 -- ---- where each text begins
 
 module _ {xs : List ℕ} {at : ℕ} where
-  pub requirement-start : (c : ℕ) → Part xs at (requirementText (requirementOf c)) (32 ∷ letter (ofKind (c / wide) (unshift (c % wide))) ∷ signedDecimal (number (ofKind (c / wide) (unshift (c % wide))))) xs at
+  pub requirement-start : (c : ℕ) → Part xs at (requirementText (requirementOf c)) (32 ∷ letter (ofKind (c / wide) (unshift (c % wide))) ∷ signedDecimal (number (requirementOf c))) xs at
   unfolding requirementOf
   requirement-start c = part-start
 
