@@ -17,9 +17,11 @@ use Rattle.shop.specs.declared.Sheet.{Sheet}
 use Rattle.shop.specs.declared.Slot.{Slot}
 use Rattle.shop.specs.declared.Reqs.{Reqs}
 use Rattle.shop.specs.declared.Timer as Kinds
-use Rattle.shop.specs.Shapes.{sheetOf, atcAt, timerIs, codeOf, requirementOf, entries, slotOf}
+use Rattle.shop_codes.specs.Codes.{codeOf, requirementOf}
+use Rattle.shop.specs.Shapes.{sheetOf, atcAt, timerIs, rateWord, entries, slotOf}
 use Rattle.shop.specs.Sets.{held, reqsOf, sortedReqs, sortedCodes, Exact}
-use Rattle.shop.specs.Codes.{sorted-narrow, codes-narrow, sorted-code, codes-stand}
+use Rattle.shop_codes.specs.Laws.{codes-narrow, codes-stand}
+use Rattle.shop.specs.Codes.{sorted-narrow, sorted-code}
 use Rattle.shop.specs.SetLaws.{held-set, sorted-few}
 use Rattle.shop.specs.Slots.{atc-for, entries-length}
 use Rattle.expr_build.specs.declared.Acquired.{Acquired}
@@ -30,7 +32,7 @@ use Rattle.model.specs.declared.ItemId.{ItemId}
 use Rattle.shop.specs.declared.SlotItem.the-variants.{Nothing, Of}
 use Rattle.model.specs.Compile.{slotBlocks, hideBlock}
 use Rattle.compiler.specs.declared.ItemContext.{ItemContext}
-use Rattle.compiler.specs.Parts.{rateWord, isFive, filledOf, Stands, Listed, Fitting}
+use Rattle.compiler.specs.Parts.{isFive, filledOf, Stands, Listed, Fitting}
 use Rattle.compiler.specs.Same.{filled-same}
 
 -- the item's atc plus 1, or 0; the item; the rate

@@ -14,7 +14,7 @@ use Rattle.model.specs.Requirement.{Requirement}
 use Rattle.model.specs.Sheet as Model
 use Rattle.model.specs.Shop.{Timer, plain, five, ten, fifteen, timerOf, limitOf}
 use Rattle.model.specs.Compile.{acquiredExpr, itemExpr, hideBlock, ifBlock, tempVar, resetBlock, remainingBlock}
-use Rattle.shop.specs.Shapes.{requirementOf}
+use Rattle.shop_codes.specs.Codes.{requirementOf}
 use Rattle.expr_build.specs.Tests.{acquiredOf, missingAnd, bothMissing, joinCodes}
 use Rattle.emit.specs.Values.{slotBlock}
 use Rattle.compiler.specs.declared.ItemContext.{ItemContext}
@@ -82,13 +82,6 @@ pub record Fitting (x : ItemContext) : Type 0 where
   pub index : x .index < slotCount
   pub few : x .len ≤ entryLimit
   pub rate : x .acquired .rate < 32768
-
--- a rate, 0 where there is none
-abbrev pub rateWord : Timer → ℕ
-rateWord plain = 0
-rateWord five = 200
-rateWord ten = 100
-rateWord fifteen = 67
 
 abbrev pub isFive : Timer → Bool
 isFive plain = false

@@ -16,7 +16,7 @@ use Rattle.model.specs.Requirement.{Requirement}
 use Rattle.model.specs.Sheet as Model
 use Rattle.model.specs.Shop.{Timer, plain, five, ten, fifteen, timerOf, limitOf}
 use Rattle.model.specs.Compile.{itemTest, test, joinTests, acquiredExpr, noTimerExpr, hideBlock, enableBlocks, uniqueBlocks, limitBlocks, filledBlocks}
-use Rattle.shop.specs.Shapes.{requirementOf}
+use Rattle.shop_codes.specs.Codes.{requirementOf}
 use Rattle.expr_build.specs.Tests.{codesRest, joinCodes, acquiredOf, missingAnd, bothMissing}
 use Rattle.expr_build.specs.AcquiredLaws.{missing-none, missing-some}
 use Rattle.compiler.specs.declared.ItemContext.{ItemContext}

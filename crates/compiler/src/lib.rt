@@ -7,7 +7,7 @@ ghost use Rattle.model.specs.Compile.{hideBlock, tempVar, slotBlocks, slotsBloc
 ghost use Rattle.memory.specs.Sound.{Room};
 ghost use Rattle.emit.specs.Put.{PutBlocks, memoryOf};
 ghost use Rattle.model.specs.Expr.{imm};
-ghost use Rattle.compiler.specs.Parts.{itemBlock, enableOf, beforeBy, onceOf, uniqueOf, limitIn, soldOf, filledOf, Fitting, rateWord, isFive};
+ghost use Rattle.compiler.specs.Parts.{itemBlock, enableOf, beforeBy, onceOf, uniqueOf, limitIn, soldOf, filledOf, Fitting, isFive};
 ghost use Rattle.compiler.specs.Context.{acquiredBy, Context};
 ghost use Rattle.shop.specs.Shapes.{atcAt, timerIs, sheetOf, slotOf, slotsOf};
 ghost use Rattle.shop.specs.Sets.{Exact, AllExact};
@@ -32,15 +32,10 @@ use shop::SlotItem;
 use shop::Timer;
 use shop::atc_for;
 use shop::limit_of;
+use shop::rate_of;
 use shop::timer_of;
 use shop_arrays::item_at;
 use shop_arrays::sort_row;
-
-const TIMER_5_RATE: u16 = 200;
-
-const TIMER_10_RATE: u16 = 100;
-
-const TIMER_15_RATE: u16 = 67;
 
 // What a slot with an item is compiled from: its number, the item, the coerced limit, the block to go to after the slot,
 // how the item counts as acquired, the other timers, the number of sorted requirements. Their codes stand beside it in an array.
@@ -278,18 +273,6 @@ fn compile_slot_filled(
     compile_slot_item(ws, val, cw, bw, k1, x, codes)
 }
 
-// The rate of a timer that counts as having it; 0 for any other item.
-fn rate_of(timer: Timer) -> u16
-    ensures { λ r. ⌜ r ≡ rateWord (timerIs timer) ⌝ }
-{
-    match timer {
-        Timer::Plain => 0,
-        Timer::Five => TIMER_5_RATE,
-        Timer::Ten => TIMER_10_RATE,
-        Timer::Fifteen => TIMER_15_RATE,
-    }
-}
-
 fn is_five(timer: Timer) -> bool
     ensures { λ r. ⌜ r ≡ isFive (timerIs timer) ⌝ }
 {
@@ -333,7 +316,7 @@ fn item_context(
     ensures { λ r. ⌜ Context r (sheetOf (now (attached .entry)) sheet) limit index end item len ⌝ }
 {
     let timer = timer_of(sheet, item);
-    let a = acquired_of(attached, item, rate_of(timer));
+    let a = acquired_of(attached, item, rate_of(timer) as u16);
     let most = limit_of(attached, sheet, item, limit);
     let ten = sheet.timer10;
     let fifteen = sheet.timer15;

@@ -10,7 +10,7 @@ use Rattle.model.specs.Expr.{Expr, two, size}
 use Rattle.model.specs.declared.Op2.the-variants.{BitAnd}
 use Rattle.model.specs.Requirement.{Requirement}
 use Rattle.model.specs.Compile.{test, joinTests}
-use Rattle.shop.specs.Shapes.{requirementOf}
+use Rattle.shop_codes.specs.Codes.{requirementOf}
 use Rattle.expr_build.specs.Tests.{codesRest}
 
 pub joined-append : (e : Expr) (xs ys : List Requirement) → joinTests e (xs ++ ys) ≡ joinTests (joinTests e xs) ys

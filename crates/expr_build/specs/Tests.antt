@@ -11,31 +11,12 @@ use Rattle.model.specs.declared.Op2.the-variants.{Equal, NotEqual, BitAnd, BitO
 use Rattle.model.specs.declared.Op1.the-variants.{Item, Time}
 use Rattle.model.specs.Requirement.{Requirement, haveItem, missingItem, haveAtc, missingAtc, haveFlag, missingFlag}
 use Rattle.model.specs.Compile.{test, joinTests}
-use Rattle.shop.specs.Shapes.{requirementOf}
+use Rattle.shop_codes.specs.Codes.{requirementOf}
 use Rattle.expr_build.specs.declared.Acquired.{Acquired}
 
 -- o[z] compared with 0
 abbrev pub withZero : Op2 → Op1 → ℤ → Expr
 withZero b o z = two b (one o (imm z)) (imm16 (pos 0))
-
--- a requirement as if it were to be had
-abbrev pub subject : Requirement → Requirement
-subject (haveItem i) = haveItem i
-subject (missingItem i) = haveItem i
-subject (haveAtc a) = haveAtc a
-subject (missingAtc a) = haveAtc a
-subject (haveFlag f) = haveFlag f
-subject (missingFlag f) = haveFlag f
-
--- MissingItem, MissingAtc, MissingFlag
-abbrev pub missingKind : ℕ → Bool
-missingKind zero = false
-missingKind (suc zero) = true
-missingKind (suc (suc zero)) = false
-missingKind (suc (suc (suc zero))) = true
-missingKind (suc (suc (suc (suc zero)))) = false
-missingKind (suc (suc (suc (suc (suc zero))))) = true
-missingKind (suc (suc (suc (suc (suc (suc k)))))) = false
 
 abbrev pub codesRest : List ℕ → ℕ → List Requirement
 codesRest cs n = map requirementOf (take (n - 1) (drop 1 cs))

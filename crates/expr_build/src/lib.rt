@@ -1,17 +1,17 @@
 // Expressions appended to the nodes of a script in lent arrays: Expr::imm, tests of requirements and their joins, acquired, and what the compiler counts with.
 ghost use mathlib.Core.Path.{_≡_};
-ghost use Prim.Native.Nat.{_+_, _≤_, _<_, _%_, _/_};
+ghost use Prim.Native.Nat.{_+_, _≤_, _<_};
 ghost use lib.IntN.{pos};
 ghost use Rattle.model.specs.Image.{code2, code1};
 ghost use Rattle.model.specs.Expr.{imm, imm16, one, two, size, negate};
 ghost use Rattle.model.specs.Compile.{test, tempVar, remainingExpr};
-ghost use Rattle.shop.specs.Shapes.{unshift, idOf, requirementOf};
+ghost use Rattle.shop_codes.specs.Codes.{requirementOf, subject};
 ghost use Rattle.model.specs.declared.Op1.the-variants.{Flag, Item};
 ghost use Rattle.model.specs.declared.Op2.the-variants.{NotEqual, Less};
 ghost use Rattle.model.specs.Memory.{nodesIn};
 ghost use Rattle.memory.specs.Pushed.{PushedNode, PutExpr};
 ghost use Rattle.expr_build.specs.Put.{PutImm};
-ghost use Rattle.expr_build.specs.Tests.{withZero, subject, missingKind, joinCodes, rateTest, acquiredOf, missingAnd, bothMissing};
+ghost use Rattle.expr_build.specs.Tests.{withZero, joinCodes, rateTest, acquiredOf, missingAnd, bothMissing};
 use expr_negate::negate;
 use memory::code_one;
 use memory::code_two;
@@ -20,6 +20,9 @@ use model::ItemId;
 use model::Op1;
 use model::Op2;
 use shop::capacity;
+use shop_codes::Subject;
+use shop_codes::is_missing;
+use shop_codes::subject_of;
 
 // How an item counts as acquired: of is Item or Atc, id is its id there, rate that of a timer or 0.
 pub struct Acquired {
@@ -86,57 +89,17 @@ fn push_flag(ws: &mut [u16; 98304], val: &mut [i32; 32768], n: u16, z: i32) -> u
     push_one(ws, val, n1, Op1::Flag, n1 - 1)
 }
 
-// The number of a requirement's code.
-fn number_of(code: u64) -> i32
-    ensures { λ r. ⌜ r ≡ unshift (code % 4294967296) ⌝ }
-{
-    let m = code % 4294967296;
-    if m < 2147483648 {
-        let below = 2147483647 - m;
-        return -1 - (below as i32);
-    }
-    (m - 2147483648) as i32
-}
-
-// The same as an id: one below 0 is on no sheet, nor is 512.
-fn id_of(code: u64) -> i32
-    ensures { λ r. ⌜ r ≡ pos (idOf (unshift (code % 4294967296))) ⌝ }
-{
-    let m = code % 4294967296;
-    if m < 2147483648 {
-        return 512;
-    }
-    (m - 2147483648) as i32
-}
-
-// Whether a kind is MissingItem, MissingAtc or MissingFlag.
-fn is_missing(kind: u64) -> bool
-    ensures { λ r. ⌜ r ≡ missingKind kind ⌝ }
-{
-    match kind {
-        1 => true,
-        3 => true,
-        5 => true,
-        _ => false,
-    }
-}
-
 // The test of what a requirement is about, had or missing.
 fn push_subject(ws: &mut [u16; 98304], val: &mut [i32; 32768], n: u16, code: u64) -> u16
     requires { ⌜ n + size (test (subject (requirementOf code))) ≤ 32768 ⌝ }
     ensures { λ m. ⌜ PutExpr (nodesIn (now (ws .entry)) (now (val .entry)) n) (test (subject (requirementOf code))) (nodesIn (now (ws .exit)) (now (val .exit)) m) ⌝ }
 {
-    let kind = code / 4294967296;
-    if kind < 2 {
-        return push_compare(ws, val, n, Op1::Item, id_of(code));
+    let about = subject_of(code);
+    match about {
+        Subject::Item(i) => push_compare(ws, val, n, Op1::Item, i as i32),
+        Subject::Atc(a) => push_compare(ws, val, n, Op1::Atc, a as i32),
+        Subject::Flag(f) => push_flag(ws, val, n, f),
     }
-    if kind < 4 {
-        return push_compare(ws, val, n, Op1::Atc, id_of(code));
-    }
-    if kind < 6 {
-        return push_flag(ws, val, n, number_of(code));
-    }
-    push_compare(ws, val, n, Op1::Item, 512)
 }
 
 // compile_requirement: the test of one requirement; Missing is the negation.
@@ -145,7 +108,7 @@ fn push_test(ws: &mut [u16; 98304], val: &mut [i32; 32768], n: u16, code: u64) -
     ensures { λ m. ⌜ PutExpr (nodesIn (now (ws .entry)) (now (val .entry)) n) (test (requirementOf code)) (nodesIn (now (ws .exit)) (now (val .exit)) m) ⌝ }
 {
     let m = push_subject(ws, val, n, code);
-    if is_missing(code / 4294967296) {
+    if is_missing(code) {
         return negate(ws, val, m);
     }
     m

@@ -11,7 +11,8 @@ use Rattle.shop.specs.declared.SlotItem.the-variants.{Nothing, Of}
 use Rattle.shop.specs.declared.Slot.{Slot}
 use Rattle.shop.specs.declared.Shop.{Shop}
 use Rattle.shop.specs.declared.Reqs.{Reqs}
-use Rattle.shop.specs.Shapes.{codeOf, slotsOf}
+use Rattle.shop_codes.specs.Codes.{codeOf}
+use Rattle.shop.specs.Shapes.{slotsOf}
 use Rattle.shop.specs.Sets.{reqsOf}
 use Rattle.shop_arrays.specs.Arrays.{Arrays, shopFrom, arraysOf}
 use Rattle.shop.specs.Good.{GoodShop}

@@ -12,11 +12,13 @@ use Rattle.model.specs.Requirement.{Requirement, haveItem, missingItem, haveAtc
 use Rattle.model.specs.Laws.Checks.{and-right}
 use Rattle.model.specs.Laws.Sets.{same-refl, Sorted, insert-sorted, sorted-sorted, member-insert, member-keep, ext}
 use Rattle.model.specs.Laws.Runs.{sameReq-true}
-use Rattle.shop.specs.Shapes.{codeOf, requirementOf}
+use Rattle.shop_codes.specs.Codes.{codeOf, requirementOf, Narrow, AllNarrow, isMissing}
 use Rattle.shop.specs.Sets.{sortedCodes}
-use Rattle.shop.specs.Codes.{Narrow, AllNarrow, sorted-code, code-narrow}
+use Rattle.shop_codes.specs.Laws.{code-narrow}
+use Rattle.shop_codes.specs.Subjects.{missing-code, negate-narrow}
+use Rattle.shop.specs.Codes.{sorted-code}
 use Rattle.expr.specs.Requirement.{negate-twice}
-use Rattle.parse_keys.specs.Entries.{isHave, turned, entryCode, entryReq, Valid, Keys}
+use Rattle.parse_keys.specs.Entries.{turned, entryCode, entryReq, Valid, Keys}
 use Rattle.parse_keys.specs.Turns.{by-parity, req-even, req-odd, turn-req, turn-valid}
 use Rattle.parse_keys.specs.Tables.{Companions}
 use Rattle.parse_filter.specs.Chains.{companionOf, has}
@@ -33,37 +35,21 @@ same-move a b = both-ways (sameReq a (negateReq b)) (sameReq (negateReq a) b)
     (λ e. let p : a ≡ negateReq b = sameReq-true a (negateReq b) e in rw (p, negate-twice b) (same-refl b))
     (λ e. let p : a ≡ negateReq b = neg-eq a b (sameReq-true (negateReq a) b e) in rw p (same-refl (negateReq b)))
 
-neg-code : (r : Requirement) → isHave r ≡ true → codeOf (negateReq r) ≡ codeOf r + wide
-neg-code (haveItem i) e = omega arith
-neg-code (missingItem i) e = absurd (true≢false (sym e))
-neg-code (haveAtc a) e = omega arith
-neg-code (missingAtc a) e = absurd (true≢false (sym e))
-neg-code (haveFlag f) e = omega arith
-neg-code (missingFlag f) e = absurd (true≢false (sym e))
-
-neg-narrow : (r : Requirement) → Narrow r → Narrow (negateReq r)
-neg-narrow (haveItem i) n = record { fits = n .fits }
-neg-narrow (missingItem i) n = record { fits = n .fits }
-neg-narrow (haveAtc a) n = record { fits = n .fits }
-neg-narrow (missingAtc a) n = record { fits = n .fits }
-neg-narrow (haveFlag f) n = record { fits = n .fits }
-neg-narrow (missingFlag f) n = record { fits = n .fits }
-
 entry-narrow : (ks : List ℕ) (k : ℕ) → Narrow (entryReq ks k)
 entry-narrow ks k = by-parity k
     (λ e. rw (req-even ks k e) (code-narrow (getD ks (k / 2) 0)))
-    (λ e. rw (req-odd ks k e) (neg-narrow (requirementOf (getD ks (k / 2) 0)) (code-narrow (getD ks (k / 2) 0))))
+    (λ e. rw (req-odd ks k e) (negate-narrow (requirementOf (getD ks (k / 2) 0)) (code-narrow (getD ks (k / 2) 0))))
 
-negated-have : (r q : Requirement) → isHave r ≡ true → isHave q ≡ true → r ≡ negateReq q → ⊥
+negated-have : (r q : Requirement) → isMissing r ≡ false → isMissing q ≡ false → r ≡ negateReq q → ⊥
 negated-have r q e f g = absurd (by q f (rw g at e))
   where
-    by : (q : Requirement) → isHave q ≡ true → isHave (negateReq q) ≡ true → ⊥
-    by (haveItem n) x y = true≢false (sym y)
-    by (missingItem n) x y = true≢false (sym x)
-    by (haveAtc n) x y = true≢false (sym y)
-    by (missingAtc n) x y = true≢false (sym x)
-    by (haveFlag n) x y = true≢false (sym y)
-    by (missingFlag n) x y = true≢false (sym x)
+    by : (q : Requirement) → isMissing q ≡ false → isMissing (negateReq q) ≡ false → ⊥
+    by (haveItem n) x y = true≢false y
+    by (missingItem n) x y = true≢false x
+    by (haveAtc n) x y = true≢false y
+    by (missingAtc n) x y = true≢false x
+    by (haveFlag n) x y = true≢false y
+    by (missingFlag n) x y = true≢false x
 
 -- ---- entries stand for requirements, each for its own
 
@@ -79,7 +65,7 @@ module _ (ks : List ℕ) (m : ℕ) (keys : Keys ks m) where
       let s = keys .subject (k / 2) (half-low k v) (half-high k v) in
       by-parity k
       (λ e. rw (req-even ks k e, s .code) (omega arith))
-      (λ e. rw (req-odd ks k e, neg-code (requirementOf (getD ks (k / 2) 0)) (s .have), s .code) (omega arith))
+      (λ e. rw (req-odd ks k e, missing-code (requirementOf (getD ks (k / 2) 0)) (s .have), s .code) (omega arith))
 
   same-key : (j k : ℕ) → Valid m j → Valid m k → requirementOf (getD ks (j / 2) 0) ≡ requirementOf (getD ks (k / 2) 0) → j / 2 ≡ k / 2
   same-key j k v w e =
@@ -226,7 +212,7 @@ module _ (ks cs : List ℕ) (m : ℕ) (keys : Keys ks m) (companions : Companion
     negated-codes =
         let rs : List Requirement = map (λ e. negateReq (entryReq ks e)) kept in
         ap sortedCodes (codes-read kept kept-valid)
-        ∙ sym (sorted-code rs (map-narrow (λ e. negateReq (entryReq ks e)) kept (λ e. neg-narrow (entryReq ks e) (entry-narrow ks e))))
+        ∙ sym (sorted-code rs (map-narrow (λ e. negateReq (entryReq ks e)) kept (λ e. negate-narrow (entryReq ks e) (entry-narrow ks e))))
         ∙ ap (map codeOf)
         (ext (sorted rs) (extend [] (settled gs)) (sorted-sorted rs) (extend-sorted (settled gs) [] tt)
         (λ q. member-sorted q rs ∙ negated-member (entryReq ks) q kept ∙ kept-member (negateReq q) ∙ sym (extended q)))

@@ -11,6 +11,7 @@ ghost use Rattle.parse_filter.specs.Filter.{Met, Sifted, companionCodes,
 ghost use Rattle.parse_filter.specs.Marks.{MarkedAs, Part, Marks, Onward, Unmarks, Served, Parsed};
 use memory::index_of;
 use shop::insert_in;
+use shop_codes::missing_of;
 
 // The condition whose entries are marked, and how many of them are still looked at.
 pub struct Marked {
@@ -207,7 +208,7 @@ fn entry_code(keys: &[u64], k: u16) -> u64
     if k % 2 == 0 {
         return key;
     }
-    key + 4294967296
+    missing_of(key)
 }
 
 // The codes of the companions of n entries, as a set: how many they are, 33 where there are more than 32.

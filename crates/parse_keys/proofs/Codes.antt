@@ -22,29 +22,28 @@ use Rattle.model.specs.declared.Op2.{Op2}
 use Rattle.model.specs.declared.Op2.the-variants.{Equal, NotEqual, Less, LessEqual, Greater, GreaterEqual, Add, Subtract, BitAnd, BitOr}
 use Rattle.model.specs.declared.Op1.{Op1}
 use Rattle.model.specs.declared.Op1.the-variants.{Not, Flag, Variable, Item, Atc, Time}
-use Rattle.shop.specs.Shapes.{shift, codeOf}
-use Rattle.shop.specs.Codes.{Narrow, code-stands}
+use Rattle.shop_codes.specs.Codes.{half, InRange, shift, codeOf, Narrow, isMissing}
+use Rattle.shop_codes.specs.Laws.{code-stands, shift-most}
 use Rattle.expr.specs.Tree.{treeBelow, below-out, below-two, below-one, below-imm16, below-imm32, below-other}
 use Rattle.expr.specs.Requirement.{Has}
-use Rattle.parse_keys.specs.Entries.{InRange, isHave, Subject}
+use Rattle.parse_keys.specs.Entries.{Subject}
 use Rattle.parse_keys.specs.Turns.{signs-meet}
-use Rattle.parse_keys.specs.Small.{shift-most}
-use Rattle.parse_keys.specs.Reads.{Numbered, half, idCode, flagCode, signOf, zeroSign, bitOf, signedCode, Codes, Coded, ReadCode, Reading}
+use Rattle.parse_keys.specs.Reads.{Numbered, idCode, flagCode, signOf, zeroSign, bitOf, signedCode, Codes, Coded, ReadCode, Reading}
 use Rattle.parse_keys.specs.Tables.{OfNode}
 use Rattle.parse_keys.specs.declared.Known.{Known}
 
 -- ---- subjects
 
-subject-of : (r : Requirement) → isHave r ≡ true → Narrow r → Subject (codeOf r)
+subject-of : (r : Requirement) → isMissing r ≡ false → Narrow r → Subject (codeOf r)
 subject-of r e n = let b = code-stands r n in record { have = rw b e; code = ap codeOf b }
 
-codes-of : (c : ℕ) (r : Requirement) → c ≡ codeOf r → 0 < c → isHave r ≡ true → InRange (number r) → Codes c r
+codes-of : (c : ℕ) (r : Requirement) → c ≡ codeOf r → 0 < c → isMissing r ≡ false → InRange (number r) → Codes c r
 codes-of c r e p h f = let n : Narrow r = record { fits = f } in record { some = p; subject = rw e (subject-of r h n); is = rw e (code-stands r n) }
 
-module _ (base n : ℕ) (f : ℕ → Requirement) (small : n < 65536) (code : (k : ℕ) → base + (k + half) ≡ codeOf (f k)) (have : (k : ℕ) → isHave (f k) ≡ true)
+module _ (base n : ℕ) (f : ℕ → Requirement) (small : n < 65536) (code : (k : ℕ) → base + (k + half) ≡ codeOf (f k)) (have : (k : ℕ) → isMissing (f k) ≡ false)
     (fits : (k : ℕ) → k < half → InRange (number (f k))) where
   id-is : (s : ℕ) (z : Option ℤ) → Numbered s z → Coded (idCode base n s) (idBelow n f z)
-  id-is s none e = rw (e, le-ltb 2147483648 n (omega arith)) refl
+  id-is s none e = rw (e, le-ltb half n (omega arith)) refl
   id-is s (some (negsuc k)) e = rw (lt-ltb s half (omega (arith, e .0))) refl
   id-is s (some (pos k)) e = rw (le-ltb s half (omega (arith, e .0)), d) (by (ltb k n) refl)
     where

@@ -12,7 +12,7 @@ use lib.Seq.{getD-set-same, getD-set-other}
 use Rattle.model.specs.Requirement.{Requirement}
 use Rattle.model.specs.Memory.{nodesIn}
 use Rattle.model.specs.Parse.{mapReq, signed, parseRequirement}
-use Rattle.shop.specs.Shapes.{requirementOf}
+use Rattle.shop_codes.specs.Codes.{requirementOf}
 use Rattle.expr.specs.Tree.{treeBelow}
 use Rattle.parse_keys.specs.Entries.{odd, turned, entryReq, Valid, Subject, Stand, Leaf}
 use Rattle.parse_keys.specs.Turns.{turn-even, turn-odd}

@@ -6,12 +6,10 @@ use mathlib.Core.List.{List}
 use Prim.Native.Nat.{ℕ, _+_, _-_, _*_, _/_, _%_, _≤_, _<_}
 use lib.Dec.{eqb}
 use lib.ListN.{getD, length}
-use lib.IntN.{ℤ}
-use lib.Signed.{mag}
 use Rattle.model.specs.Limits.{wide}
-use Rattle.model.specs.Requirement.{Requirement, haveItem, missingItem, haveAtc, missingAtc, haveFlag, missingFlag}
+use Rattle.model.specs.Requirement.{Requirement}
 use Rattle.model.specs.Parse.{signed}
-use Rattle.shop.specs.Shapes.{codeOf, requirementOf}
+use Rattle.shop_codes.specs.Codes.{codeOf, requirementOf, isMissing}
 
 -- keys count from 1; entry 2 * i is key i with Have, entry 2 * i + 1 with Missing
 abbrev pub odd : ℕ → Bool
@@ -33,21 +31,9 @@ pub record Valid (m k : ℕ) : Type 0 where
   pub low : 2 ≤ k
   pub high : k < 2 * m + 2
 
--- a number of 32 bits
-abbrev pub InRange : ℤ → Type 0
-InRange z = mag z < 2147483648
-
-abbrev pub isHave : Requirement → Bool
-isHave (haveItem i) = true
-isHave (missingItem i) = false
-isHave (haveAtc a) = true
-isHave (missingAtc a) = false
-isHave (haveFlag f) = true
-isHave (missingFlag f) = false
-
 -- the code of a requirement of the kind Have
 pub record Subject (c : ℕ) : Type 0 where
-  pub have : isHave (requirementOf c) ≡ true
+  pub have : isMissing (requirementOf c) ≡ false
   pub code : codeOf (requirementOf c) ≡ c
 
 pub record Stand (ks : List ℕ) (m x : ℕ) (r : Requirement) : Type 0 where

@@ -13,17 +13,14 @@ use Rattle.model.specs.Parse.{readReq, signed}
 use Rattle.model.specs.declared.Op2.{Op2}
 use Rattle.model.specs.declared.Op2.the-variants.{Equal, NotEqual, Less, LessEqual, Greater, GreaterEqual, Add, Subtract, BitAnd, BitOr}
 use Rattle.model.specs.declared.Op1.{Op1}
-use Rattle.shop.specs.Shapes.{shift, requirementOf}
+use Rattle.shop_codes.specs.Codes.{half, InRange, shift, requirementOf}
 use Rattle.expr.specs.Requirement.{Has}
-use Rattle.parse_keys.specs.Entries.{InRange, odd, Subject}
+use Rattle.parse_keys.specs.Entries.{odd, Subject}
 
 -- the number of an Imm, moved up by 2 ^ 31; 2 ^ 32 where there is none
 abbrev pub Numbered : ℕ → Option ℤ → Type 0
 Numbered s none = s ≡ wide
 Numbered s (some z) = (s ≡ shift z) × InRange z
-
-abbrev pub half : ℕ
-half = 2147483648
 
 -- the code of an id below n, base being that of the kind
 abbrev pub idCode : ℕ → ℕ → ℕ → ℕ

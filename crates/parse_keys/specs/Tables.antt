@@ -10,7 +10,7 @@ use Rattle.model.specs.Sheet.{Sheet}
 use Rattle.model.specs.Expr.{Expr}
 use Rattle.model.specs.Memory.{nodesIn}
 use Rattle.model.specs.Parse.{mapReq, signed, parseRequirement}
-use Rattle.shop.specs.Shapes.{requirementOf}
+use Rattle.shop_codes.specs.Codes.{requirementOf}
 use Rattle.expr.specs.Requirement.{Has}
 use Rattle.expr.specs.Tree.{treeBelow}
 use Rattle.parse_keys.specs.Entries.{odd, turned, Valid, Stand, Leaf}

@@ -10,7 +10,7 @@ use lib.ListN.{getD}
 use borrow.Author.Tests.{eq-eqb, ne-eqb, eqb-true, eqb-false}
 use Rattle.model.specs.Requirement.{Requirement, negateReq}
 use Rattle.model.specs.Parse.{mapReq, signed}
-use Rattle.shop.specs.Shapes.{requirementOf}
+use Rattle.shop_codes.specs.Codes.{requirementOf}
 use Rattle.expr.specs.Requirement.{negate-twice}
 use Rattle.parse_keys.specs.Entries.{turned, entryReq, Valid}
 

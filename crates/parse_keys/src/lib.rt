@@ -4,9 +4,9 @@ ghost use Prim.Native.Nat.{ℕ, _+_, _*_, _/_, _%_, _<_, _≤_};
 ghost use lib.ListN.{length};
 ghost use Rattle.model.specs.Memory.{nodesIn, rightAt};
 ghost use Rattle.model.specs.Parse.{value, mapReq, signed, parseRequirement};
-ghost use Rattle.shop.specs.Shapes.{shift};
+ghost use Rattle.model.specs.Limits.{wide};
 ghost use Rattle.expr.specs.Tree.{treeBelow};
-ghost use Rattle.parse_keys.specs.Entries.{InRange, Subject};
+ghost use Rattle.parse_keys.specs.Entries.{Subject};
 ghost use Rattle.parse_keys.specs.Search.{Table, Search};
 ghost use Rattle.parse_keys.specs.Reads.{Numbered, idCode, flagCode, signOf, zeroSign, signedCode, ReadCode, Reading};
 ghost use Rattle.parse_keys.specs.Tables.{Tables, OfNode, Entered, ReadEntry};
@@ -17,6 +17,11 @@ use memory::kind_of;
 use model::Kind;
 use model::Op1;
 use model::Op2;
+use shop_codes::HAVE_ATC;
+use shop_codes::HAVE_FLAG;
+use shop_codes::KIND;
+use shop_codes::ZERO;
+use shop_codes::shifted;
 
 // How many ids the sheet has.
 pub struct Known {
@@ -67,16 +72,8 @@ fn find(keys: &[u64], kids: &[u16], m: usize, code: u64) -> Found
 
 // ---- codes of nodes
 
-// A number of 32 bits, moved up by 2^31.
-fn shifted(x: i32) -> u64
-    ensures { λ r. ⌜ (r ≡ shift x) × InRange x ⌝ }
-{
-    let b = ints::to_bits(x) as u64;
-    if b < 2147483648 {
-        return b + 2147483648;
-    }
-    b - 2147483648
-}
+// Above every number of 32 bits, moved up: for a node that has none.
+const NO_NUMBER: u64 = KIND;
 
 // The number of node i, which has to be an Imm below b, moved up by 2^31; 2^32 where there is none.
 fn shifted_below(ws: &[u16; 98304], val: &[i32; 32768], b: u16, i: u16) -> u64
@@ -86,19 +83,19 @@ fn shifted_below(ws: &[u16; 98304], val: &[i32; 32768], b: u16, i: u16) -> u64
     let v = number_below(ws, val, b, i);
     match v {
         MaybeNumber::Is(x) => shifted(x),
-        MaybeNumber::Nothing => 4294967296,
+        MaybeNumber::Nothing => NO_NUMBER,
     }
 }
 
 // The code of an id below n, the first id's code being base.
 fn id_code(s: u64, n: u16, base: u64) -> u64
-    requires { ⌜ base < 8589934593 ⌝ }
+    requires { ⌜ base ≤ 2 * wide ⌝ }
     ensures { λ r. ⌜ r ≡ idCode base n s ⌝ }
 {
-    if s < 2147483648 {
+    if s < ZERO {
         return 0;
     }
-    if s - 2147483648 < n as u64 {
+    if s - ZERO < n as u64 {
         return base + s;
     }
     0
@@ -108,8 +105,8 @@ fn id_code(s: u64, n: u16, base: u64) -> u64
 fn flag_code(s: u64) -> u64
     ensures { λ r. ⌜ r ≡ flagCode s ⌝ }
 {
-    if s < 4294967296 {
-        return 17179869184 + s;
+    if s < KIND {
+        return HAVE_FLAG + s;
     }
     0
 }
@@ -123,7 +120,7 @@ fn read_code(o: Op1, s: u64, items: u16, atcs: u16) -> u64
         Op1::Flag => flag_code(s),
         Op1::Variable => 0,
         Op1::Item => id_code(s, items, 0),
-        Op1::Atc => id_code(s, atcs, 8589934592),
+        Op1::Atc => id_code(s, atcs, HAVE_ATC),
         Op1::Time => 0,
     }
 }
@@ -152,7 +149,7 @@ fn zero_sign(ws: &[u16; 98304], val: &[i32; 32768], i: usize, o: Op2) -> u16
     ensures { λ r. ⌜ ((n : ℕ) → r ≡ zeroSign o (value (treeBelow (nodesIn (now (ws .entry)) (now (val .entry)) n) i (rightAt (nodesIn (now (ws .entry)) (now (val .entry)) n) i)))) ⌝ }
 {
     let s = shifted_below(ws, val, i as u16, ws[3 * i + 2]);
-    if s != 2147483648 {
+    if s != ZERO {
         return 2;
     }
     sign_of(o)
@@ -160,7 +157,7 @@ fn zero_sign(ws: &[u16; 98304], val: &[i32; 32768], i: usize, o: Op2) -> u16
 
 // Twice a subject's code, and one more where it is negated; 0 for no code.
 fn signed_code(c: u64, neg: bool) -> u64
-    requires { ⌜ c < 34359738368 ⌝ }
+    requires { ⌜ c < 8 * wide ⌝ }
     ensures { λ r. ⌜ r ≡ signedCode c neg ⌝ }
 {
     if c == 0 {

@@ -7,10 +7,10 @@ use native.Mathlib.Omega.{arith}
 use lib.ListN.{length}
 use Rattle.model.specs.Requirement.{Requirement, haveItem, missingItem, haveAtc, missingAtc, haveFlag, missingFlag, negateReq, sameReq, before, insert, member, extend}
 use Rattle.model.specs.Laws.Sets.{Sorted, insert-sorted, member-insert, ext}
-use Rattle.shop.specs.Shapes.{codeOf}
+use Rattle.shop_codes.specs.Codes.{codeOf, Narrow, AllNarrow}
 use Rattle.shop.specs.Sets.{insertCode}
 use Rattle.shop.specs.SetLaws.{insert-more}
-use Rattle.shop.specs.Codes.{Narrow, AllNarrow, insert-code, insert-narrow}
+use Rattle.shop.specs.Codes.{insert-code, insert-narrow}
 
 -- the requirements ls join xs
 abbrev pub joined : List Requirement → List Requirement → List Requirement

@@ -15,9 +15,9 @@ use Rattle.model.specs.Sheet.{Sheet, itemCount}
 use Rattle.model.specs.Requirement.{Requirement, extend}
 use Rattle.model.specs.Shop
 use Rattle.model.specs.Parse.{fillItem, newCount, updateSlot, fewEntries}
-use Rattle.shop.specs.Shapes.{codeOf, requirementOf, entries, itemOf, slotOf}
+use Rattle.shop_codes.specs.Codes.{codeOf, requirementOf, AllNarrow}
+use Rattle.shop.specs.Shapes.{entries, itemOf, slotOf}
 use Rattle.shop.specs.Sets.{held, reqsOf}
-use Rattle.shop.specs.Codes.{AllNarrow}
 use Rattle.shop.specs.Slots.{slot-narrow}
 use Rattle.shop.specs.Good.{ownReqs, GoodSlot, stands-for, good-slot, own-held, own-few}
 use Rattle.shop.specs.declared.Slot.{Slot}

@@ -16,7 +16,8 @@ use Rattle.model.specs.Refusal.{parseTooMany}
 use Rattle.model.specs.Parse.{parseRequirements, fewEntries}
 use Rattle.expr.specs.Requirement.{Has}
 use Rattle.shop.specs.Good.{GoodShop}
-use Rattle.shop.specs.Shapes.{codeOf, slotsOf}
+use Rattle.shop_codes.specs.Codes.{codeOf}
+use Rattle.shop.specs.Shapes.{slotsOf}
 use Rattle.shop.specs.declared.Shop.{Shop}
 use Rattle.parse_keys.specs.Entries.{Valid}
 use Rattle.parse_keys.specs.Small.{key-small}

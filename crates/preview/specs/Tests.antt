@@ -1,25 +1,12 @@
 -- What a requirement reads of a save, apart from whether that has to be there or missing. Assumes nothing: these are definitions.
-use mathlib.Core.Bool.{Bool, true, false, not}
+use mathlib.Core.Bool.{Bool, false, not}
 use mathlib.Core.Option.{Option, none, some}
 use Prim.Native.Nat.{ℕ}
-use lib.IntN.{ℤ, pos, negsuc}
+use lib.IntN.{ℤ, pos}
 use Rattle.model.specs.Signed.{eqZ, isZero}
 use Rattle.model.specs.Save.{Save, natAt}
 use Rattle.model.specs.Requirement.{Requirement, haveItem, missingItem, haveAtc, missingAtc, haveFlag, missingFlag}
 use Rattle.model.specs.Meaning.{held}
-
--- the place that a number names; one below 0 names none, and m stands for it
-abbrev pub placeOf : ℤ → ℕ → ℕ
-placeOf (pos n) m = n
-placeOf (negsuc n) m = m
-
-abbrev pub isMissing : Requirement → Bool
-isMissing (haveItem i) = false
-isMissing (missingItem i) = true
-isMissing (haveAtc a) = false
-isMissing (missingAtc a) = true
-isMissing (haveFlag f) = false
-isMissing (missingFlag f) = true
 
 abbrev pub isThere : Save → Requirement → Bool
 isThere s (haveItem i) = not (isZero (held s i))

@@ -1,22 +1,24 @@
 // The preview: what a shop means under a save, slot by slot, without compiling it.
 ghost use mathlib.Core.Path.{_≡_};
 ghost use mathlib.Core.Bool.{not};
-ghost use Prim.Native.Nat.{ℕ, _%_, _<_};
+ghost use Prim.Native.Nat.{ℕ, _<_};
 ghost use lib.IntN.{ℤ, pos, _-ℤ_};
 ghost use mathlib.Core.List.{List, map};
 ghost use lib.ListN.{getD, length};
 ghost use lib.Signed.{ltZ};
-ghost use Rattle.model.specs.Limits.{wide, slotCount, entryLimit};
+ghost use Rattle.model.specs.Limits.{slotCount, entryLimit};
 ghost use Rattle.model.specs.Signed.{eqZ, isZero, clamp};
 ghost use Rattle.model.specs.Sheet.{atcFor};
 ghost use Rattle.model.specs.Compile.{rateOf, acquiredReq};
+ghost use Rattle.model.specs.Save.{natAt};
 ghost use Rattle.model.specs.Meaning.{holds, allHold, acquired, hidden, listed, noTimerHeld, oneOf, uniqueMeaning, limitMeaning, meaningOf, orOld};
 ghost use Rattle.model.specs.Preview.{previewCall};
 ghost use Rattle.shop.specs.declared.Sheet.{Sheet};
-ghost use Rattle.shop.specs.Shapes.{unshift, requirementOf, entries, sheetOf, timerIs, slotOf, slotsOf};
+ghost use Rattle.shop_codes.specs.Codes.{requirementOf};
+ghost use Rattle.shop.specs.Shapes.{entries, sheetOf, timerIs, slotOf, slotsOf};
 ghost use Rattle.shop_arrays.specs.Arrays.{arraysIn, slotAt, shopFrom};
 ghost use Rattle.checks.specs.Calls.{saveOf};
-ghost use Rattle.preview.specs.Tests.{placeOf, isMissing, isThere, ratedAt};
+ghost use Rattle.preview.specs.Tests.{isThere, ratedAt};
 ghost use Rattle.preview.specs.Parts.{partsOf};
 ghost use Rattle.preview.specs.Shown.{meaningIs, blankOf, meaningsOf, previewedOf};
 use checks::check_save;
@@ -29,17 +31,15 @@ use shop::Timer;
 use shop::atc_for;
 use shop::check_sheet;
 use shop::limit_of;
+use shop::rate_of;
 use shop::timer_of;
 use shop_arrays::arrays_of;
 use shop_arrays::check_arrays;
 use shop_arrays::item_at;
 use shop_arrays::sizes;
-
-const TIMER_5_RATE: u8 = 200;
-
-const TIMER_10_RATE: u8 = 100;
-
-const TIMER_15_RATE: u8 = 67;
+use shop_codes::Subject;
+use shop_codes::is_missing;
+use shop_codes::subject_of;
 
 // The refusal or 0, the pairs of the slots, 0 where it is refused, and variable 0 after them.
 pub struct Previewed {
@@ -91,42 +91,26 @@ fn is_held(items: &[i16], item: ItemId) -> bool
 
 // ---- requirements
 
-// The place that a code's number names; outside stands for one below 0.
-fn place_of(code: u64, outside: usize) -> usize
-    ensures { λ r. ⌜ r ≡ placeOf (unshift (code % wide)) outside ⌝ }
+// No flag has a number below 0.
+fn flag_at(flags: &[u8], number: i32) -> bool
+    ensures { λ r. ⌜ r ≡ not (isZero (natAt (now (flags .entry)) number)) ⌝ }
 {
-    let m = code % 4294967296;
-    if m < 2147483648 {
-        return outside;
+    if number < 0 {
+        return false;
     }
-    (m - 2147483648) as usize
+    bit_at(flags, number as usize)
 }
 
-fn is_missing(code: u64) -> bool
-    ensures { λ r. ⌜ r ≡ isMissing (requirementOf code) ⌝ }
-{
-    let kind = code / 4294967296;
-    if kind < 6 {
-        return kind % 2 == 1;
-    }
-    false
-}
-
-// Whether the save has what a requirement names. An id below 0 stands for 512, and a code of no kind for item 512: on no sheet.
+// Whether the save has what a requirement is about.
 fn is_there(code: u64, items: &[i16], atcs: &[u8], flags: &[u8]) -> bool
     ensures { λ r. ⌜ ((t v : List ℤ) → r ≡ isThere (saveOf (now (items .entry)) (now (atcs .entry)) (now (flags .entry)) t v) (requirementOf code)) ⌝ }
 {
-    let kind = code / 4294967296;
-    if kind < 2 {
-        return !equals_at(items, place_of(code, 512), 0);
+    let about = subject_of(code);
+    match about {
+        Subject::Item(i) => !equals_at(items, i as usize, 0),
+        Subject::Atc(a) => bit_at(atcs, a as usize),
+        Subject::Flag(f) => flag_at(flags, f),
     }
-    if kind < 4 {
-        return bit_at(atcs, place_of(code, 512));
-    }
-    if kind < 6 {
-        return bit_at(flags, place_of(code, flags.len()));
-    }
-    !equals_at(items, 512, 0)
 }
 
 fn holds(code: u64, items: &[i16], atcs: &[u8], flags: &[u8]) -> bool
@@ -181,12 +165,11 @@ fn is_owned(attached: &[u8], item: ItemId, items: &[i16], atcs: &[u8]) -> bool
 fn is_rated(timer: Timer, times: &[i16]) -> bool
     ensures { λ r. ⌜ r ≡ ratedAt (rateOf (timerIs timer)) (getD (now (times .entry)) 2 (pos 0)) ⌝ }
 {
-    match timer {
-        Timer::Plain => false,
-        Timer::Five => equals_at(times, 2, TIMER_5_RATE),
-        Timer::Ten => equals_at(times, 2, TIMER_10_RATE),
-        Timer::Fifteen => equals_at(times, 2, TIMER_15_RATE),
+    let rate = rate_of(timer);
+    if rate == 0 {
+        return false;
     }
+    equals_at(times, 2, rate)
 }
 
 fn is_acquired(

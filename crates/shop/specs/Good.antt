@@ -11,10 +11,11 @@ use Rattle.model.specs.Limits.{slotCount, entryLimit}
 use Rattle.model.specs.Requirement.{Requirement}
 use Rattle.model.specs.Parse.{fewEntries}
 use Rattle.model.specs.Laws.Sets.{Sorted}
-use Rattle.shop.specs.Shapes.{codeOf, requirementOf, entries, slotOf, noSlot, noShop}
+use Rattle.shop_codes.specs.Codes.{codeOf, requirementOf, AllNarrow}
+use Rattle.shop.specs.Shapes.{entries, slotOf, noSlot, noShop}
 use Rattle.shop.specs.Sets.{held, reqsOf, reqsIn}
 use Rattle.shop.specs.SetLaws.{held-set, set-entries}
-use Rattle.shop.specs.Codes.{AllNarrow, codes-stand}
+use Rattle.shop_codes.specs.Laws.{codes-stand}
 use Rattle.shop.specs.Slots.{entries-length}
 use Rattle.shop.specs.declared.Slot.{Slot}
 use Rattle.shop.specs.declared.SlotItem.the-variants.{Nothing}

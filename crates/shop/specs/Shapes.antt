@@ -1,13 +1,13 @@
--- What the values of the code stand for: requirement codes, slots, shops and sheets. Assumes nothing: these are definitions.
-use mathlib.Core.Bool.{Bool, cond, _&&_}
+-- What the values of the code stand for: slots, shops and sheets. Assumes nothing: these are definitions.
+use mathlib.Core.Bool.{Bool, _&&_}
 use mathlib.Core.Option.{Option, none, some}
 use mathlib.Core.List.{List, [], _∷_, map}
-use Prim.Native.Nat.{ℕ, zero, suc, _+_, _*_, _-_, _/_, _%_}
-use lib.Dec.{ltb, leb}
+use Prim.Native.Nat.{ℕ, zero, suc}
+use lib.Dec.{leb}
 use lib.ListN.{length, getD, set, replicate}
-use lib.IntN.{ℤ, pos, negsuc}
-use Rattle.model.specs.Limits.{mostItems, wide, entryLimit, slotCount}
-use Rattle.model.specs.Requirement.{Requirement, haveItem, missingItem, haveAtc, missingAtc, haveFlag, missingFlag, kind, number}
+use lib.IntN.{pos}
+use Rattle.model.specs.Limits.{entryLimit, slotCount}
+use Rattle.shop_codes.specs.Codes.{requirementOf}
 use Rattle.model.specs.Shop
 use Rattle.model.specs.Shop.{itemKnown, reqKnown}
 use Rattle.model.specs.Sheet
@@ -22,34 +22,6 @@ use Rattle.shop.specs.declared.Slot.{Slot}
 use Rattle.shop.specs.declared.Shop.{Shop}
 use Rattle.shop.specs.declared.Timer.{Timer}
 use Rattle.shop.specs.declared.Timer.the-variants.{Plain, Five, Ten, Fifteen}
-
--- a number of 32 bits, moved up by 2 ^ 31
-abbrev pub shift : ℤ → ℕ
-shift (pos n) = n + 2147483648
-shift (negsuc n) = 2147483647 - n
-
-abbrev pub unshift : ℕ → ℤ
-unshift n = cond (ltb n 2147483648) (negsuc (2147483647 - n)) (pos (n - 2147483648))
-
-abbrev pub codeOf : Requirement → ℕ
-codeOf r = kind r * wide + shift (number r)
-
--- an id below 0 is on no sheet, nor is the number of items that no sheet passes
-abbrev pub idOf : ℤ → ℕ
-idOf (pos n) = n
-idOf (negsuc n) = mostItems
-
-abbrev pub ofKind : ℕ → ℤ → Requirement
-ofKind zero z = haveItem (idOf z)
-ofKind (suc zero) z = missingItem (idOf z)
-ofKind (suc (suc zero)) z = haveAtc (idOf z)
-ofKind (suc (suc (suc zero))) z = missingAtc (idOf z)
-ofKind (suc (suc (suc (suc zero)))) z = haveFlag z
-ofKind (suc (suc (suc (suc (suc zero))))) z = missingFlag z
-ofKind (suc (suc (suc (suc (suc (suc k)))))) z = haveItem mostItems
-
-unfoldable pub requirementOf : ℕ → Requirement
-requirementOf c = ofKind (c / wide) (unshift (c % wide))
 
 -- n entries of an array; past its end each is code 0
 unfoldable pub entries : ℕ → List ℕ → List ℕ
@@ -92,6 +64,13 @@ timerIs Plain = Shop.plain
 timerIs Five = Shop.five
 timerIs Ten = Shop.ten
 timerIs Fifteen = Shop.fifteen
+
+-- the rate of a timer, 0 where there is none
+abbrev pub rateWord : Shop.Timer → ℕ
+rateWord Shop.plain = 0
+rateWord Shop.five = 200
+rateWord Shop.ten = 100
+rateWord Shop.fifteen = 67
 
 -- ---- values
 

@@ -16,9 +16,10 @@ use Rattle.model.specs.Shop as Shops
 use Rattle.model.specs.Shop.{slotOk, itemKnown, reqKnown, emptySlot, padded, withSlots}
 use Rattle.model.specs.Printer.{atcEntry}
 use Rattle.model.specs.Laws.Checks.{and-left, and-right}
-use Rattle.shop.specs.Shapes.{sheetOf, atcAt, codeOf, idOf, ofKind, unshift, requirementOf, entries, itemOf, partsOk, slotOf, slotsOf, noSlot, noShop, placed}
+use Rattle.shop_codes.specs.Codes.{half, codeOf, idOf, ofKind, unshift, requirementOf, AllNarrow}
+use Rattle.shop.specs.Shapes.{sheetOf, atcAt, entries, itemOf, partsOk, slotOf, slotsOf, noSlot, noShop, placed}
 use Rattle.shop.specs.Sets.{Exact, AllExact}
-use Rattle.shop.specs.Codes.{AllNarrow, shift-unshift, codes-narrow}
+use Rattle.shop_codes.specs.Laws.{shift-unshift, codes-narrow}
 use Rattle.shop.specs.declared.Sheet.{Sheet}
 use Rattle.shop.specs.declared.Slot.{Slot}
 use Rattle.shop.specs.declared.Shop.{Shop}
@@ -49,13 +50,13 @@ slot-narrow x = codes-narrow (entries (x .len) (x .requirements))
 
 -- ---- an entry on the sheet is the code of what it stands for
 
-id-exact : (n m : ℕ) → m ≤ mostItems → ltb (idOf (unshift n)) m ≡ true → idOf (unshift n) + 2147483648 ≡ n
-id-exact n m h = by (ltb n 2147483648) refl
+id-exact : (n m : ℕ) → m ≤ mostItems → ltb (idOf (unshift n)) m ≡ true → idOf (unshift n) + half ≡ n
+id-exact n m h = by (ltb n half) refl
   where
-    by : (b : Bool) → ltb n 2147483648 ≡ b → ltb (idOf (cond b (negsuc (2147483647 - n)) (pos (n - 2147483648)))) m ≡ true
-        → idOf (cond b (negsuc (2147483647 - n)) (pos (n - 2147483648))) + 2147483648 ≡ n
+    by : (b : Bool) → ltb n half ≡ b → ltb (idOf (cond b (negsuc (half - suc n)) (pos (n - half)))) m ≡ true
+        → idOf (cond b (negsuc (half - suc n)) (pos (n - half))) + half ≡ n
     by true e f = absurd (omega (arith, ltb-true mostItems m f))
-    by false e f = omega (arith, ltb-false n 2147483648 e)
+    by false e f = omega (arith, ltb-false n half e)
 
 module _ (h : Model.Sheet) (p : itemCount h ≤ mostItems) (q : h .atcCount ≤ mostItems) where
   kind-exact : (k n : ℕ) → reqKnown h (ofKind k (unshift n)) ≡ true → codeOf (ofKind k (unshift n)) ≡ k * wide + n

@@ -15,9 +15,11 @@ use Rattle.shop.specs.declared.Slot.{Slot}
 use Rattle.shop.specs.declared.Shop.{Shop}
 use Rattle.shop.specs.declared.Reqs.{Reqs}
 use Rattle.shop.specs.declared.SlotItem.the-variants.{Nothing, Of}
-use Rattle.shop.specs.Shapes.{codeOf, requirementOf, slotOf, slotsOf}
+use Rattle.shop_codes.specs.Codes.{codeOf, requirementOf}
+use Rattle.shop.specs.Shapes.{slotOf, slotsOf}
 use Rattle.shop.specs.Sets.{Exact, reqsOf, sortedReqs}
-use Rattle.shop.specs.Codes.{sorted-narrow, codes-stand}
+use Rattle.shop_codes.specs.Laws.{codes-stand}
+use Rattle.shop.specs.Codes.{sorted-narrow}
 use Rattle.shop.specs.SetLaws.{held-set, sorted-fits}
 use Rattle.shop.specs.Slots.{slot-narrow}
 use Rattle.sizes.specs.declared.Size.{Size}

@@ -1,14 +1,14 @@
 -- The tests of requirements have as many nodes as worked out. Assumes nothing.
-use mathlib.Core.Path.{_≡_, refl, _∙_}
+use mathlib.Core.Path.{_≡_, refl, sym, ap, _∙_}
+use mathlib.Core.Bool.{Bool, true, false, cond}
 use mathlib.Core.Option.{Option, none, some}
 use mathlib.Core.List.{List, [], _∷_, map, map-append}
-use Prim.Native.Nat.{ℕ, zero, suc, _+_, _*_, _/_, _%_, _≤_, _<_}
+use Prim.Native.Nat.{ℕ, _+_, _*_, _≤_, _<_}
 use native.Mathlib.Numerals.{add-one}
 use native.Mathlib.Omega.{arith}
 use lib.IntN.{ℤ, pos}
 use lib.ListN.{length, take, getD}
 use lib.Seq.{take-suc}
-use Rattle.model.specs.Limits.{wide}
 use Rattle.model.specs.Expr.{Expr, two, negate, size}
 use Rattle.model.specs.declared.Op2.the-variants.{Equal, NotEqual, BitAnd}
 use Rattle.model.specs.declared.Op1.the-variants.{Item, Atc}
@@ -17,7 +17,7 @@ use Rattle.model.specs.Sheet.{Sheet, atcFor}
 use Rattle.model.specs.Shop.{Timer, plain, five, ten, fifteen, timerOf}
 use Rattle.model.specs.Compile.{test, itemTest, atcTest, flagTest, joinTests, acquiredReq, rateOf, orRate, acquiredExpr}
 use Rattle.model.specs.Laws.Sound.{sum-append}
-use Rattle.shop.specs.Shapes.{ofKind, unshift, requirementOf}
+use Rattle.shop_codes.specs.Codes.{requirementOf, subject, isMissing}
 use Rattle.expr_build.specs.Laws.{size-imm}
 use Rattle.expr_build.specs.Codes.{size-compare, size-flag, size-not-flag}
 use Rattle.sizes.specs.Sizes.{testNodes, testsNodes, acquiredNodes}
@@ -31,28 +31,37 @@ test-size (missingAtc a) = size-compare Equal Atc (pos a)
 test-size (haveFlag f) = size-flag f
 test-size (missingFlag f) = size-not-flag f
 
--- ---- the test of a code, by its kind
+-- ---- the test of a code, by what it is about
 
-pub flag-nodes : (c : ℕ) → c / wide ≡ 4 → testNodes (requirementOf c) ≡ 2
-unfolding requirementOf
-flag-nodes c e = rw e
+-- .. and by whether that has to be missing
+abbrev nodesBy : Requirement → Bool → ℕ
+nodesBy (haveFlag f) b = cond b 3 2
+nodesBy (missingFlag f) b = cond b 3 2
+nodesBy (haveItem i) b = 4
+nodesBy (missingItem i) b = 4
+nodesBy (haveAtc a) b = 4
+nodesBy (missingAtc a) b = 4
 
-pub not-flag-nodes : (c : ℕ) → c / wide ≡ 5 → testNodes (requirementOf c) ≡ 3
-unfolding requirementOf
-not-flag-nodes c e = rw e
+nodes-by : (r : Requirement) → testNodes r ≡ nodesBy (subject r) (isMissing r)
+nodes-by (haveItem i) = refl
+nodes-by (missingItem i) = refl
+nodes-by (haveAtc a) = refl
+nodes-by (missingAtc a) = refl
+nodes-by (haveFlag f) = refl
+nodes-by (missingFlag f) = refl
 
-other-kind : (k : ℕ) (z : ℤ) → (k ≡ 4 → ⊥) → (k ≡ 5 → ⊥) → testNodes (ofKind k z) ≡ 4
-other-kind zero z a b = refl
-other-kind (suc zero) z a b = refl
-other-kind (suc (suc zero)) z a b = refl
-other-kind (suc (suc (suc zero))) z a b = refl
-other-kind (suc (suc (suc (suc zero)))) z a b = absurd (a refl)
-other-kind (suc (suc (suc (suc (suc zero))))) z a b = absurd (b refl)
-other-kind (suc (suc (suc (suc (suc (suc k)))))) z a b = refl
+module _ (c : ℕ) (s : Requirement) (e : s ≡ subject (requirementOf c)) where
+  by-subject : testNodes (requirementOf c) ≡ nodesBy s (isMissing (requirementOf c))
+  by-subject = nodes-by (requirementOf c) ∙ ap (λ r. nodesBy r (isMissing (requirementOf c))) (sym e)
 
-pub other-nodes : (c : ℕ) → (c / wide ≡ 4 → ⊥) → (c / wide ≡ 5 → ⊥) → testNodes (requirementOf c) ≡ 4
-unfolding requirementOf
-other-nodes c a b = other-kind (c / wide) (unshift (c % wide)) a b
+  pub item-nodes : (i : ℕ) → s ≡ haveItem i → testNodes (requirementOf c) ≡ 4
+  item-nodes i f = by-subject ∙ rw f
+
+  pub atc-nodes : (a : ℕ) → s ≡ haveAtc a → testNodes (requirementOf c) ≡ 4
+  atc-nodes a f = by-subject ∙ rw f
+
+  pub flag-nodes : (z : ℤ) (b : Bool) → s ≡ haveFlag z → isMissing (requirementOf c) ≡ b → testNodes (requirementOf c) ≡ cond b 3 2
+  flag-nodes z b f g = by-subject ∙ rw (f, g)
 
 -- ---- tests joined
 

@@ -6,7 +6,8 @@ ghost use lib.ListN.{length, take};
 ghost use Rattle.model.specs.Limits.{entryLimit, slotCount};
 ghost use Rattle.model.specs.Script.{Script};
 ghost use Rattle.model.specs.Compile.{shopBlocks, discLimits, hasRoom};
-ghost use Rattle.shop.specs.Shapes.{requirementOf, timerIs, sheetOf, slotOf, slotsOf};
+ghost use Rattle.shop_codes.specs.Codes.{requirementOf};
+ghost use Rattle.shop.specs.Shapes.{timerIs, sheetOf, slotOf, slotsOf};
 ghost use Rattle.shop.specs.Sets.{AllExact, Exact};
 ghost use Rattle.shop_arrays.specs.Arrays.{arraysIn, slotAt, shopFrom};
 ghost use Rattle.sizes.specs.Blocks.{within};
@@ -19,6 +20,9 @@ use shop::limit_of;
 use shop::timer_of;
 use shop_arrays::item_at;
 use shop_arrays::sort_row;
+use shop_codes::Subject;
+use shop_codes::is_missing;
+use shop_codes::subject_of;
 
 const BLOCK_LIMIT: u32 = 4096;
 
@@ -32,13 +36,6 @@ const MOST_BLOCKS: u32 = 141;
 const MOST_COMMANDS: u32 = 281;
 
 const MOST_NODES: u32 = 4060;
-
-// The codes of one kind of requirement, and the kinds whose tests compare nothing.
-const CODES: u64 = 4294967296;
-
-const HAVE_FLAG: u64 = 4;
-
-const MISSING_FLAG: u64 = 5;
 
 // What some blocks take: how many they are, and the commands and expression nodes in them.
 pub struct Size {
@@ -76,14 +73,17 @@ fn plus(a: Size, b: Size) -> Size
 fn test_nodes(code: u64) -> u32
     ensures { λ r. ⌜ (r ≡ testNodes (requirementOf code)) × (r ≤ 4) ⌝ }
 {
-    let kind = code / CODES;
-    if kind == HAVE_FLAG {
-        return 2;
+    let about = subject_of(code);
+    match about {
+        Subject::Item(_) => 4,
+        Subject::Atc(_) => 4,
+        Subject::Flag(_) => {
+            if is_missing(code) {
+                return 3;
+            }
+            2
+        }
     }
-    if kind == MISSING_FLAG {
-        return 3;
-    }
-    4
 }
 
 // The tests of the first len codes, each with the node that joins it to what stands before it.

@@ -14,7 +14,8 @@ use Rattle.model.specs.Limits.{entryLimit, slotCount, wide}
 use Rattle.model.specs.Requirement.{Requirement, number}
 use Rattle.model.specs.Printer.{digitsTo, decimal, signedDecimal, letter, requirementsText, itemText, slotLine, slotLines, refusedText}
 use Rattle.model.specs.Shop
-use Rattle.shop.specs.Shapes.{unshift, ofKind, requirementOf, entries, itemOf, slotOf, slotsOf}
+use Rattle.shop_codes.specs.Codes.{unshift, ofKind, requirementOf}
+use Rattle.shop.specs.Shapes.{entries, itemOf, slotOf, slotsOf}
 use Rattle.shop.specs.Slots.{entries-take, entries-length}
 use Rattle.shop.specs.declared.Slot.{Slot}
 use Rattle.model.specs.declared.ItemId.{ItemId}
@@ -138,7 +139,7 @@ module _ (s : Shop) (size : length (s .slots) ≡ slotCount) where
 -- ---- where each text begins
 
 module _ {xs : List ℕ} {at : ℕ} where
-  pub requirement-start : (c : ℕ) → Part xs at (requirementText (requirementOf c)) (32 ∷ letter (ofKind (c / wide) (unshift (c % wide))) ∷ signedDecimal (number (ofKind (c / wide) (unshift (c % wide))))) xs at
+  pub requirement-start : (c : ℕ) → Part xs at (requirementText (requirementOf c)) (32 ∷ letter (ofKind (c / wide) (unshift (c % wide))) ∷ signedDecimal (number (requirementOf c))) xs at
   unfolding requirementOf
   requirement-start c = part-start
 

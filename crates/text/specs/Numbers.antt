@@ -1,19 +1,16 @@
--- The text of a number: its digits one by one, its sign, and the number of a requirement by its kind. Assumes nothing.
+-- The text of a number: its digits one by one, and its sign. Assumes nothing.
 use mathlib.Core.Path.{_≡_, refl, ap, sym, subst}
 use mathlib.Core.List.{List, [], _∷_, _++_}
 use Prim.Native.Nat.{ℕ, zero, suc, _+_, _-_, _/_, _%_, _≤_, _<_}
 use native.Mathlib.Omega.{arith}
 use borrow.Author.Tests.{lt-ltb, le-ltb}
-use lib.IntN.{ℤ, pos, negsuc, _+ℤ_}
-use lib.Signed.{mag}
+use lib.IntN.{ℤ, pos, negsuc}
 use mir.Syntax.{w16, w32}
 use mir.Val.{SFits, toZ, ofZ}
 use mir.Facts.{sfits-widen, toZ-ofZ}
 use lib.ListN.{length-append}
-use Rattle.model.specs.Limits.{mostItems}
-use Rattle.model.specs.Requirement.{number}
 use Rattle.model.specs.Printer.{digitsTo, decimal, signedDecimal}
-use Rattle.shop.specs.Shapes.{unshift, idOf, ofKind}
+use Rattle.shop_codes.specs.Codes.{half, InRange, shift}
 use Rattle.image_numbers.specs.Stored.{Stored, stored-none, stored-on, stored-as}
 use Rattle.text.specs.Written.{textLimit, Space, space-as}
 
@@ -61,73 +58,17 @@ module _ (f n : ℕ) (some : f ≡ 0 → ⊥) where
 
 -- ---- signs
 
-pub signed-low : (m : ℕ) → m < 2147483648 → signedDecimal (unshift m) ≡ 45 ∷ decimal (2147483648 - m)
+-- a number moved up by 2 ^ 31: its sign shows in that
+pub signed-low : (z : ℤ) (m : ℕ) → (m ≡ shift z) × InRange z → m < half → signedDecimal z ≡ 45 ∷ decimal (half - m)
 unfolding signedDecimal
-signed-low m h = rw (lt-ltb m 2147483648 h) (ap (λ (k : ℕ). 45 ∷ decimal k) (omega arith))
+signed-low (pos n) m e h = absurd (omega (arith, e .0))
+signed-low (negsuc n) m e h = let r : n < half = e .1 in ap (λ (k : ℕ). 45 ∷ decimal k) (omega (arith, e .0))
 
-pub signed-high : (m : ℕ) → 2147483648 ≤ m → signedDecimal (unshift m) ≡ decimal (m - 2147483648)
+pub signed-high : (z : ℤ) (m : ℕ) → (m ≡ shift z) × InRange z → half ≤ m → signedDecimal z ≡ decimal (m - half)
 unfolding signedDecimal
-signed-high m h = rw (le-ltb m 2147483648 h)
+signed-high (pos n) m e h = ap decimal (omega (arith, e .0))
+signed-high (negsuc n) m e h = absurd (omega (arith, e .0))
 
--- a limit of 16 bits, moved up by 2 ^ 15 and then by the rest of 2 ^ 31
-pub record Raised (z : ℤ) : Type 0 where
-  pub up : ℕ
-  pub sum : z +ℤ pos 32768 ≡ pos up
-  pub low : up < 65536
-  pub back : unshift (up + 2147450880) ≡ z
-
-pub raised : (z : ℤ) → mag z < 32768 → Raised z
-raised (pos n) h = record {
-  up = n + 32768;
-  sum = refl;
-  low = omega arith;
-  back = rw (le-ltb (n + 32768 + 2147450880) 2147483648 (omega arith)) (ap pos (omega arith));
-}
-raised (negsuc n) h = record {
-  up = 32768 - suc n;
-  sum = rw (le-ltb 32768 (suc n) (omega arith));
-  low = omega arith;
-  back = rw (lt-ltb (32768 - suc n + 2147450880) 2147483648 (omega arith)) (ap negsuc (omega arith));
-}
-
-pub limit-fits : (z : ℤ) (f : SFits w16 z) → SFits w32 (z +ℤ pos 32768)
-limit-fits z f = let r = raised z (f .sfits) in rw (r .sum) (record { sfits = omega (arith, r .low) })
-
--- .. as an i32 holds the sum
-pub limit-up : (z : ℤ) (f : SFits w16 z) → toZ w32 (ofZ w32 (toZ w32 (ofZ w32 (toZ w16 (ofZ w16 z))) +ℤ pos 32768)) ≡ pos (raised z (f .sfits) .up)
-limit-up z f =
-    let fw = sfits-widen {w′ = w32} tt f in
-    let g = limit-fits z f in
-    simp toZ-ofZ (raised z (f .sfits) .sum)
-
--- ---- the number of a requirement
-
-pub number-id : (k : ℕ) (z : ℤ) → k < 4 → signedDecimal (number (ofKind k z)) ≡ decimal (idOf z)
-unfolding signedDecimal
-number-id zero z h = refl
-number-id (suc zero) z h = refl
-number-id (suc (suc zero)) z h = refl
-number-id (suc (suc (suc zero))) z h = refl
-number-id (suc (suc (suc (suc k)))) z h = absurd (omega arith)
-
-pub number-flag : (k : ℕ) (z : ℤ) → 4 ≤ k → k < 6 → number (ofKind k z) ≡ z
-number-flag zero z g h = absurd (omega arith)
-number-flag (suc zero) z g h = absurd (omega arith)
-number-flag (suc (suc zero)) z g h = absurd (omega arith)
-number-flag (suc (suc (suc zero))) z g h = absurd (omega arith)
-number-flag (suc (suc (suc (suc zero)))) z g h = refl
-number-flag (suc (suc (suc (suc (suc zero))))) z g h = refl
-number-flag (suc (suc (suc (suc (suc (suc k)))))) z g h = absurd (omega arith)
-
-pub of-rest : (k : ℕ) (z : ℤ) → 6 ≤ k → ofKind k z ≡ ofKind 6 z
-of-rest zero z h = absurd (omega arith)
-of-rest (suc zero) z h = absurd (omega arith)
-of-rest (suc (suc zero)) z h = absurd (omega arith)
-of-rest (suc (suc (suc zero))) z h = absurd (omega arith)
-of-rest (suc (suc (suc (suc zero)))) z h = absurd (omega arith)
-of-rest (suc (suc (suc (suc (suc zero))))) z h = absurd (omega arith)
-of-rest (suc (suc (suc (suc (suc (suc k)))))) z h = refl
-
-pub number-rest : (k : ℕ) (z : ℤ) → 6 ≤ k → signedDecimal (number (ofKind k z)) ≡ decimal mostItems
-unfolding signedDecimal
-number-rest k z h = rw (of-rest k z h)
+-- a limit as an i32 holds it
+pub limit-is : (z : ℤ) → SFits w16 z → toZ w32 (ofZ w32 (toZ w16 (ofZ w16 z))) ≡ z
+limit-is z f = let g = sfits-widen {w′ = w32} tt f in simp toZ-ofZ refl

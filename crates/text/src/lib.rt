@@ -2,15 +2,20 @@
 ghost use mathlib.Core.Path.{_≡_};
 ghost use mathlib.Core.List.{[], _∷_};
 ghost use lib.IntN.{ℤ};
-ghost use Prim.Native.Nat.{_+_, _/_, _<_, _≤_};
+ghost use Prim.Native.Nat.{_+_, _<_, _≤_};
 ghost use Rattle.model.specs.Printer.{digitsTo, decimal, signedDecimal, letter, requirementsText, itemText, slotLine, slotLines, refusedText};
-ghost use Rattle.shop.specs.Shapes.{unshift, idOf, ofKind, requirementOf, itemOf, slotOf, slotsOf};
+ghost use Rattle.shop_codes.specs.Codes.{ofKind, requirementOf};
+ghost use Rattle.shop.specs.Shapes.{itemOf, slotOf, slotsOf};
 ghost use Rattle.image_numbers.specs.Stored.{Stored};
 ghost use Rattle.text.specs.Written.{Space, Wrote};
 ghost use Rattle.text.specs.Lines.{requirementText, FewEach};
 use shop::Shop;
 use shop::Slot;
 use shop::SlotItem;
+use shop_codes::ZERO;
+use shop_codes::kind_of;
+use shop_codes::number_of;
+use shop_codes::shifted;
 
 // ---- bytes
 
@@ -66,24 +71,16 @@ fn put_decimal(out: &mut [u8; 16384], at: usize, n: u32) -> usize
     put_digits(out, at, n, 10)
 }
 
-// A signed number that was moved up by 2^31, as a requirement's code holds it.
-fn put_signed(out: &mut [u8; 16384], at: usize, m: u64) -> usize
-    requires { ⌜ (m < 4294967296) × Space at (signedDecimal (unshift m)) ⌝ }
-    ensures { λ r. ⌜ Stored (now (out .entry)) at (signedDecimal (unshift m)) (now (out .exit)) r ⌝ }
+fn put_signed(out: &mut [u8; 16384], at: usize, z: i32) -> usize
+    requires { ⌜ Space at (signedDecimal z) ⌝ }
+    ensures { λ r. ⌜ Stored (now (out .entry)) at (signedDecimal z) (now (out .exit)) r ⌝ }
 {
-    if m < 2147483648 {
+    let m = shifted(z);
+    if m < ZERO {
         let p = put_byte(out, at, 45);
-        return put_decimal(out, p, (2147483648 - m) as u32);
+        return put_decimal(out, p, (ZERO - m) as u32);
     }
-    put_decimal(out, at, (m - 2147483648) as u32)
-}
-
-// A limit, moved up likewise.
-fn shifted(limit: i16) -> u64
-    ensures { λ r. ⌜ (r < 4294967296) × (unshift r ≡ limit) ⌝ }
-{
-    let above = (limit as i32) + 32768;
-    (above as u64) + 2147450880
+    put_decimal(out, at, (m - ZERO) as u32)
 }
 
 // ---- requirements
@@ -103,32 +100,13 @@ fn letter_of(kind: u64) -> u8
     }
 }
 
-// The number of an item or atc. One below 0 is on no sheet, nor is 512.
-fn id_of(m: u64) -> u32
-    requires { ⌜ m < 4294967296 ⌝ }
-    ensures { λ r. ⌜ r ≡ idOf (unshift m) ⌝ }
-{
-    if m < 2147483648 {
-        return 512;
-    }
-    (m - 2147483648) as u32
-}
-
 fn put_requirement(out: &mut [u8; 16384], at: usize, code: u64) -> usize
     requires { ⌜ Space at (requirementText (requirementOf code)) ⌝ }
     ensures { λ r. ⌜ Stored (now (out .entry)) at (requirementText (requirementOf code)) (now (out .exit)) r ⌝ }
 {
-    let kind = code / 4294967296;
-    let m = code % 4294967296;
     let p = put_byte(out, at, b' ');
-    let q = put_byte(out, p, letter_of(kind));
-    if kind < 4 {
-        return put_decimal(out, q, id_of(m));
-    }
-    if kind < 6 {
-        return put_signed(out, q, m);
-    }
-    put_decimal(out, q, 512)
+    let q = put_byte(out, p, letter_of(kind_of(code)));
+    put_signed(out, q, number_of(code))
 }
 
 fn put_requirements(out: &mut [u8; 16384], at: usize, slot: Slot) -> usize
@@ -168,7 +146,7 @@ fn put_slot(out: &mut [u8; 16384], at: usize, i: u32, slot: Slot) -> usize
     let p2 = put_byte(out, p1, b' ');
     let p3 = put_item(out, p2, item);
     let p4 = put_byte(out, p3, b' ');
-    let p5 = put_signed(out, p4, shifted(limit));
+    let p5 = put_signed(out, p4, limit as i32);
     let p6 = put_requirements(out, p5, slot);
     put_byte(out, p6, b'\n')
 }

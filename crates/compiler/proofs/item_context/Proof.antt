@@ -11,6 +11,9 @@ timer-of-requires c κs = search needs
 rate-of-requires : tie.Need-rate-of-requires
 rate-of-requires c κs = search needs
 
+cast-acquired-of : tie.Need-cast-acquired-of
+cast-acquired-of c = search needs
+
 acquired-of-requires : tie.Need-acquired-of-requires
 acquired-of-requires c κs = search needs
 
@@ -36,6 +39,7 @@ item-context-spec =
     (tie.spec
     timer-of-requires
     rate-of-requires
+    cast-acquired-of
     acquired-of-requires
     limit-of-requires
     is-five-requires

@@ -7,7 +7,7 @@ use borrow.Author.Needs.{needs}
 use Rattle.model.specs.Expr.{Expr, size}
 use Rattle.model.specs.Compile.{test, joinTests}
 use Rattle.model.specs.Memory.{Nodes, nodesIn}
-use Rattle.shop.specs.Shapes.{requirementOf}
+use Rattle.shop_codes.specs.Codes.{requirementOf}
 use Rattle.memory.specs.Pushed.{PutExpr}
 use Rattle.expr_build.specs.Tests.{codesRest, joinCodes}
 use Rattle.expr.specs.Tree.{size-pos}

@@ -1,6 +1,7 @@
 -- `parse_keys::flag_code` meets its contract: every number of 32 bits is a flag. Assumes nothing.
 use mathlib.Core.Path.{sym}
 use Prim.Native.Nat.{_-_}
+use Rattle.model.specs.Limits.{wide}
 use borrow.Author.Tests.{lt-ltb, le-ltb}
 use borrow.Author.Needs.{needs}
 use Rattle.parse_keys.proofs.flag_code.Statement.{statement}
@@ -10,10 +11,10 @@ add-result : tie.Need-add-result
 add-result c = search needs
 
 returns : tie.Need-returns
-returns c = sym (rw (lt-ltb (c .before .args .s) 4294967296 (c .if1 .taken)))
+returns c = sym (rw (lt-ltb (c .before .args .s) wide (c .if1 .taken)))
 
 returns-2 : tie.Need-returns-2
-returns-2 c = sym (rw (le-ltb (c .before .args .s) 4294967296 (c .if1 .left)))
+returns-2 c = sym (rw (le-ltb (c .before .args .s) wide (c .if1 .left)))
 
 pub flag-code-spec : {M : Type 1} → statement M
 flag-code-spec = tie.close (tie.spec add-result returns returns-2)

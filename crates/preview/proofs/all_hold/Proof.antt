@@ -8,7 +8,8 @@ use lib.IntN.{ℤ}
 use lib.ListN.{length, getD}
 use borrow.Author.Tests.{not-true, not-false}
 use Rattle.model.specs.Meaning.{holds}
-use Rattle.shop.specs.Shapes.{requirementOf, entries}
+use Rattle.shop_codes.specs.Codes.{requirementOf}
+use Rattle.shop.specs.Shapes.{entries}
 use Rattle.shop.specs.Slots.{entries-length}
 use Rattle.shop.proofs.All.{Tested, start, more, stop, done}
 use Rattle.checks.specs.Calls.{saveOf}

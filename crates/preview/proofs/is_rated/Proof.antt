@@ -1,53 +1,22 @@
--- `is_rated` meets its contract. Assumes nothing.
+-- `is_rated` meets its contract: a rate of 0 is none. Assumes nothing.
+use mathlib.Core.Path.{sym, _∙_}
+use Rattle.shop.specs.Shapes.{timerIs}
+use Rattle.preview.proofs.Acquired.{rate-none, rate-some}
 use borrow.Author.Needs.{needs}
 use Rattle.preview.proofs.is_rated.Statement.{statement}
 use Rattle.preview.proofs.is_rated.Tie as tie
 
-enum-told : tie.Need-enum-told
-enum-told c = search needs
+rate-of-requires : tie.Need-rate-of-requires
+rate-of-requires c κs = search needs
 
-enum-told-2 : tie.Need-enum-told-2
-enum-told-2 c = search needs
+returns : tie.Need-returns
+returns c = rate-none (timerIs (c .before .before .args .timer)) _ (sym (c .before .rate-of .ensures) ∙ c .if1 .taken)
 
 equals-at-requires : tie.Need-equals-at-requires
 equals-at-requires c κs = search needs
 
-enum-told-3 : tie.Need-enum-told-3
-enum-told-3 c = search needs
-
-equals-at-requires-2 : tie.Need-equals-at-requires-2
-equals-at-requires-2 c κs = search needs
-
-enum-told-4 : tie.Need-enum-told-4
-enum-told-4 c = search needs
-
-equals-at-requires-3 : tie.Need-equals-at-requires-3
-equals-at-requires-3 c κs = search needs
-
-returns : tie.Need-returns
-returns c = search needs
-
 returns-2 : tie.Need-returns-2
-returns-2 c = rw (c .before .enum-told2 .given .1) (c .equals-at .ensures)
-
-returns-3 : tie.Need-returns-3
-returns-3 c = rw (c .before .enum-told3 .given .1) (c .equals-at2 .ensures)
-
-returns-4 : tie.Need-returns-4
-returns-4 c = rw (c .before .enum-told4 .given .1) (c .equals-at3 .ensures)
+returns-2 c = (rw (c .before .before .rate-of .ensures) at (c .equals-at .ensures)) ∙ rate-some (timerIs (c .before .before .before .args .timer)) _ (λ e. c .before .if1 .left (c .before .before .rate-of .ensures ∙ e))
 
 pub is-rated-spec : {M : Type 1} → statement M
-is-rated-spec =
-    tie.close
-    (tie.spec
-    enum-told
-    enum-told-2
-    equals-at-requires
-    enum-told-3
-    equals-at-requires-2
-    enum-told-4
-    equals-at-requires-3
-    returns
-    returns-2
-    returns-3
-    returns-4)
+is-rated-spec = tie.close (tie.spec rate-of-requires returns equals-at-requires returns-2)

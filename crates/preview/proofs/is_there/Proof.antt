@@ -1,80 +1,68 @@
--- `is_there` meets its contract: its tests part the kinds. Assumes nothing.
-use mathlib.Core.Path.{ap, _∙_}
+-- `is_there` meets its contract, by what the requirement is about. Assumes nothing.
+use mathlib.Core.Path.{sym, ap, _∙_}
 use mathlib.Core.Bool.{not}
-use Prim.Native.Nat.{ℕ, _%_}
-use lib.IntN.{pos}
-use lib.ListN.{getD}
-use Rattle.model.specs.Limits.{wide}
+use lib.IntN.{ℤ}
+use mir.Syntax.{w32}
+use mir.Facts.{toZ-ofZ}
 use Rattle.model.specs.Signed.{isZero}
-use Rattle.shop.specs.Shapes.{unshift}
+use Rattle.model.specs.Save.{natAt}
+use Rattle.shop_codes.specs.Codes.{subjectIs}
+use Rattle.shop_codes.specs.Subjects.{subject-low}
 use Rattle.checks.specs.Calls.{saveOf}
-use Rattle.preview.proofs.Places.{id-place, bit-place}
-use Rattle.preview.proofs.Codes.{item-there, atc-there, flag-there, none-there}
+use Rattle.preview.proofs.Codes.{there-by}
 use borrow.Author.Needs.{needs}
 use Rattle.preview.proofs.is_there.Statement.{statement}
 use Rattle.preview.proofs.is_there.Tie as tie
 
-place-of-requires : tie.Need-place-of-requires
-place-of-requires c κs = search needs
+subject-of-requires : tie.Need-subject-of-requires
+subject-of-requires c κs = search needs
+
+enum-known-about : tie.Need-enum-known-about
+enum-known-about c = search needs
+
+cast-equals-at : tie.Need-cast-equals-at
+cast-equals-at c = search needs
 
 equals-at-requires : tie.Need-equals-at-requires
 equals-at-requires c κs = search needs
 
-returns : tie.Need-returns
-returns c = λ t v.
-    let s = c .before .before .before .before .before in
-    ap not (c .equals-at .ensures)
-    ∙ ap (λ (i : ℕ). not (isZero (getD (s .args .items .now) i (pos 0)))) (c .before .place-of .ensures ∙ id-place (unshift (s .args .code % wide)))
-    ∙ item-there (saveOf (s .args .items .now) (s .args .atcs .now) (s .args .flags .now) t v) (s .args .code) (c .before .before .if1 .taken)
+enum-known-about-2 : tie.Need-enum-known-about-2
+enum-known-about-2 c = search needs
 
-place-of-requires-2 : tie.Need-place-of-requires-2
-place-of-requires-2 c κs = search needs
+cast-bit-at : tie.Need-cast-bit-at
+cast-bit-at c = search needs
 
 bit-at-requires : tie.Need-bit-at-requires
 bit-at-requires c κs = search needs
 
+enum-known-about-3 : tie.Need-enum-known-about-3
+enum-known-about-3 c = search needs
+
+flag-at-requires : tie.Need-flag-at-requires
+flag-at-requires c κs = search needs
+
+returns : tie.Need-returns
+returns c = λ t v. ap not (c .equals-at .ensures) ∙ (let s = c .before .before .before .before .before .before .before in there-by (saveOf (s .args .items .now) (s .args .atcs .now) (s .args .flags .now) t v) (s .args .code) _ _ (c .before .before .before .before .subject-of .ensures) (ap subjectIs (c .before .before .about .given .1)))
+
 returns-2 : tie.Need-returns-2
-returns-2 c = λ t v.
-    let s = c .before .before .before .before .before .before in
-    c .bit-at .ensures
-    ∙ ap (λ (i : ℕ). not (isZero (pos (getD (s .args .atcs .now) i 0)))) (c .before .place-of2 .ensures ∙ id-place (unshift (s .args .code % wide)))
-    ∙ atc-there (saveOf (s .args .items .now) (s .args .atcs .now) (s .args .flags .now) t v) (s .args .code) (c .before .before .before .if1 .left) (c .before .before .if2 .taken)
-
-place-of-requires-3 : tie.Need-place-of-requires-3
-place-of-requires-3 c κs = search needs
-
-bit-at-requires-2 : tie.Need-bit-at-requires-2
-bit-at-requires-2 c κs = search needs
+returns-2 c = λ t v. c .bit-at .ensures ∙ (let s = c .before .before .before .before .before .before .before in there-by (saveOf (s .args .items .now) (s .args .atcs .now) (s .args .flags .now) t v) (s .args .code) _ _ (c .before .before .before .before .subject-of .ensures) (ap subjectIs (c .before .before .about2 .given .1)))
 
 returns-3 : tie.Need-returns-3
-returns-3 c = λ t v.
-    let s = c .before .before .before .before .before .before .before in
-    c .bit-at2 .ensures
-    ∙ ap (λ (i : ℕ). not (isZero (pos (getD (s .args .flags .now) i 0)))) (c .before .place-of3 .ensures)
-    ∙ ap (λ z. not (isZero z)) (bit-place (s .args .flags .now) (unshift (s .args .code % wide)))
-    ∙ flag-there (saveOf (s .args .items .now) (s .args .atcs .now) (s .args .flags .now) t v) (s .args .code) (c .before .before .before .if2 .left) (c .before .before .if3 .taken)
-
-equals-at-requires-2 : tie.Need-equals-at-requires-2
-equals-at-requires-2 c κs = search needs
-
-returns-4 : tie.Need-returns-4
-returns-4 c = λ t v.
-    let s = c .before .before .before .before .before .before in
-    ap not (c .equals-at2 .ensures)
-    ∙ none-there (saveOf (s .args .items .now) (s .args .atcs .now) (s .args .flags .now) t v) (s .args .code) (c .before .if3 .left)
+returns-3 c = λ t v. (rw (toZ-ofZ {w = w32} (record { sfits = subject-low (c .before .before .before .before .before .before .before .args .code) _ (sym (ap subjectIs (c .before .before .about3 .given .1)) ∙ c .before .before .before .before .subject-of .ensures) })) at (c .flag-at .ensures)) ∙ (let s = c .before .before .before .before .before .before .before in there-by (saveOf (s .args .items .now) (s .args .atcs .now) (s .args .flags .now) t v) (s .args .code) _ _ (c .before .before .before .before .subject-of .ensures) (ap subjectIs (c .before .before .about3 .given .1)))
 
 pub is-there-spec : {M : Type 1} → statement M
 is-there-spec =
     tie.close
     (tie.spec
-    place-of-requires
+    subject-of-requires
+    enum-known-about
+    cast-equals-at
     equals-at-requires
-    returns
-    place-of-requires-2
+    enum-known-about-2
+    cast-bit-at
     bit-at-requires
+    enum-known-about-3
+    flag-at-requires
+    returns
     returns-2
-    place-of-requires-3
-    bit-at-requires-2
-    returns-3
-    equals-at-requires-2
-    returns-4)
+    returns-3)

@@ -1,6 +1,6 @@
 -- `text::letter_of` meets its contract, kind by kind. Assumes nothing.
 use Rattle.model.specs.Printer.{letter}
-use Rattle.text.specs.Numbers.{of-rest}
+use Rattle.shop_codes.specs.Subjects.{of-rest}
 use native.Mathlib.Omega.{arith}
 use Prim.Native.Nat.{_≤_}
 use Rattle.text.proofs.letter_of.Statement.{statement}

@@ -1,10 +1,9 @@
--- `parse_keys::shifted` meets its contract: the bits of a number, moved by half their range. Assumes nothing.
-use Prim.Native.Nat.{_-_}
+-- `shifted` meets its contract: the bits of a number, moved by half their range. Assumes nothing.
 use borrow.Author.Needs.{needs}
 use mir.Facts.{toZ-ofZ}
-use Rattle.parse_keys.proofs.Numbers.{shift-low, shift-high}
-use Rattle.parse_keys.proofs.shifted.Statement.{statement}
-use Rattle.parse_keys.proofs.shifted.Tie as tie
+use Rattle.shop_codes.proofs.Numbers.{shift-low, shift-high}
+use Rattle.shop_codes.proofs.shifted.Statement.{statement}
+use Rattle.shop_codes.proofs.shifted.Tie as tie
 
 to-bits-requires : tie.Need-to-bits-requires
 to-bits-requires c κs = search needs

@@ -1,13 +1,12 @@
--- Numbers moved up by 2 ^ 31. Assumes nothing.
+-- A number and its bits, moved up by 2 ^ 31. Assumes nothing.
 use mathlib.Core.Path.{_≡_, ap}
 use Prim.Native.Nat.{ℕ, _+_, _-_, _<_, _≤_}
 use native.Mathlib.Omega.{arith}
 use lib.IntN.{ℤ, pos, negsuc}
 use mir.Syntax.{w32}
-use mir.Val.{SFits, ofZ}
-use Rattle.shop.specs.Shapes.{shift}
-use Rattle.parse_keys.specs.Entries.{InRange}
-use Rattle.parse_keys.specs.Reads.{half}
+use mir.Val.{SFits, toZ, ofZ}
+use mir.Facts.{toZ-ofZ}
+use Rattle.shop_codes.specs.Codes.{half, InRange, shift}
 
 pub shift-low : (x : ℤ) (b : ℕ) → SFits w32 x → b ≡ ofZ w32 x → b < half → (b + half ≡ shift x) × InRange x
 shift-low (pos n) b f e h = (ap (λ k. k + half) e, f .sfits)
@@ -16,3 +15,7 @@ shift-low (negsuc n) b f e h = let g : n < half = f .sfits in absurd (omega arit
 pub shift-high : (x : ℤ) (b : ℕ) → SFits w32 x → b ≡ ofZ w32 x → half ≤ b → (b - half ≡ shift x) × InRange x
 shift-high (pos n) b f e h = let g : n < half = f .sfits in absurd (omega arith)
 shift-high (negsuc n) b f e h = let g : n < half = f .sfits in (omega arith, g)
+
+-- what `shifted` promises of a number that it was given by its bits
+pub told : {x : ℤ} {r : ℕ} → SFits w32 x → (r ≡ shift (toZ w32 (ofZ w32 x))) × InRange (toZ w32 (ofZ w32 x)) → (r ≡ shift x) × InRange x
+told f h = rw (toZ-ofZ f) at h
