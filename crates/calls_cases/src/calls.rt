@@ -1,14 +1,18 @@
 // Each call with the numbers of a line, and what it answered as numbers: compile, parse, run beside preview, judge, and an image read or written.
-use crate::changes::low8;
 use compile::Compiled;
 use compile::compile;
+use crate::changes::low8;
 use image_read::Image;
 use image_read::read_script;
 use image_write::Written;
 use image_write::write_script;
 use judge::Judged;
 use judge::judge_record;
+use memory::BlockWords;
+use memory::CommandWords;
 use memory::Counts;
+use memory::NodeWords;
+use memory::Values;
 use model::BlockNo;
 use model::ItemId;
 use parse::ParsedShop;
@@ -17,6 +21,9 @@ use preview::Previewed;
 use preview::preview;
 use runner::Ran;
 use runner::run;
+use shop::ENTRIES;
+use shop::Row;
+use shop::SLOTS;
 use shop::Sheet;
 use shop::Shop;
 use shop::Slot;
@@ -89,8 +96,8 @@ fn shop_of(a: &[u32; 224]) -> Shop {
     with_slot(empty_shop(), 0, slot)
 }
 
-fn entries(a: &[u32; 224]) -> [u64; 32] {
-    let mut codes: [u64; 32] = [0; 32];
+fn entries(a: &[u32; 224]) -> Row {
+    let mut codes: Row = [0; ENTRIES];
     codes[0] = code(a[4], a[5]);
     codes[1] = code(a[6], a[7]);
     codes
@@ -114,10 +121,10 @@ fn code(kind: u32, number: u32) -> u64 {
 // Whether the script is as it was is told by a sum over all of it.
 pub fn compiled(
     a: &[u32; 224],
-    ws: &mut [u16; 98304],
-    val: &mut [i32; 32768],
-    cw: &mut [u16; 65536],
-    bw: &mut [u16; 20480],
+    ws: &mut NodeWords,
+    val: &mut Values,
+    cw: &mut CommandWords,
+    bw: &mut BlockWords,
     kept: Counts,
     t: &mut [u32; 16],
 ) -> Counts {
@@ -133,10 +140,10 @@ pub fn compiled(
 
 fn compile_by(
     a: &[u32; 224],
-    ws: &mut [u16; 98304],
-    val: &mut [i32; 32768],
-    cw: &mut [u16; 65536],
-    bw: &mut [u16; 20480],
+    ws: &mut NodeWords,
+    val: &mut Values,
+    cw: &mut CommandWords,
+    bw: &mut BlockWords,
     kept: Counts,
 ) -> Compiled {
     let atcs = attached();
@@ -146,7 +153,7 @@ fn compile_by(
 }
 
 // The block that a setup block has as next; 0 where it has none.
-fn root_of(bw: &[u16; 20480], at: u16) -> u32 {
+fn root_of(bw: &BlockWords, at: u16) -> u32 {
     if at < 4096 {
         let i = at as usize;
         return block_of(bw[5 * i + 3]);
@@ -164,10 +171,10 @@ fn block_of(link: u16) -> u32 {
 // ---- a sum over the whole script, with the place of each word
 
 fn sum(
-    ws: &[u16; 98304],
-    val: &[i32; 32768],
-    cw: &[u16; 65536],
-    bw: &[u16; 20480],
+    ws: &NodeWords,
+    val: &Values,
+    cw: &CommandWords,
+    bw: &BlockWords,
     k: Counts,
 ) -> u64 {
     let a = mixed(
@@ -205,10 +212,10 @@ fn mixed(h: u64, x: u32) -> u64 {
 
 pub fn parsed(
     a: &[u32; 224],
-    ws: &[u16; 98304],
-    val: &[i32; 32768],
-    cw: &[u16; 65536],
-    bw: &[u16; 20480],
+    ws: &NodeWords,
+    val: &Values,
+    cw: &CommandWords,
+    bw: &BlockWords,
     kept: Counts,
     t: &mut [u32; 16],
 ) {
@@ -244,7 +251,7 @@ fn item_number(item: SlotItem) -> u32 {
     }
 }
 
-fn requirements(codes: [u64; 32], n: usize, t: &mut [u32; 16]) {
+fn requirements(codes: Row, n: usize, t: &mut [u32; 16]) {
     let mut i: usize = 0;
     while i < n {
         if 5 <= i {
@@ -295,10 +302,10 @@ fn one_more(n: u32, slot: Slot) -> u32 {
 // The save has so many of item 7 and of Timer10 and a flag set; 2048 is none. So many of its sixteen counts are lent. Every variable is 9 before.
 pub fn ran(
     a: &[u32; 224],
-    ws: &[u16; 98304],
-    val: &[i32; 32768],
-    cw: &[u16; 65536],
-    bw: &[u16; 20480],
+    ws: &NodeWords,
+    val: &Values,
+    cw: &CommandWords,
+    bw: &BlockWords,
     kept: Counts,
     t: &mut [u32; 16],
 ) {
@@ -319,10 +326,10 @@ fn set_flag(flags: &mut [u8; 2048], flag: u32) {
 
 fn meet(
     a: &[u32; 224],
-    ws: &[u16; 98304],
-    val: &[i32; 32768],
-    cw: &[u16; 65536],
-    bw: &[u16; 20480],
+    ws: &NodeWords,
+    val: &Values,
+    cw: &CommandWords,
+    bw: &BlockWords,
     kept: Counts,
     items: &[i16],
     count: u8,
@@ -357,10 +364,10 @@ fn preview_by(shop: Shop, items: &[i16], flags: &[u8; 2048], vars: &[i32; 1024])
 
 fn run_by(
     a: &[u32; 224],
-    ws: &[u16; 98304],
-    val: &[i32; 32768],
-    cw: &[u16; 65536],
-    bw: &[u16; 20480],
+    ws: &NodeWords,
+    val: &Values,
+    cw: &CommandWords,
+    bw: &BlockWords,
     kept: Counts,
     items: &[i16],
     flags: &[u8; 2048],
@@ -412,7 +419,7 @@ fn agrees(vars: &[i32; 1024], p: Previewed) -> bool {
 }
 
 // Whether the twenty variables from first on are xs.
-fn hold(vars: &[i32; 1024], first: usize, xs: &[i32; 20]) -> bool {
+fn hold(vars: &[i32; 1024], first: usize, xs: &[i32; SLOTS]) -> bool {
     if 1000 < first {
         return false;
     }
@@ -429,10 +436,10 @@ fn hold(vars: &[i32; 1024], first: usize, xs: &[i32; 20]) -> bool {
 // ---- the record and its image
 
 pub fn judged(
-    ws: &[u16; 98304],
-    val: &[i32; 32768],
-    cw: &[u16; 65536],
-    bw: &[u16; 20480],
+    ws: &NodeWords,
+    val: &Values,
+    cw: &CommandWords,
+    bw: &BlockWords,
     kept: Counts,
     t: &mut [u32; 16],
 ) {
@@ -451,10 +458,10 @@ fn short(x: usize) -> u32 {
 pub fn read(
     image: &[u8],
     len: usize,
-    ws: &mut [u16; 98304],
-    val: &mut [i32; 32768],
-    cw: &mut [u16; 65536],
-    bw: &mut [u16; 20480],
+    ws: &mut NodeWords,
+    val: &mut Values,
+    cw: &mut CommandWords,
+    bw: &mut BlockWords,
     t: &mut [u32; 16],
 ) -> Counts {
     if image.len() < len {
@@ -481,10 +488,10 @@ pub fn written(
     a: &[u32; 224],
     image: &[u8; 65600],
     len: usize,
-    ws: &[u16; 98304],
-    val: &[i32; 32768],
-    cw: &[u16; 65536],
-    bw: &[u16; 20480],
+    ws: &NodeWords,
+    val: &Values,
+    cw: &CommandWords,
+    bw: &BlockWords,
     kept: Counts,
     t: &mut [u32; 16],
 ) {
@@ -503,10 +510,10 @@ fn tell_written(w: Written, image: &[u8; 65600], len: usize, out: &[u8; 65600], 
 
 fn write_by(
     most: u32,
-    ws: &[u16; 98304],
-    val: &[i32; 32768],
-    cw: &[u16; 65536],
-    bw: &[u16; 20480],
+    ws: &NodeWords,
+    val: &Values,
+    cw: &CommandWords,
+    bw: &BlockWords,
     kept: Counts,
     out: &mut [u8],
 ) -> Written {

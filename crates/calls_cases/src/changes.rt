@@ -1,13 +1,17 @@
 // What a line writes by itself: words of the script's arrays, and bytes of the image.
+use memory::BlockWords;
+use memory::CommandWords;
+use memory::NodeWords;
+use memory::Values;
 
 // A node, a command, a block: the first, how many, the words of one, and what each word is more in each further one. A value: of which node, and its bits.
 pub fn change(
     op: u8,
     a: &mut [u32; 224],
-    ws: &mut [u16; 98304],
-    val: &mut [i32; 32768],
-    cw: &mut [u16; 65536],
-    bw: &mut [u16; 20480],
+    ws: &mut NodeWords,
+    val: &mut Values,
+    cw: &mut CommandWords,
+    bw: &mut BlockWords,
 ) {
     rows(op == b'n', ws, a[1] % 65536 * 3, 3, a);
     rows(op == b'c', cw, a[1] % 65536 * 4, 4, a);
@@ -15,7 +19,7 @@ pub fn change(
     set_value(op == b'v', val, a[1], a[2]);
 }
 
-fn set_value(here: bool, val: &mut [i32; 32768], node: u32, bits: u32) {
+fn set_value(here: bool, val: &mut Values, node: u32, bits: u32) {
     let i = node as usize;
     if here && i < 32768 {
         val[i] = ints::from_bits(bits);

@@ -17,7 +17,15 @@ use lines::as_said;
 use lines::numbers;
 use lines::put;
 use lines::tell;
+use memory::BLOCK_WORDS;
+use memory::BlockWords;
+use memory::COMMAND_WORDS;
+use memory::CommandWords;
 use memory::Counts;
+use memory::NODES;
+use memory::NODE_WORDS;
+use memory::NodeWords;
+use memory::Values;
 
 // What goes from a line to the next: the counts of the script, the length of the image, how many cases there were, and how many answered as said.
 struct Held {
@@ -28,12 +36,12 @@ struct Held {
 }
 
 fn main() {
-    let mut input: [u8; 32768] = [0; 32768];
+    let mut input: [u8; NODES] = [0; NODES];
     let mut image: [u8; 65600] = [0; 65600];
-    let mut ws: [u16; 98304] = [0; 98304];
-    let mut val: [i32; 32768] = [0; 32768];
-    let mut cw: [u16; 65536] = [0; 65536];
-    let mut bw: [u16; 20480] = [0; 20480];
+    let mut ws: NodeWords = [0; NODE_WORDS];
+    let mut val: Values = [0; NODES];
+    let mut cw: CommandWords = [0; COMMAND_WORDS];
+    let mut bw: BlockWords = [0; BLOCK_WORDS];
     start(&mut input, &mut image, &mut ws, &mut val, &mut cw, &mut bw);
 }
 
@@ -41,10 +49,10 @@ fn main() {
 fn start(
     input: &mut [u8],
     image: &mut [u8; 65600],
-    ws: &mut [u16; 98304],
-    val: &mut [i32; 32768],
-    cw: &mut [u16; 65536],
-    bw: &mut [u16; 20480],
+    ws: &mut NodeWords,
+    val: &mut Values,
+    cw: &mut CommandWords,
+    bw: &mut BlockWords,
 ) {
     let n = io::read_full(libc::STDIN_FILENO, input);
     cases(&input[..n], image, ws, val, cw, bw);
@@ -55,10 +63,10 @@ fn start(
 fn cases(
     text: &[u8],
     image: &mut [u8; 65600],
-    ws: &mut [u16; 98304],
-    val: &mut [i32; 32768],
-    cw: &mut [u16; 65536],
-    bw: &mut [u16; 20480],
+    ws: &mut NodeWords,
+    val: &mut Values,
+    cw: &mut CommandWords,
+    bw: &mut BlockWords,
 ) {
     let mut h = nothing();
     let mut at: usize = 0;
@@ -104,10 +112,10 @@ fn line_end(text: &[u8], at: usize) -> usize {
 fn case(
     line: &[u8],
     image: &mut [u8; 65600],
-    ws: &mut [u16; 98304],
-    val: &mut [i32; 32768],
-    cw: &mut [u16; 65536],
-    bw: &mut [u16; 20480],
+    ws: &mut NodeWords,
+    val: &mut Values,
+    cw: &mut CommandWords,
+    bw: &mut BlockWords,
     h: Held,
 ) -> Held {
     let mut a: [u32; 224] = [0; 224];
@@ -120,10 +128,10 @@ fn done(
     a: &mut [u32; 224],
     t: &mut [u32; 16],
     image: &mut [u8; 65600],
-    ws: &mut [u16; 98304],
-    val: &mut [i32; 32768],
-    cw: &mut [u16; 65536],
-    bw: &mut [u16; 20480],
+    ws: &mut NodeWords,
+    val: &mut Values,
+    cw: &mut CommandWords,
+    bw: &mut BlockWords,
     h: Held,
 ) -> Held {
     let colon = numbers(line, a);
@@ -172,10 +180,10 @@ fn step(
     a: &mut [u32; 224],
     image: &[u8; 65600],
     len: usize,
-    ws: &mut [u16; 98304],
-    val: &mut [i32; 32768],
-    cw: &mut [u16; 65536],
-    bw: &mut [u16; 20480],
+    ws: &mut NodeWords,
+    val: &mut Values,
+    cw: &mut CommandWords,
+    bw: &mut BlockWords,
     k: Counts,
     t: &mut [u32; 16],
 ) -> Counts {
@@ -203,10 +211,10 @@ fn shown(
     a: &[u32; 224],
     image: &[u8; 65600],
     len: usize,
-    ws: &[u16; 98304],
-    val: &[i32; 32768],
-    cw: &[u16; 65536],
-    bw: &[u16; 20480],
+    ws: &NodeWords,
+    val: &Values,
+    cw: &CommandWords,
+    bw: &BlockWords,
     k: Counts,
     t: &mut [u32; 16],
 ) {

@@ -2,14 +2,22 @@
 use mathlib.Core.List.{List}
 use Prim.Native.Nat.{ℕ, zero, suc}
 use lib.IntN.{ℤ}
-use Rattle.model.specs.Memory.{Memory, memoryIn}
+use Rattle.memory.specs.declared.Counts.{Counts}
+use Rattle.model.specs.Memory.{Memory}
 use Rattle.model.specs.Run as Run
+use Rattle.memory.specs.View.{memoryOf}
 use Rattle.shop.specs.declared.Sheet.{Sheet}
 use Rattle.image_read.specs.Outcome.{Outcome, held, nothing}
 use Rattle.capi.specs.declared.Kept.{Kept}
 use Rattle.preview.specs.declared.Previewed as Preview
 use Rattle.capi.specs.declared.Ran.{Ran}
 use Rattle.capi.specs.declared.Previewed.{Previewed}
+
+abbrev pub countsBy : ℕ → ℕ → ℕ → Counts
+countsBy n c b = record { nodes = n; commands = c; blocks = b }
+
+abbrev pub countsIn : Kept → Counts
+countsIn r = countsBy (r .nodes) (r .commands) (r .blocks)
 
 abbrev pub sheetBy : ℕ → ℕ → ℕ → ℕ → Sheet
 sheetBy atcs five ten fifteen = record { atcs = atcs; timer5 = record { 0 = five }; timer10 = record { 0 = ten }; timer15 = record { 0 = fifteen } }
@@ -21,7 +29,7 @@ outcomeBy (suc n) m = nothing (suc n) m
 
 -- the record that a read leaves, its counts being 0 where it is refused
 unfoldable pub readAs : Kept → List ℕ → List ℤ → List ℕ → List ℕ → Outcome
-readAs r ws vs cw bw = outcomeBy (r .refusal) (memoryIn ws vs cw bw (r .nodes) (r .commands) (r .blocks))
+readAs r ws vs cw bw = outcomeBy (r .refusal) (memoryOf ws vs cw bw (countsIn r))
 
 abbrev pub ranAs : Ran → List ℤ → Run.Ran
 ranAs r v = record { answer = r .refusal; variables = v; entered = r .entered }

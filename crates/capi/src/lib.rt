@@ -1,7 +1,6 @@
 // The calls of the engine for programs in Rust and C: numbers, slices and references to arrays of numbers go in, structs of numbers come out.
 ghost use mathlib.Core.Path.{_≡_};
 ghost use Rattle.model.specs.Image.{readImage};
-ghost use Rattle.model.specs.Memory.{memoryIn};
 ghost use Rattle.model.specs.RecordCalls.{runIn, writeIn};
 ghost use Rattle.shop.specs.Shapes.{sheetOf};
 ghost use Rattle.image_read.specs.Outcome.{readInto};
@@ -9,23 +8,30 @@ ghost use Rattle.image_write.specs.Call.{wrote, lengthIn};
 ghost use Rattle.checks.specs.Calls.{saveOf};
 ghost use Rattle.model.specs.Preview.{previewCall};
 ghost use Rattle.model.specs.RecordCalls.{parseIn};
+ghost use Rattle.memory.specs.View.{memoryOf, emptyIn};
 ghost use Rattle.shop.specs.Shapes.{slotsOf};
 ghost use Rattle.shop_arrays.specs.Arrays.{arraysIn, shopFrom};
 ghost use Rattle.compile.specs.Answer.{callOf, CompiledAs};
 ghost use Rattle.parse.specs.Answer.{ParsedInto};
 ghost use Rattle.preview.specs.Shown.{previewedOf};
 ghost use Rattle.with_slots.specs.Twenty.{twenty};
-ghost use Rattle.capi.specs.Answers.{sheetBy, readAs, ranAs, previewedAs};
+ghost use Rattle.capi.specs.Answers.{countsBy, countsIn, sheetBy, readAs, ranAs, previewedAs};
 use compile::compile_arrays;
 use image_read::Image;
 use image_read::read_script;
 use image_write::write_script;
+use memory::BlockWords;
+use memory::CommandWords;
 use memory::Counts;
+use memory::NodeWords;
+use memory::Values;
 use model::BlockNo;
 use model::ItemId;
 use parse::parse_arrays;
 use preview::preview_arrays;
 use runner::run;
+use shop::Codes;
+use shop::SLOTS;
 use shop::Sheet;
 use with_slots::with_slots;
 
@@ -49,8 +55,8 @@ pub struct Written {
 #[repr(C)]
 pub struct Previewed {
     pub refusal: u8,
-    pub items: [i32; 20],
-    pub counts: [i32; 20],
+    pub items: [i32; SLOTS],
+    pub counts: [i32; SLOTS],
     pub temp: i32,
 }
 
@@ -76,12 +82,12 @@ fn sheet_by(atcs: u16, timer5: u16, timer10: u16, timer15: u16) -> Sheet
 #[no_mangle]
 pub extern "C" fn lk_read(
     bytes: &[u8],
-    ws: &mut [u16; 98304],
-    val: &mut [i32; 32768],
-    cw: &mut [u16; 65536],
-    bw: &mut [u16; 20480],
+    ws: &mut NodeWords,
+    val: &mut Values,
+    cw: &mut CommandWords,
+    bw: &mut BlockWords,
 ) -> Kept
-    ensures { λ r. ⌜ readAs r (now (ws .exit)) (now (val .exit)) (now (cw .exit)) (now (bw .exit)) ≡ readInto (memoryIn (now (ws .entry)) (now (val .entry)) (now (cw .entry)) (now (bw .entry)) 0 0 0) (readImage (now (bytes .entry))) ⌝ }
+    ensures { λ r. ⌜ readAs r (now (ws .exit)) (now (val .exit)) (now (cw .exit)) (now (bw .exit)) ≡ readInto (emptyIn (now (ws .entry)) (now (val .entry)) (now (cw .entry)) (now (bw .entry))) (readImage (now (bytes .entry))) ⌝ }
 {
     let r = read_script(bytes, 0, ws, val, cw, bw);
     match r {
@@ -103,16 +109,16 @@ pub extern "C" fn lk_read(
 // The image of a script into a slice. Refused, the slice stays as it was.
 #[no_mangle]
 pub extern "C" fn lk_write(
-    ws: &[u16; 98304],
-    val: &[i32; 32768],
-    cw: &[u16; 65536],
-    bw: &[u16; 20480],
+    ws: &NodeWords,
+    val: &Values,
+    cw: &CommandWords,
+    bw: &BlockWords,
     nodes: u16,
     commands: u16,
     blocks: u16,
     out: &mut [u8],
 ) -> Written
-    ensures { λ r. ⌜ (wrote (r .refusal) (now (out .exit)) ≡ writeIn (memoryIn (now (ws .entry)) (now (val .entry)) (now (cw .entry)) (now (bw .entry)) nodes commands blocks) (now (out .entry))) × (r .len ≡ lengthIn (memoryIn (now (ws .entry)) (now (val .entry)) (now (cw .entry)) (now (bw .entry)) nodes commands blocks) (now (out .entry))) ⌝ }
+    ensures { λ r. ⌜ (wrote (r .refusal) (now (out .exit)) ≡ writeIn (memoryOf (now (ws .entry)) (now (val .entry)) (now (cw .entry)) (now (bw .entry)) (countsBy nodes commands blocks)) (now (out .entry))) × (r .len ≡ lengthIn (memoryOf (now (ws .entry)) (now (val .entry)) (now (cw .entry)) (now (bw .entry)) (countsBy nodes commands blocks)) (now (out .entry))) ⌝ }
 {
     let counts = Counts {
         nodes: nodes,
@@ -134,10 +140,10 @@ pub extern "C" fn lk_run(
     timer5: u16,
     timer10: u16,
     timer15: u16,
-    ws: &[u16; 98304],
-    val: &[i32; 32768],
-    cw: &[u16; 65536],
-    bw: &[u16; 20480],
+    ws: &NodeWords,
+    val: &Values,
+    cw: &CommandWords,
+    bw: &BlockWords,
     nodes: u16,
     commands: u16,
     blocks: u16,
@@ -149,7 +155,7 @@ pub extern "C" fn lk_run(
     vars: &mut [i32],
     budget: u32,
 ) -> Ran
-    ensures { λ r. ⌜ ranAs r (now (vars .exit)) ≡ runIn (sheetOf (now (attached .entry)) (sheetBy atcs timer5 timer10 timer15)) (memoryIn (now (ws .entry)) (now (val .entry)) (now (cw .entry)) (now (bw .entry)) nodes commands blocks) start (saveOf (now (items .entry)) (now (held .entry)) (now (flags .entry)) (now (times .entry)) (now (vars .entry))) budget ⌝ }
+    ensures { λ r. ⌜ ranAs r (now (vars .exit)) ≡ runIn (sheetOf (now (attached .entry)) (sheetBy atcs timer5 timer10 timer15)) (memoryOf (now (ws .entry)) (now (val .entry)) (now (cw .entry)) (now (bw .entry)) (countsBy nodes commands blocks)) start (saveOf (now (items .entry)) (now (held .entry)) (now (flags .entry)) (now (times .entry)) (now (vars .entry))) budget ⌝ }
 {
     let sheet = sheet_by(atcs, timer5, timer10, timer15);
     let counts = Counts {
@@ -187,20 +193,20 @@ pub extern "C" fn lk_compile(
     timer5: u16,
     timer10: u16,
     timer15: u16,
-    ws: &mut [u16; 98304],
-    val: &mut [i32; 32768],
-    cw: &mut [u16; 65536],
-    bw: &mut [u16; 20480],
+    ws: &mut NodeWords,
+    val: &mut Values,
+    cw: &mut CommandWords,
+    bw: &mut BlockWords,
     nodes: u16,
     commands: u16,
     blocks: u16,
     setup: u32,
-    items: &[i32; 20],
-    limits: &[i16; 20],
-    codes: &[u64; 640],
-    lens: &[u8; 20],
+    items: &[i32; SLOTS],
+    limits: &[i16; SLOTS],
+    codes: &Codes,
+    lens: &[u8; SLOTS],
 ) -> Kept
-    ensures { λ r. ⌜ CompiledAs (sheetOf (now (attached .entry)) (sheetBy atcs timer5 timer10 timer15)) (memoryIn (now (ws .entry)) (now (val .entry)) (now (cw .entry)) (now (bw .entry)) nodes commands blocks) (callOf setup (shopFrom (arraysIn (now (items .entry)) (now (limits .entry)) (now (codes .entry)) (now (lens .entry))))) (r .refusal) (memoryIn (now (ws .exit)) (now (val .exit)) (now (cw .exit)) (now (bw .exit)) (r .nodes) (r .commands) (r .blocks)) ⌝ }
+    ensures { λ r. ⌜ CompiledAs (sheetOf (now (attached .entry)) (sheetBy atcs timer5 timer10 timer15)) (memoryOf (now (ws .entry)) (now (val .entry)) (now (cw .entry)) (now (bw .entry)) (countsBy nodes commands blocks)) (callOf setup (shopFrom (arraysIn (now (items .entry)) (now (limits .entry)) (now (codes .entry)) (now (lens .entry))))) (r .refusal) (memoryOf (now (ws .exit)) (now (val .exit)) (now (cw .exit)) (now (bw .exit)) (countsIn r)) ⌝ }
 {
     let sheet = sheet_by(atcs, timer5, timer10, timer15);
     let counts = Counts {
@@ -239,10 +245,10 @@ pub extern "C" fn lk_with_slots(
     limits: &[i16],
     codes: &[u64],
     lens: &[u8],
-    to_items: &mut [i32; 20],
-    to_limits: &mut [i16; 20],
-    to_codes: &mut [u64; 640],
-    to_lens: &mut [u8; 20],
+    to_items: &mut [i32; SLOTS],
+    to_limits: &mut [i16; SLOTS],
+    to_codes: &mut Codes,
+    to_lens: &mut [u8; SLOTS],
 )
     ensures { λ _. ⌜ arraysIn (now («to_items» .exit)) (now («to_limits» .exit)) (now («to_codes» .exit)) (now («to_lens» .exit)) ≡ twenty (arraysIn (now (items .entry)) (now (limits .entry)) (now (codes .entry)) (now (lens .entry))) ⌝ }
 {
@@ -266,20 +272,20 @@ pub extern "C" fn lk_parse(
     timer5: u16,
     timer10: u16,
     timer15: u16,
-    ws: &[u16; 98304],
-    val: &[i32; 32768],
-    cw: &[u16; 65536],
-    bw: &[u16; 20480],
+    ws: &NodeWords,
+    val: &Values,
+    cw: &CommandWords,
+    bw: &BlockWords,
     nodes: u16,
     commands: u16,
     blocks: u16,
     setup: u32,
-    items: &mut [i32; 20],
-    limits: &mut [i16; 20],
-    codes: &mut [u64; 640],
-    lens: &mut [u8; 20],
+    items: &mut [i32; SLOTS],
+    limits: &mut [i16; SLOTS],
+    codes: &mut Codes,
+    lens: &mut [u8; SLOTS],
 ) -> u8
-    ensures { λ r. ⌜ ParsedInto (parseIn (sheetOf (now (attached .entry)) (sheetBy atcs timer5 timer10 timer15)) (memoryIn (now (ws .entry)) (now (val .entry)) (now (cw .entry)) (now (bw .entry)) nodes commands blocks) setup) r (arraysIn (now (items .exit)) (now (limits .exit)) (now (codes .exit)) (now (lens .exit))) ⌝ }
+    ensures { λ r. ⌜ ParsedInto (parseIn (sheetOf (now (attached .entry)) (sheetBy atcs timer5 timer10 timer15)) (memoryOf (now (ws .entry)) (now (val .entry)) (now (cw .entry)) (now (bw .entry)) (countsBy nodes commands blocks)) setup) r (arraysIn (now (items .exit)) (now (limits .exit)) (now (codes .exit)) (now (lens .exit))) ⌝ }
 {
     let sheet = sheet_by(atcs, timer5, timer10, timer15);
     let counts = Counts {
@@ -311,10 +317,10 @@ pub extern "C" fn lk_preview(
     timer5: u16,
     timer10: u16,
     timer15: u16,
-    items: &[i32; 20],
-    limits: &[i16; 20],
-    codes: &[u64; 640],
-    lens: &[u8; 20],
+    items: &[i32; SLOTS],
+    limits: &[i16; SLOTS],
+    codes: &Codes,
+    lens: &[u8; SLOTS],
     counts: &[i16],
     held: &[u8],
     flags: &[u8],

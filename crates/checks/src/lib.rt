@@ -7,13 +7,18 @@ ghost use Rattle.model.specs.Limits.{blockLimit};
 ghost use Rattle.model.specs.Signed.{inRange};
 ghost use Rattle.model.specs.Sheet.{all, isCount, isBit, saveOk};
 ghost use Rattle.model.specs.Judge.{setupRefusal};
-ghost use Rattle.model.specs.Memory.{Coded, memoryIn, scriptOf};
+ghost use Rattle.model.specs.Memory.{Coded, scriptOf};
 ghost use Rattle.shop.specs.Shapes.{sheetOf};
 ghost use Rattle.model.specs.RecordCalls.{callIn};
+ghost use Rattle.memory.specs.View.{memoryOf};
 ghost use Rattle.checks.specs.Calls.{saveOf, blocksOver};
 use judge::Judged;
 use judge::judge_record;
+use memory::BlockWords;
+use memory::CommandWords;
 use memory::Counts;
+use memory::NodeWords;
+use memory::Values;
 use model::BlockNo;
 use plain::is_plain;
 use shop::Sheet;
@@ -108,7 +113,7 @@ pub fn check_save(
 }
 
 // Checks 6 and 7.
-fn check_setup(bw: &[u16; 20480], blocks: u16, start: BlockNo) -> u8
+fn check_setup(bw: &BlockWords, blocks: u16, start: BlockNo) -> u8
     requires { ⌜ blocks ≤ blockLimit ⌝ }
     ensures { λ r. ⌜ ((co : Coded) → r ≡ setupRefusal (scriptOf (blocksOver co (now (bw .entry)) blocks)) (start .0)) ⌝ }
 {
@@ -130,14 +135,14 @@ fn check_setup(bw: &[u16; 20480], blocks: u16, start: BlockNo) -> u8
 pub fn check_call(
     attached: &[u8],
     sheet: Sheet,
-    ws: &[u16; 98304],
-    val: &[i32; 32768],
-    cw: &[u16; 65536],
-    bw: &[u16; 20480],
+    ws: &NodeWords,
+    val: &Values,
+    cw: &CommandWords,
+    bw: &BlockWords,
     counts: Counts,
     start: BlockNo,
 ) -> u8
-    ensures { λ r. ⌜ r ≡ callIn (sheetOf (now (attached .entry)) sheet) (memoryIn (now (ws .entry)) (now (val .entry)) (now (cw .entry)) (now (bw .entry)) (counts .nodes) (counts .commands) (counts .blocks)) (start .0) ⌝ }
+    ensures { λ r. ⌜ r ≡ callIn (sheetOf (now (attached .entry)) sheet) (memoryOf (now (ws .entry)) (now (val .entry)) (now (cw .entry)) (now (bw .entry)) counts) (start .0) ⌝ }
 {
     if !check_sheet(attached, sheet) {
         return 1;

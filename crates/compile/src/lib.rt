@@ -1,15 +1,22 @@
 // The call compile: its checks in 01's order, then the shop's blocks appended and the setup block linked to them.
 ghost use mathlib.Core.Path.{_≡_};
 ghost use Rattle.model.specs.RecordCalls.{compileRefusalIn};
+ghost use Rattle.memory.specs.View.{memoryOf};
 ghost use Rattle.shop.specs.Shapes.{sheetOf};
 ghost use Rattle.shop_arrays.specs.Arrays.{arraysIn, shopFrom};
-ghost use Rattle.emit.specs.Put.{memoryOf};
 ghost use Rattle.compile.specs.Answer.{callOf, CompiledAs};
 use checks::check_call;
 use compiler::compile_shop;
+use memory::BlockWords;
+use memory::CommandWords;
 use memory::Counts;
+use memory::NodeWords;
+use memory::Values;
 use memory::set_block;
 use model::BlockNo;
+use shop::CODES;
+use shop::Codes;
+use shop::SLOTS;
 use shop::Sheet;
 use shop::Shop;
 use shop_arrays::arrays_of;
@@ -26,16 +33,16 @@ pub struct Compiled {
 fn check_compile(
     attached: &[u8],
     sheet: Sheet,
-    ws: &[u16; 98304],
-    val: &[i32; 32768],
-    cw: &[u16; 65536],
-    bw: &[u16; 20480],
+    ws: &NodeWords,
+    val: &Values,
+    cw: &CommandWords,
+    bw: &BlockWords,
     counts: Counts,
     setup: BlockNo,
-    items: &[i32; 20],
-    limits: &[i16; 20],
-    codes: &[u64; 640],
-    lens: &[u8; 20],
+    items: &[i32; SLOTS],
+    limits: &[i16; SLOTS],
+    codes: &Codes,
+    lens: &[u8; SLOTS],
 ) -> u8
     ensures { λ r. ⌜ r ≡ compileRefusalIn (sheetOf (now (attached .entry)) sheet) (memoryOf (now (ws .entry)) (now (val .entry)) (now (cw .entry)) (now (bw .entry)) counts) (callOf (setup .0) (shopFrom (arraysIn (now (items .entry)) (now (limits .entry)) (now (codes .entry)) (now (lens .entry))))) ⌝ }
 {
@@ -56,16 +63,16 @@ fn check_compile(
 pub fn compile_arrays(
     attached: &[u8],
     sheet: Sheet,
-    ws: &mut [u16; 98304],
-    val: &mut [i32; 32768],
-    cw: &mut [u16; 65536],
-    bw: &mut [u16; 20480],
+    ws: &mut NodeWords,
+    val: &mut Values,
+    cw: &mut CommandWords,
+    bw: &mut BlockWords,
     counts: Counts,
     setup: BlockNo,
-    items: &[i32; 20],
-    limits: &[i16; 20],
-    codes: &[u64; 640],
-    lens: &[u8; 20],
+    items: &[i32; SLOTS],
+    limits: &[i16; SLOTS],
+    codes: &Codes,
+    lens: &[u8; SLOTS],
 ) -> Compiled
     ensures { λ r. ⌜ CompiledAs (sheetOf (now (attached .entry)) sheet) (memoryOf (now (ws .entry)) (now (val .entry)) (now (cw .entry)) (now (bw .entry)) counts) (callOf (setup .0) (shopFrom (arraysIn (now (items .entry)) (now (limits .entry)) (now (codes .entry)) (now (lens .entry))))) (r .refusal) (memoryOf (now (ws .exit)) (now (val .exit)) (now (cw .exit)) (now (bw .exit)) (r .counts)) ⌝ }
 {
@@ -113,20 +120,20 @@ pub fn compile_arrays(
 pub fn compile(
     attached: &[u8],
     sheet: Sheet,
-    ws: &mut [u16; 98304],
-    val: &mut [i32; 32768],
-    cw: &mut [u16; 65536],
-    bw: &mut [u16; 20480],
+    ws: &mut NodeWords,
+    val: &mut Values,
+    cw: &mut CommandWords,
+    bw: &mut BlockWords,
     counts: Counts,
     setup: BlockNo,
     shop: Shop,
 ) -> Compiled
     ensures { λ r. ⌜ CompiledAs (sheetOf (now (attached .entry)) sheet) (memoryOf (now (ws .entry)) (now (val .entry)) (now (cw .entry)) (now (bw .entry)) counts) (callOf (setup .0) shop) (r .refusal) (memoryOf (now (ws .exit)) (now (val .exit)) (now (cw .exit)) (now (bw .exit)) (r .counts)) ⌝ }
 {
-    let mut items = [-1; 20];
-    let mut limits = [0; 20];
-    let mut codes = [0; 640];
-    let mut lens = [0; 20];
+    let mut items = [-1; SLOTS];
+    let mut limits = [0; SLOTS];
+    let mut codes = [0; CODES];
+    let mut lens = [0; SLOTS];
     arrays_of(shop, &mut items, &mut limits, &mut codes, &mut lens);
     compile_arrays(
         attached,

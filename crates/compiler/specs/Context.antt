@@ -7,7 +7,7 @@ use Prim.Native.Nat.{ℕ, zero, suc, _+_, _-_, _≤_, _<_}
 use native.Mathlib.Omega.{arith}
 use lib.IntN.{ℤ}
 use lib.ListN.{length, replicate, length-append, length-replicate}
-use Rattle.model.specs.Limits.{entryLimit}
+use Rattle.model.specs.Limits.{entryLimit, half16}
 use Rattle.model.specs.declared.Op1.the-variants.{Item, Atc}
 use Rattle.model.specs.Requirement.{Requirement, sorted}
 use Rattle.model.specs.Shop.{Timer, plain, five, ten, fifteen, timerOf, limitOf}
@@ -57,7 +57,7 @@ acquired-same ks h w =
     acquired-word (timerOf (sheetOf ks h) w) (atcAt ks w) w
     ∙ ap (λ (a : Option ℕ). orRate (rateOf (timerOf (sheetOf ks h) w)) (test (acquiredReq a w))) (sym (atc-for ks h w))
 
-pub rate-low : (a w : ℕ) (t : Timer) → acquiredBy a w (rateWord t) .rate < 32768
+pub rate-low : (a w : ℕ) (t : Timer) → acquiredBy a w (rateWord t) .rate < half16
 rate-low zero w plain = omega arith
 rate-low zero w five = omega arith
 rate-low zero w ten = omega arith

@@ -7,7 +7,7 @@ use Prim.Native.Nat.{ℕ, zero, suc, _+_, _≤_, _<_}
 use lib.Dec.{leb}
 use lib.IntN.{ℤ, pos}
 use lib.ListN.{length, take}
-use Rattle.model.specs.Limits.{slotCount, entryLimit}
+use Rattle.model.specs.Limits.{slotCount, entryLimit, half16}
 use Rattle.model.specs.Expr.{Expr, imm16}
 use Rattle.model.specs.Script.{Block}
 use Rattle.model.specs.Requirement.{Requirement}
@@ -81,7 +81,7 @@ filledOf x cs = filledBy (x .len) x cs
 pub record Fitting (x : ItemContext) : Type 0 where
   pub index : x .index < slotCount
   pub few : x .len ≤ entryLimit
-  pub rate : x .acquired .rate < 32768
+  pub rate : x .acquired .rate < half16
 
 abbrev pub isFive : Timer → Bool
 isFive plain = false
@@ -93,7 +93,7 @@ isFive fifteen = false
 pub record Stands (x : ItemContext) (h : Model.Sheet) (z : ℤ) : Type 0 where
   pub limit : x .limit ≡ limitOf h (x .item .0) z
   pub acquired : acquiredOf (x .acquired) ≡ acquiredExpr h (x .item .0)
-  pub rate : x .acquired .rate < 32768
+  pub rate : x .acquired .rate < half16
   pub five : x .five ≡ isFive (timerOf h (x .item .0))
   pub ten : x .ten .0 ≡ h .timer10
   pub fifteen : x .fifteen .0 ≡ h .timer15

@@ -2,11 +2,12 @@
 ghost use mathlib.Core.Path.{_≡_};
 ghost use mathlib.Core.List.{[], _∷_};
 ghost use Prim.Native.Nat.{_+_, _-_, _≤_, _<_};
-ghost use Rattle.model.specs.Limits.{slotCount};
+ghost use Rattle.model.specs.Limits.{slotCount, blockLimit};
 ghost use Rattle.model.specs.Compile.{hideBlock, tempVar, slotBlocks, slotsBlocks, shopBlocks};
 ghost use Rattle.memory.specs.Sound.{Room};
-ghost use Rattle.emit.specs.Put.{PutBlocks, memoryOf};
+ghost use Rattle.emit.specs.Put.{PutBlocks};
 ghost use Rattle.model.specs.Expr.{imm};
+ghost use Rattle.memory.specs.View.{memoryOf};
 ghost use Rattle.compiler.specs.Parts.{itemBlock, enableOf, beforeBy, onceOf, uniqueOf, limitIn, soldOf, filledOf, Fitting, isFive};
 ghost use Rattle.compiler.specs.Context.{acquiredBy, Context};
 ghost use Rattle.shop.specs.Shapes.{atcAt, timerIs, sheetOf, slotOf, slotsOf};
@@ -22,11 +23,19 @@ use emit::push_return;
 use emit::push_slot;
 use emit::push_stock;
 use expr_build::Acquired;
+use memory::BlockWords;
+use memory::CommandWords;
 use memory::Counts;
+use memory::NodeWords;
+use memory::Values;
 use model::BlockNo;
 use model::ItemId;
 use model::Op1;
+use shop::Codes;
+use shop::ENTRIES;
 use shop::ItemAtc;
+use shop::Row;
+use shop::SLOTS;
 use shop::Sheet;
 use shop::SlotItem;
 use shop::Timer;
@@ -53,16 +62,16 @@ struct ItemContext {
 
 // H: a slot which is hidden.
 fn compile_slot_hidden(
-    ws: &mut [u16; 98304],
-    val: &mut [i32; 32768],
-    cw: &mut [u16; 65536],
-    bw: &mut [u16; 20480],
+    ws: &mut NodeWords,
+    val: &mut Values,
+    cw: &mut CommandWords,
+    bw: &mut BlockWords,
     k: Counts,
     index: u16,
     end: BlockNo,
 ) -> Counts
     requires { ⌜ Room (memoryOf (now ws) (now val) (now cw) (now bw) k) (hideBlock (end .0) index ∷ []) ⌝ }
-    requires { ⌜ (index < 20) × (end .0 < 4096) ⌝ }
+    requires { ⌜ (index < slotCount) × (end .0 < blockLimit) ⌝ }
     ensures { λ m. ⌜ PutBlocks (memoryOf (now (ws .entry)) (now (val .entry)) (now (cw .entry)) (now (bw .entry)) k) (hideBlock (end .0) index ∷ []) (memoryOf (now (ws .exit)) (now (val .exit)) (now (cw .exit)) (now (bw .exit)) m) ⌝ }
 {
     push_slot(ws, val, cw, bw, k, index, -1, 0, end, false)
@@ -70,17 +79,17 @@ fn compile_slot_hidden(
 
 // D, N and D2: the item with a count, then on to End; by EndIf where a block stands in between.
 fn compile_item(
-    ws: &mut [u16; 98304],
-    val: &mut [i32; 32768],
-    cw: &mut [u16; 65536],
-    bw: &mut [u16; 20480],
+    ws: &mut NodeWords,
+    val: &mut Values,
+    cw: &mut CommandWords,
+    bw: &mut BlockWords,
     k: Counts,
     x: ItemContext,
     count: i32,
     endif: bool,
 ) -> Counts
     requires { ⌜ Room (memoryOf (now ws) (now val) (now cw) (now bw) k) (itemBlock x endif (imm count) ∷ []) ⌝ }
-    requires { ⌜ Fitting x × (x .end .0 < 4096) ⌝ }
+    requires { ⌜ Fitting x × (x .end .0 < blockLimit) ⌝ }
     ensures { λ m. ⌜ PutBlocks (memoryOf (now (ws .entry)) (now (val .entry)) (now (cw .entry)) (now (bw .entry)) k) (itemBlock x endif (imm count) ∷ []) (memoryOf (now (ws .exit)) (now (val .exit)) (now (cw .exit)) (now (bw .exit)) m) ⌝ }
 {
     let index = x.index;
@@ -92,16 +101,16 @@ fn compile_item(
 
 // S: the item with var[0] as its count, likewise.
 fn compile_stock(
-    ws: &mut [u16; 98304],
-    val: &mut [i32; 32768],
-    cw: &mut [u16; 65536],
-    bw: &mut [u16; 20480],
+    ws: &mut NodeWords,
+    val: &mut Values,
+    cw: &mut CommandWords,
+    bw: &mut BlockWords,
     k: Counts,
     x: ItemContext,
     endif: bool,
 ) -> Counts
     requires { ⌜ Room (memoryOf (now ws) (now val) (now cw) (now bw) k) (itemBlock x endif tempVar ∷ []) ⌝ }
-    requires { ⌜ Fitting x × (x .end .0 < 4096) ⌝ }
+    requires { ⌜ Fitting x × (x .end .0 < blockLimit) ⌝ }
     ensures { λ m. ⌜ PutBlocks (memoryOf (now (ws .entry)) (now (val .entry)) (now (cw .entry)) (now (bw .entry)) k) (itemBlock x endif tempVar ∷ []) (memoryOf (now (ws .exit)) (now (val .exit)) (now (cw .exit)) (now (bw .exit)) m) ⌝ }
 {
     let index = x.index;
@@ -112,18 +121,18 @@ fn compile_stock(
 
 // Above N: Timer5 is sold out where neither other timer is held (D2, T), then V.
 fn compile_enable(
-    ws: &mut [u16; 98304],
-    val: &mut [i32; 32768],
-    cw: &mut [u16; 65536],
-    bw: &mut [u16; 20480],
+    ws: &mut NodeWords,
+    val: &mut Values,
+    cw: &mut CommandWords,
+    bw: &mut BlockWords,
     k: Counts,
     x: ItemContext,
-    codes: &[u64; 32],
+    codes: &Row,
     other: BlockNo,
     enable: BlockNo,
 ) -> Counts
     requires { ⌜ Room (memoryOf (now ws) (now val) (now cw) (now bw) k) (enableOf x (now codes) (other .0) (enable .0)) ⌝ }
-    requires { ⌜ Fitting x × (x .end .0 < 4096) × (other .0 < 4096) × (enable .0 ≤ k .blocks) ⌝ }
+    requires { ⌜ Fitting x × (x .end .0 < blockLimit) × (other .0 < blockLimit) × (enable .0 ≤ k .blocks) ⌝ }
     ensures { λ m. ⌜ PutBlocks (memoryOf (now (ws .entry)) (now (val .entry)) (now (cw .entry)) (now (bw .entry)) k) (enableOf x (now (codes .entry)) (other .0) (enable .0)) (memoryOf (now (ws .exit)) (now (val .exit)) (now (cw .exit)) (now (bw .exit)) m) ⌝ }
 {
     let a = x.acquired;
@@ -152,10 +161,10 @@ fn blocks_before(len: u8) -> u32
 
 // D, [E] and N: the item sold out, and the item for sale. Blocks are counted from End: D is the first, or H is and D the second.
 fn compile_sold(
-    ws: &mut [u16; 98304],
-    val: &mut [i32; 32768],
-    cw: &mut [u16; 65536],
-    bw: &mut [u16; 20480],
+    ws: &mut NodeWords,
+    val: &mut Values,
+    cw: &mut CommandWords,
+    bw: &mut BlockWords,
     k: Counts,
     x: ItemContext,
 ) -> Counts
@@ -178,13 +187,13 @@ fn compile_sold(
 
 // A slot which holds a "unique" item that can only be in the inventory once: D, [E], N and what is above.
 fn compile_slot_unique(
-    ws: &mut [u16; 98304],
-    val: &mut [i32; 32768],
-    cw: &mut [u16; 65536],
-    bw: &mut [u16; 20480],
+    ws: &mut NodeWords,
+    val: &mut Values,
+    cw: &mut CommandWords,
+    bw: &mut BlockWords,
     k: Counts,
     x: ItemContext,
-    codes: &[u64; 32],
+    codes: &Row,
 ) -> Counts
     requires { ⌜ Room (memoryOf (now ws) (now val) (now cw) (now bw) k) (uniqueOf x (now codes)) ⌝ }
     requires { ⌜ Fitting x × (x .end .0 + 1 ≤ k .blocks) ⌝ }
@@ -200,13 +209,13 @@ fn compile_slot_unique(
 
 // A slot which may hold more than one item: S, Z, M, [If R].
 fn compile_slot_limit(
-    ws: &mut [u16; 98304],
-    val: &mut [i32; 32768],
-    cw: &mut [u16; 65536],
-    bw: &mut [u16; 20480],
+    ws: &mut NodeWords,
+    val: &mut Values,
+    cw: &mut CommandWords,
+    bw: &mut BlockWords,
     k: Counts,
     x: ItemContext,
-    codes: &[u64; 32],
+    codes: &Row,
 ) -> Counts
     requires { ⌜ Room (memoryOf (now ws) (now val) (now cw) (now bw) k) (limitIn x (now codes)) ⌝ }
     requires { ⌜ Fitting x × (x .end .0 + 1 ≤ k .blocks) ⌝ }
@@ -232,13 +241,13 @@ fn compile_slot_limit(
 
 // After H, if there is one: a limit of 1 needs only 1 or 0 as the count, a higher one what is left of it.
 fn compile_slot_item(
-    ws: &mut [u16; 98304],
-    val: &mut [i32; 32768],
-    cw: &mut [u16; 65536],
-    bw: &mut [u16; 20480],
+    ws: &mut NodeWords,
+    val: &mut Values,
+    cw: &mut CommandWords,
+    bw: &mut BlockWords,
     k: Counts,
     x: ItemContext,
-    codes: &[u64; 32],
+    codes: &Row,
 ) -> Counts
     requires { ⌜ Room (memoryOf (now ws) (now val) (now cw) (now bw) k) (soldOf x (now codes)) ⌝ }
     requires { ⌜ Fitting x × (x .end .0 + 1 ≤ k .blocks) ⌝ }
@@ -252,13 +261,13 @@ fn compile_slot_item(
 
 // A slot with an item: requirements need a block that hides it.
 fn compile_slot_filled(
-    ws: &mut [u16; 98304],
-    val: &mut [i32; 32768],
-    cw: &mut [u16; 65536],
-    bw: &mut [u16; 20480],
+    ws: &mut NodeWords,
+    val: &mut Values,
+    cw: &mut CommandWords,
+    bw: &mut BlockWords,
     k: Counts,
     x: ItemContext,
-    codes: &[u64; 32],
+    codes: &Row,
 ) -> Counts
     requires { ⌜ Room (memoryOf (now ws) (now val) (now cw) (now bw) k) (filledOf x (now codes)) ⌝ }
     requires { ⌜ Fitting x × (x .end .0 + 1 ≤ k .blocks) ⌝ }
@@ -337,15 +346,15 @@ fn item_context(
 fn compile_slot(
     attached: &[u8],
     sheet: Sheet,
-    ws: &mut [u16; 98304],
-    val: &mut [i32; 32768],
-    cw: &mut [u16; 65536],
-    bw: &mut [u16; 20480],
+    ws: &mut NodeWords,
+    val: &mut Values,
+    cw: &mut CommandWords,
+    bw: &mut BlockWords,
     k: Counts,
-    items: &[i32; 20],
-    limits: &[i16; 20],
-    codes: &[u64; 640],
-    lens: &[u8; 20],
+    items: &[i32; SLOTS],
+    limits: &[i16; SLOTS],
+    codes: &Codes,
+    lens: &[u8; SLOTS],
     i: usize,
 ) -> Counts
     requires { ⌜ Room (memoryOf (now ws) (now val) (now cw) (now bw) k) (slotBlocks (sheetOf (now attached) sheet) i (k .blocks - 1) (slotOf (slotAt (arraysIn (now items) (now limits) (now codes) (now lens)) i))) ⌝ }
@@ -358,7 +367,7 @@ fn compile_slot(
     match item {
         SlotItem::Nothing => compile_slot_hidden(ws, val, cw, bw, k, index, end),
         SlotItem::Of(w) => {
-            let mut set = [0; 32];
+            let mut set = [0; ENTRIES];
             let len = sort_row(codes, lens, i, &mut set);
             let x = item_context(attached, sheet, limits[i], w, index, end, len);
             compile_slot_filled(ws, val, cw, bw, k, x, &set)
@@ -370,22 +379,22 @@ fn compile_slot(
 fn compile_slots(
     attached: &[u8],
     sheet: Sheet,
-    ws: &mut [u16; 98304],
-    val: &mut [i32; 32768],
-    cw: &mut [u16; 65536],
-    bw: &mut [u16; 20480],
+    ws: &mut NodeWords,
+    val: &mut Values,
+    cw: &mut CommandWords,
+    bw: &mut BlockWords,
     k: Counts,
-    items: &[i32; 20],
-    limits: &[i16; 20],
-    codes: &[u64; 640],
-    lens: &[u8; 20],
+    items: &[i32; SLOTS],
+    limits: &[i16; SLOTS],
+    codes: &Codes,
+    lens: &[u8; SLOTS],
 ) -> Counts
     requires { ⌜ Room (memoryOf (now ws) (now val) (now cw) (now bw) k) (slotsBlocks (sheetOf (now attached) sheet) (k .blocks - 1) 0 (slotsOf (shopFrom (arraysIn (now items) (now limits) (now codes) (now lens))))) ⌝ }
     requires { ⌜ AllExact (shopFrom (arraysIn (now items) (now limits) (now codes) (now lens))) × (0 < k .blocks) ⌝ }
     ensures { λ m. ⌜ PutBlocks (memoryOf (now (ws .entry)) (now (val .entry)) (now (cw .entry)) (now (bw .entry)) k) (slotsBlocks (sheetOf (now (attached .entry)) sheet) (k .blocks - 1) 0 (slotsOf (shopFrom (arraysIn (now (items .entry)) (now (limits .entry)) (now (codes .entry)) (now (lens .entry)))))) (memoryOf (now (ws .exit)) (now (val .exit)) (now (cw .exit)) (now (bw .exit)) m) ⌝ }
 {
     let mut at = k;
-    let mut i = 20;
+    let mut i = SLOTS;
     while 0 < i {
         i -= 1;
         at = compile_slot(
@@ -410,15 +419,15 @@ fn compile_slots(
 pub fn compile_shop(
     attached: &[u8],
     sheet: Sheet,
-    ws: &mut [u16; 98304],
-    val: &mut [i32; 32768],
-    cw: &mut [u16; 65536],
-    bw: &mut [u16; 20480],
+    ws: &mut NodeWords,
+    val: &mut Values,
+    cw: &mut CommandWords,
+    bw: &mut BlockWords,
     k: Counts,
-    items: &[i32; 20],
-    limits: &[i16; 20],
-    codes: &[u64; 640],
-    lens: &[u8; 20],
+    items: &[i32; SLOTS],
+    limits: &[i16; SLOTS],
+    codes: &Codes,
+    lens: &[u8; SLOTS],
 ) -> Counts
     requires { ⌜ Room (memoryOf (now ws) (now val) (now cw) (now bw) k) (shopBlocks (sheetOf (now attached) sheet) (k .blocks) (slotsOf (shopFrom (arraysIn (now items) (now limits) (now codes) (now lens))))) ⌝ }
     requires { ⌜ AllExact (shopFrom (arraysIn (now items) (now limits) (now codes) (now lens))) ⌝ }

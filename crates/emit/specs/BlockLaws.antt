@@ -11,12 +11,13 @@ use native.Mathlib.Omega.{arith}
 use Rattle.model.specs.Limits.{nodeLimit, commandLimit, blockLimit, itemFirst, countFirst}
 use Rattle.model.specs.Expr.{Expr, size}
 use Rattle.model.specs.Script.{Command, return, setVariable, ifElse, endIf, Block, code, commandNodes, commandsNodes, blockCommands, blockNodes, sumOf}
-use Rattle.model.specs.Memory.{Nodes, Coded, Memory, nodesIn, codedIn, memoryIn, putExpr, commandWords, pushCommand, putCommand, putCommands, blockWords, linkWord, pushBlock, putBlock, putBlocks}
+use Rattle.model.specs.Memory.{Nodes, Coded, Memory, nodesIn, putExpr, commandWords, pushCommand, putCommand, putCommands, blockWords, linkWord, pushBlock, putBlock, putBlocks}
 use Rattle.model.specs.Compile.{emitSet, ifBlock}
+use Rattle.memory.specs.View.{codedOf, memoryOf}
 use Rattle.memory.specs.declared.Counts.{Counts}
 use Rattle.memory.specs.Pushed.{PutExpr, PushedCommand, PutCommand, PushedBlock}
 use Rattle.memory.specs.Sound.{Room}
-use Rattle.emit.specs.Put.{PutCommands, PutBlocks, codedOf, memoryOf}
+use Rattle.emit.specs.Put.{PutCommands, PutBlocks}
 use Rattle.emit.specs.declared.Held.{Held}
 use Rattle.emit.specs.Values.{heldIn, slotBlock, withEnd, PushedEnd, PushedIf}
 

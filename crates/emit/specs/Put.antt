@@ -8,13 +8,6 @@ use Rattle.model.specs.Script.{Command, Block, commandsNodes, blockCommands, bl
 use Rattle.model.specs.Memory.{Coded, Memory, codedIn, memoryIn, putCommands, putBlocks}
 use Rattle.memory.specs.declared.Counts.{Counts}
 
--- the record behind the lent arrays, with its kept counts
-abbrev pub codedOf : List ℕ → List ℤ → List ℕ → Counts → Coded
-codedOf ws vs cw k = codedIn ws vs cw (k .nodes) (k .commands)
-
-abbrev pub memoryOf : List ℕ → List ℤ → List ℕ → List ℕ → Counts → Memory
-memoryOf ws vs cw bw k = memoryIn ws vs cw bw (k .nodes) (k .commands) (k .blocks)
-
 pub record PutCommands (s : Coded) (cs : List Command) (t : Coded) : Type 0 where
   pub is : t ≡ putCommands s cs
   pub counted : t .count ≡ s .count + length cs

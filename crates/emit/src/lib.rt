@@ -2,28 +2,41 @@
 ghost use mathlib.Core.Path.{_≡_};
 ghost use mathlib.Core.List.{[], _∷_};
 ghost use Prim.Native.Nat.{_+_, _-_, _≤_, _<_};
+ghost use Rattle.model.specs.Limits.{blockLimit, commandLimit, entryLimit, half16, nodeLimit, slotCount};
 ghost use Rattle.model.specs.Expr.{imm};
 ghost use Rattle.model.specs.Compile.{emitSet, tempVar, remainingExpr, returnBlock, resetBlock, remainingBlock, ifBlock};
+ghost use Rattle.memory.specs.View.{memoryOf};
 ghost use Rattle.memory.specs.Pushed.{PutCommand};
 ghost use Rattle.memory.specs.Sound.{Room};
 ghost use Rattle.expr_build.specs.Tests.{joinCodes, acquiredOf, missingAnd, bothMissing};
-ghost use Rattle.emit.specs.Put.{PutBlocks, memoryOf};
+ghost use Rattle.emit.specs.Put.{PutBlocks};
 ghost use Rattle.emit.specs.Values.{heldIn, slotBlock, withEnd, PushedEnd, PushedIf};
 use expr_build::Acquired;
 use expr_build::push_acquired;
 use expr_build::push_below;
-use expr_build::push_imm;
 use expr_build::push_imm16;
+use expr_build::push_imm;
 use expr_build::push_left;
 use expr_build::push_missing_and;
 use expr_build::push_no_timer;
 use expr_build::push_temp;
 use expr_build::push_tests;
+use memory::BlockWords;
+use memory::CommandWords;
 use memory::Counts;
+use memory::NodeWords;
+use memory::Values;
 use memory::push_block;
 use memory::push_command;
 use model::BlockNo;
 use model::ItemId;
+use shop::COUNT_FIRST;
+use shop::ITEM_FIRST;
+use shop::Row;
+
+// The variables of item and count of slot 0, as words.
+const ITEM_WORD: u16 = ITEM_FIRST as u16;
+const COUNT_WORD: u16 = COUNT_FIRST as u16;
 
 // The counts of nodes and commands while a block is built.
 pub struct Held {
@@ -33,14 +46,14 @@ pub struct Held {
 
 // emit_set of a number: -1, 0, 1 or an item's id.
 pub fn emit_number(
-    ws: &mut [u16; 98304],
-    val: &mut [i32; 32768],
-    cw: &mut [u16; 65536],
+    ws: &mut NodeWords,
+    val: &mut Values,
+    cw: &mut CommandWords,
     h: Held,
     var: u16,
     z: i32,
 ) -> Held
-    requires { ⌜ (h .nodes + 2 ≤ 32768) × (h .commands < 16384) × (var < 32768) ⌝ }
+    requires { ⌜ (h .nodes + 2 ≤ nodeLimit) × (h .commands < commandLimit) × (var < half16) ⌝ }
     ensures { λ m. ⌜ PutCommand (heldIn (now (ws .entry)) (now (val .entry)) (now (cw .entry)) h) (emitSet var (imm z)) (heldIn (now (ws .exit)) (now (val .exit)) (now (cw .exit)) m) ⌝ }
 {
     let n0 = h.nodes;
@@ -56,13 +69,13 @@ pub fn emit_number(
 
 // emit_set of var[0].
 pub fn emit_temp(
-    ws: &mut [u16; 98304],
-    val: &mut [i32; 32768],
-    cw: &mut [u16; 65536],
+    ws: &mut NodeWords,
+    val: &mut Values,
+    cw: &mut CommandWords,
     h: Held,
     var: u16,
 ) -> Held
-    requires { ⌜ (h .nodes + 3 ≤ 32768) × (h .commands < 16384) × (var < 32768) ⌝ }
+    requires { ⌜ (h .nodes + 3 ≤ nodeLimit) × (h .commands < commandLimit) × (var < half16) ⌝ }
     ensures { λ m. ⌜ PutCommand (heldIn (now (ws .entry)) (now (val .entry)) (now (cw .entry)) h) (emitSet var tempVar) (heldIn (now (ws .exit)) (now (val .exit)) (now (cw .exit)) m) ⌝ }
 {
     let n0 = h.nodes;
@@ -78,14 +91,14 @@ pub fn emit_temp(
 
 // emit_set of what is left of a limit, to var[0].
 pub fn emit_left(
-    ws: &mut [u16; 98304],
-    val: &mut [i32; 32768],
-    cw: &mut [u16; 65536],
+    ws: &mut NodeWords,
+    val: &mut Values,
+    cw: &mut CommandWords,
     h: Held,
     limit: u8,
     item: ItemId,
 ) -> Held
-    requires { ⌜ (h .nodes + 5 ≤ 32768) × (h .commands < 16384) ⌝ }
+    requires { ⌜ (h .nodes + 5 ≤ nodeLimit) × (h .commands < commandLimit) ⌝ }
     ensures { λ m. ⌜ PutCommand (heldIn (now (ws .entry)) (now (val .entry)) (now (cw .entry)) h) (emitSet 0 (remainingExpr limit (item .0))) (heldIn (now (ws .exit)) (now (val .exit)) (now (cw .exit)) m) ⌝ }
 {
     let n0 = h.nodes;
@@ -101,14 +114,14 @@ pub fn emit_left(
 
 // What ends H, D, N and S, whose commands begin at k and reach to h: on to end, by EndIf or as the block last pushed.
 pub fn end_slot(
-    cw: &mut [u16; 65536],
-    bw: &mut [u16; 20480],
+    cw: &mut CommandWords,
+    bw: &mut BlockWords,
     k: Counts,
     h: Held,
     end: BlockNo,
     endif: bool,
 ) -> Counts
-    requires { ⌜ (withEnd endif (h .commands) ≤ 16384) × (k .blocks < 4096) × (end .0 < 4096) ⌝ }
+    requires { ⌜ (withEnd endif (h .commands) ≤ commandLimit) × (k .blocks < blockLimit) × (end .0 < blockLimit) ⌝ }
     ensures { λ m. ⌜ PushedEnd (now (cw .entry)) (now (bw .entry)) k h (end .0) endif (now (cw .exit)) (now (bw .exit)) m ⌝ }
 {
     let c0 = k.commands;
@@ -132,10 +145,10 @@ pub fn end_slot(
 
 // H, D and N: writes two numbers, the item and the count of a slot, then goes to end.
 pub fn push_slot(
-    ws: &mut [u16; 98304],
-    val: &mut [i32; 32768],
-    cw: &mut [u16; 65536],
-    bw: &mut [u16; 20480],
+    ws: &mut NodeWords,
+    val: &mut Values,
+    cw: &mut CommandWords,
+    bw: &mut BlockWords,
     k: Counts,
     index: u16,
     item: i32,
@@ -144,24 +157,24 @@ pub fn push_slot(
     endif: bool,
 ) -> Counts
     requires { ⌜ Room (memoryOf (now ws) (now val) (now cw) (now bw) k) (slotBlock endif (end .0) index (imm item) (imm count) ∷ []) ⌝ }
-    requires { ⌜ (index < 20) × (end .0 < 4096) ⌝ }
+    requires { ⌜ (index < slotCount) × (end .0 < blockLimit) ⌝ }
     ensures { λ m. ⌜ PutBlocks (memoryOf (now (ws .entry)) (now (val .entry)) (now (cw .entry)) (now (bw .entry)) k) (slotBlock endif (end .0) index (imm item) (imm count) ∷ []) (memoryOf (now (ws .exit)) (now (val .exit)) (now (cw .exit)) (now (bw .exit)) m) ⌝ }
 {
     let h0 = Held {
         nodes: k.nodes,
         commands: k.commands,
     };
-    let h1 = emit_number(ws, val, cw, h0, 600 + index, item);
-    let h2 = emit_number(ws, val, cw, h1, 620 + index, count);
+    let h1 = emit_number(ws, val, cw, h0, ITEM_WORD + index, item);
+    let h2 = emit_number(ws, val, cw, h1, COUNT_WORD + index, count);
     end_slot(cw, bw, k, h2, end, endif)
 }
 
 // S: writes the item of a slot and var[0] as its count, then goes to end.
 pub fn push_stock(
-    ws: &mut [u16; 98304],
-    val: &mut [i32; 32768],
-    cw: &mut [u16; 65536],
-    bw: &mut [u16; 20480],
+    ws: &mut NodeWords,
+    val: &mut Values,
+    cw: &mut CommandWords,
+    bw: &mut BlockWords,
     k: Counts,
     index: u16,
     item: i32,
@@ -169,24 +182,24 @@ pub fn push_stock(
     endif: bool,
 ) -> Counts
     requires { ⌜ Room (memoryOf (now ws) (now val) (now cw) (now bw) k) (slotBlock endif (end .0) index (imm item) tempVar ∷ []) ⌝ }
-    requires { ⌜ (index < 20) × (end .0 < 4096) ⌝ }
+    requires { ⌜ (index < slotCount) × (end .0 < blockLimit) ⌝ }
     ensures { λ m. ⌜ PutBlocks (memoryOf (now (ws .entry)) (now (val .entry)) (now (cw .entry)) (now (bw .entry)) k) (slotBlock endif (end .0) index (imm item) tempVar ∷ []) (memoryOf (now (ws .exit)) (now (val .exit)) (now (cw .exit)) (now (bw .exit)) m) ⌝ }
 {
     let h0 = Held {
         nodes: k.nodes,
         commands: k.commands,
     };
-    let h1 = emit_number(ws, val, cw, h0, 600 + index, item);
-    let h2 = emit_temp(ws, val, cw, h1, 620 + index);
+    let h1 = emit_number(ws, val, cw, h0, ITEM_WORD + index, item);
+    let h2 = emit_temp(ws, val, cw, h1, COUNT_WORD + index);
     end_slot(cw, bw, k, h2, end, endif)
 }
 
 // The Return block, which ends every path.
 pub fn push_return(
-    ws: &mut [u16; 98304],
-    val: &mut [i32; 32768],
-    cw: &mut [u16; 65536],
-    bw: &mut [u16; 20480],
+    ws: &mut NodeWords,
+    val: &mut Values,
+    cw: &mut CommandWords,
+    bw: &mut BlockWords,
     k: Counts,
 ) -> Counts
     requires { ⌜ Room (memoryOf (now ws) (now val) (now cw) (now bw) k) (returnBlock ∷ []) ⌝ }
@@ -205,15 +218,15 @@ pub fn push_return(
 
 // Z: var[0] = 0, then on to S.
 pub fn push_reset(
-    ws: &mut [u16; 98304],
-    val: &mut [i32; 32768],
-    cw: &mut [u16; 65536],
-    bw: &mut [u16; 20480],
+    ws: &mut NodeWords,
+    val: &mut Values,
+    cw: &mut CommandWords,
+    bw: &mut BlockWords,
     k: Counts,
     set: BlockNo,
 ) -> Counts
     requires { ⌜ Room (memoryOf (now ws) (now val) (now cw) (now bw) k) (resetBlock (set .0) ∷ []) ⌝ }
-    requires { ⌜ set .0 < 4096 ⌝ }
+    requires { ⌜ set .0 < blockLimit ⌝ }
     ensures { λ m. ⌜ PutBlocks (memoryOf (now (ws .entry)) (now (val .entry)) (now (cw .entry)) (now (bw .entry)) k) (resetBlock (set .0) ∷ []) (memoryOf (now (ws .exit)) (now (val .exit)) (now (cw .exit)) (now (bw .exit)) m) ⌝ }
 {
     let c0 = k.commands;
@@ -234,17 +247,17 @@ pub fn push_reset(
 
 // M: var[0] = limit - item[item]; below 0 on to Z, else to S.
 pub fn push_remaining(
-    ws: &mut [u16; 98304],
-    val: &mut [i32; 32768],
-    cw: &mut [u16; 65536],
-    bw: &mut [u16; 20480],
+    ws: &mut NodeWords,
+    val: &mut Values,
+    cw: &mut CommandWords,
+    bw: &mut BlockWords,
     k: Counts,
     limit: u8,
     item: ItemId,
     set: BlockNo,
 ) -> Counts
     requires { ⌜ Room (memoryOf (now ws) (now val) (now cw) (now bw) k) (remainingBlock limit (item .0) (set .0) ∷ []) ⌝ }
-    requires { ⌜ set .0 < 4096 ⌝ }
+    requires { ⌜ set .0 < blockLimit ⌝ }
     ensures { λ m. ⌜ PutBlocks (memoryOf (now (ws .entry)) (now (val .entry)) (now (cw .entry)) (now (bw .entry)) k) (remainingBlock limit (item .0) (set .0) ∷ []) (memoryOf (now (ws .exit)) (now (val .exit)) (now (cw .exit)) (now (bw .exit)) m) ⌝ }
 {
     let c0 = k.commands;
@@ -267,14 +280,14 @@ pub fn push_remaining(
 
 // emit_if_else, in a block of its own: the condition's nodes are there and end at n.
 pub fn push_if(
-    cw: &mut [u16; 65536],
-    bw: &mut [u16; 20480],
+    cw: &mut CommandWords,
+    bw: &mut BlockWords,
     k: Counts,
     n: u16,
     next: BlockNo,
     other: BlockNo,
 ) -> Counts
-    requires { ⌜ (0 < n) × (k .commands < 16384) × (k .blocks < 4096) × (next .0 < 4096) × (other .0 < 4096) ⌝ }
+    requires { ⌜ (0 < n) × (k .commands < commandLimit) × (k .blocks < blockLimit) × (next .0 < blockLimit) × (other .0 < blockLimit) ⌝ }
     ensures { λ m. ⌜ PushedIf (now (cw .entry)) (now (bw .entry)) k n (next .0) (other .0) (now (cw .exit)) (now (bw .exit)) m ⌝ }
 {
     let c0 = k.commands;
@@ -292,17 +305,17 @@ pub fn push_if(
 
 // E: If acquired.
 pub fn push_if_acquired(
-    ws: &mut [u16; 98304],
-    val: &mut [i32; 32768],
-    cw: &mut [u16; 65536],
-    bw: &mut [u16; 20480],
+    ws: &mut NodeWords,
+    val: &mut Values,
+    cw: &mut CommandWords,
+    bw: &mut BlockWords,
     k: Counts,
     a: Acquired,
     next: BlockNo,
     other: BlockNo,
 ) -> Counts
     requires { ⌜ Room (memoryOf (now ws) (now val) (now cw) (now bw) k) (ifBlock (next .0) (acquiredOf a) (other .0) ∷ []) ⌝ }
-    requires { ⌜ (a .rate < 32768) × (next .0 < 4096) × (other .0 < 4096) ⌝ }
+    requires { ⌜ (a .rate < half16) × (next .0 < blockLimit) × (other .0 < blockLimit) ⌝ }
     ensures { λ m. ⌜ PutBlocks (memoryOf (now (ws .entry)) (now (val .entry)) (now (cw .entry)) (now (bw .entry)) k) (ifBlock (next .0) (acquiredOf a) (other .0) ∷ []) (memoryOf (now (ws .exit)) (now (val .exit)) (now (cw .exit)) (now (bw .exit)) m) ⌝ }
 {
     let n0 = k.nodes;
@@ -312,10 +325,10 @@ pub fn push_if_acquired(
 
 // T: If Timer10 and Timer15 are missing.
 pub fn push_if_no_timer(
-    ws: &mut [u16; 98304],
-    val: &mut [i32; 32768],
-    cw: &mut [u16; 65536],
-    bw: &mut [u16; 20480],
+    ws: &mut NodeWords,
+    val: &mut Values,
+    cw: &mut CommandWords,
+    bw: &mut BlockWords,
     k: Counts,
     ten: ItemId,
     fifteen: ItemId,
@@ -323,7 +336,7 @@ pub fn push_if_no_timer(
     other: BlockNo,
 ) -> Counts
     requires { ⌜ Room (memoryOf (now ws) (now val) (now cw) (now bw) k) (ifBlock (next .0) (bothMissing (ten .0) (fifteen .0)) (other .0) ∷ []) ⌝ }
-    requires { ⌜ (next .0 < 4096) × (other .0 < 4096) ⌝ }
+    requires { ⌜ (next .0 < blockLimit) × (other .0 < blockLimit) ⌝ }
     ensures { λ m. ⌜ PutBlocks (memoryOf (now (ws .entry)) (now (val .entry)) (now (cw .entry)) (now (bw .entry)) k) (ifBlock (next .0) (bothMissing (ten .0) (fifteen .0)) (other .0) ∷ []) (memoryOf (now (ws .exit)) (now (val .exit)) (now (cw .exit)) (now (bw .exit)) m) ⌝ }
 {
     let n0 = k.nodes;
@@ -333,19 +346,19 @@ pub fn push_if_no_timer(
 
 // V: If not acquired, and R where there are requirements.
 pub fn push_if_missing(
-    ws: &mut [u16; 98304],
-    val: &mut [i32; 32768],
-    cw: &mut [u16; 65536],
-    bw: &mut [u16; 20480],
+    ws: &mut NodeWords,
+    val: &mut Values,
+    cw: &mut CommandWords,
+    bw: &mut BlockWords,
     k: Counts,
     a: Acquired,
-    codes: &[u64; 32],
+    codes: &Row,
     len: u8,
     next: BlockNo,
     other: BlockNo,
 ) -> Counts
     requires { ⌜ Room (memoryOf (now ws) (now val) (now cw) (now bw) k) (ifBlock (next .0) (missingAnd a (now codes) len) (other .0) ∷ []) ⌝ }
-    requires { ⌜ (a .rate < 32768) × (len ≤ 32) × (next .0 < 4096) × (other .0 < 4096) ⌝ }
+    requires { ⌜ (a .rate < half16) × (len ≤ entryLimit) × (next .0 < blockLimit) × (other .0 < blockLimit) ⌝ }
     ensures { λ m. ⌜ PutBlocks (memoryOf (now (ws .entry)) (now (val .entry)) (now (cw .entry)) (now (bw .entry)) k) (ifBlock (next .0) (missingAnd a (now (codes .entry)) len) (other .0) ∷ []) (memoryOf (now (ws .exit)) (now (val .exit)) (now (cw .exit)) (now (bw .exit)) m) ⌝ }
 {
     let n0 = k.nodes;
@@ -355,18 +368,18 @@ pub fn push_if_missing(
 
 // If R.
 pub fn push_if_visible(
-    ws: &mut [u16; 98304],
-    val: &mut [i32; 32768],
-    cw: &mut [u16; 65536],
-    bw: &mut [u16; 20480],
+    ws: &mut NodeWords,
+    val: &mut Values,
+    cw: &mut CommandWords,
+    bw: &mut BlockWords,
     k: Counts,
-    codes: &[u64; 32],
+    codes: &Row,
     len: u8,
     next: BlockNo,
     other: BlockNo,
 ) -> Counts
     requires { ⌜ Room (memoryOf (now ws) (now val) (now cw) (now bw) k) (ifBlock (next .0) (joinCodes (now codes) len) (other .0) ∷ []) ⌝ }
-    requires { ⌜ (0 < len) × (len ≤ 32) × (next .0 < 4096) × (other .0 < 4096) ⌝ }
+    requires { ⌜ (0 < len) × (len ≤ entryLimit) × (next .0 < blockLimit) × (other .0 < blockLimit) ⌝ }
     ensures { λ m. ⌜ PutBlocks (memoryOf (now (ws .entry)) (now (val .entry)) (now (cw .entry)) (now (bw .entry)) k) (ifBlock (next .0) (joinCodes (now (codes .entry)) len) (other .0) ∷ []) (memoryOf (now (ws .exit)) (now (val .exit)) (now (cw .exit)) (now (bw .exit)) m) ⌝ }
 {
     let n0 = k.nodes;

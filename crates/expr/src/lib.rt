@@ -2,6 +2,7 @@
 ghost use mathlib.Core.Path.{_≡_};
 ghost use Prim.Native.Nat.{ℕ, _≤_, _<_};
 ghost use lib.IntN.{pos};
+ghost use Rattle.model.specs.Limits.{nodeLimit};
 ghost use Rattle.model.specs.Save.{natAt, intAt};
 ghost use Rattle.model.specs.Expr.{apply2, apply1, eval};
 ghost use Rattle.model.specs.Memory.{nodesIn};
@@ -9,6 +10,8 @@ ghost use Rattle.model.specs.Parse.{value, isJoin};
 ghost use Rattle.expr.specs.Tree.{treeBelow};
 ghost use Rattle.expr.specs.Requirement.{numberOf};
 ghost use Rattle.expr.specs.Value.{valueOf, reads, placeOf, join2, join1, unpackedOf, Packed};
+use memory::NodeWords;
+use memory::Values;
 use memory::kind_of;
 use model::Kind;
 use model::Op1;
@@ -121,8 +124,8 @@ pub enum MaybeNumber {
 }
 
 // The number of node i as an operand of node b, if it is an Imm.
-pub fn number_below(ws: &[u16; 98304], val: &[i32; 32768], b: u16, i: u16) -> MaybeNumber
-    requires { ⌜ b ≤ 32768 ⌝ }
+pub fn number_below(ws: &NodeWords, val: &Values, b: u16, i: u16) -> MaybeNumber
+    requires { ⌜ b ≤ nodeLimit ⌝ }
     ensures { λ r. ⌜ ((n : ℕ) → numberOf r ≡ value (treeBelow (nodesIn (now (ws .entry)) (now (val .entry)) n) b i)) ⌝ }
 {
     if i >= b {
@@ -194,8 +197,8 @@ fn unpacked(x: u64) -> Value
 // What node i is worth as an operand of node b, by a save of these parts and the variables of the moment. Both operands are
 // evaluated, left first; an Imm is read on the spot.
 fn evaluate_below(
-    ws: &[u16; 98304],
-    val: &[i32; 32768],
+    ws: &NodeWords,
+    val: &Values,
     b: u16,
     i: u16,
     items: &[i16],
@@ -204,7 +207,7 @@ fn evaluate_below(
     times: &[i16],
     vars: &[i32; 1024],
 ) -> u64
-    requires { ⌜ b ≤ 32768 ⌝ }
+    requires { ⌜ b ≤ nodeLimit ⌝ }
     ensures { λ r. ⌜ ((n : ℕ) → valueOf (unpackedOf r) ≡ eval (reads (now (items .entry)) (now (atcs .entry)) (now (flags .entry)) (now (times .entry))) (now (vars .entry)) (treeBelow (nodesIn (now (ws .entry)) (now (val .entry)) n) b i)) × (r < 4294967552) ⌝ }
 {
     if i >= b {
@@ -255,8 +258,8 @@ fn evaluate_below(
 
 // What node i is worth as an operand of node b; a root is taken as an operand of node i + 1. An Imm takes no call.
 pub fn evaluate(
-    ws: &[u16; 98304],
-    val: &[i32; 32768],
+    ws: &NodeWords,
+    val: &Values,
     b: u16,
     i: u16,
     items: &[i16],
@@ -265,7 +268,7 @@ pub fn evaluate(
     times: &[i16],
     vars: &[i32; 1024],
 ) -> Value
-    requires { ⌜ b ≤ 32768 ⌝ }
+    requires { ⌜ b ≤ nodeLimit ⌝ }
     ensures { λ r. ⌜ ((n : ℕ) → valueOf r ≡ eval (reads (now (items .entry)) (now (atcs .entry)) (now (flags .entry)) (now (times .entry))) (now (vars .entry)) (treeBelow (nodesIn (now (ws .entry)) (now (val .entry)) n) b i)) ⌝ }
 {
     let v = number_below(ws, val, b, i);

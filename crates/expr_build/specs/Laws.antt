@@ -10,6 +10,7 @@ use lib.Dec.{ltb}
 use borrow.Author.Tests.{ltb-true, ltb-false, lt-ltb, le-ltb}
 use native.Mathlib.Omega.{arith}
 use mir.Syntax.{w16}
+use Rattle.model.specs.Limits.{half16}
 use Rattle.model.specs.Signed.{inRange}
 use Rattle.model.specs.Image.{code2, code1}
 use Rattle.model.specs.Expr.{Expr, two, one, imm16, imm32, other, size, imm}
@@ -50,17 +51,17 @@ size-imm z = by (inRange w16 z)
 pub imm-below : (z : ℤ) → ltZ z (negsuc 32767) ≡ true → imm z ≡ imm32 z
 unfolding imm
 imm-below (pos n) h = let f : _≡_ {A = ℕ} 0 1 = cc in absurd (omega arith)
-imm-below (negsuc n) h = rw (le-ltb n 32768 (omega (arith, ltb-true 32767 n h)))
+imm-below (negsuc n) h = rw (le-ltb n half16 (omega (arith, ltb-true 32767 n h)))
 
 pub imm-above : (z : ℤ) → ltZ (pos 32767) z ≡ true → imm z ≡ imm32 z
 unfolding imm
-imm-above (pos n) h = rw (le-ltb n 32768 (omega (arith, ltb-true 32767 n h)))
+imm-above (pos n) h = rw (le-ltb n half16 (omega (arith, ltb-true 32767 n h)))
 imm-above (negsuc n) h = let f : _≡_ {A = ℕ} 0 1 = cc in absurd (omega arith)
 
 pub imm-between : (z : ℤ) → ltZ z (negsuc 32767) ≡ false → ltZ (pos 32767) z ≡ false → imm z ≡ imm16 z
 unfolding imm
-imm-between (pos n) h g = rw (lt-ltb n 32768 (omega (arith, ltb-false 32767 n g)))
-imm-between (negsuc n) h g = rw (lt-ltb n 32768 (omega (arith, ltb-false 32767 n h)))
+imm-between (pos n) h g = rw (lt-ltb n half16 (omega (arith, ltb-false 32767 n g)))
+imm-between (negsuc n) h g = rw (lt-ltb n half16 (omega (arith, ltb-false 32767 n h)))
 
 pub imm-put : {s t : Nodes} {z : ℤ} → PutImm s z t → PutExpr s (imm z) t
 imm-put {s} {t} {z} p = record { is = p .is; counted = omega (arith, p .counted, size-imm z) }

@@ -2,6 +2,7 @@
 ghost use mathlib.Core.Path.{_≡_};
 ghost use Prim.Native.Nat.{_+_, _≤_, _<_};
 ghost use lib.IntN.{pos};
+ghost use Rattle.model.specs.Limits.{entryLimit, half16, nodeLimit};
 ghost use Rattle.model.specs.Image.{code2, code1};
 ghost use Rattle.model.specs.Expr.{imm, imm16, one, two, size, negate};
 ghost use Rattle.model.specs.Compile.{test, tempVar, remainingExpr};
@@ -13,12 +14,16 @@ ghost use Rattle.memory.specs.Pushed.{PushedNode, PutExpr};
 ghost use Rattle.expr_build.specs.Put.{PutImm};
 ghost use Rattle.expr_build.specs.Tests.{withZero, joinCodes, rateTest, acquiredOf, missingAnd, bothMissing};
 use expr_negate::negate;
+use memory::NodeWords;
+use memory::Values;
 use memory::code_one;
 use memory::code_two;
 use memory::push_node;
 use model::ItemId;
+use model::LEAST16;
 use model::Op1;
 use model::Op2;
+use shop::Row;
 use shop::capacity;
 use shop_codes::Subject;
 use shop_codes::is_missing;
@@ -32,35 +37,35 @@ pub struct Acquired {
 }
 
 // A node over two operands.
-fn push_two(ws: &mut [u16; 98304], val: &mut [i32; 32768], n: u16, o: Op2, a: u16, b: u16) -> u16
-    requires { ⌜ n < 32768 ⌝ }
+fn push_two(ws: &mut NodeWords, val: &mut Values, n: u16, o: Op2, a: u16, b: u16) -> u16
+    requires { ⌜ n < nodeLimit ⌝ }
     ensures { λ m. ⌜ PushedNode (nodesIn (now (ws .entry)) (now (val .entry)) n) (code2 o) a b (pos 0) (nodesIn (now (ws .exit)) (now (val .exit)) m) ⌝ }
 {
     push_node(ws, val, n, code_two(o), a, b, 0)
 }
 
 // A node over one operand.
-fn push_one(ws: &mut [u16; 98304], val: &mut [i32; 32768], n: u16, o: Op1, a: u16) -> u16
-    requires { ⌜ n < 32768 ⌝ }
+fn push_one(ws: &mut NodeWords, val: &mut Values, n: u16, o: Op1, a: u16) -> u16
+    requires { ⌜ n < nodeLimit ⌝ }
     ensures { λ m. ⌜ PushedNode (nodesIn (now (ws .entry)) (now (val .entry)) n) (code1 o) a 0 (pos 0) (nodesIn (now (ws .exit)) (now (val .exit)) m) ⌝ }
 {
     push_node(ws, val, n, code_one(o), a, 0, 0)
 }
 
 // A small number of our own: variables, rates, counts.
-pub fn push_imm16(ws: &mut [u16; 98304], val: &mut [i32; 32768], n: u16, k: u16) -> u16
-    requires { ⌜ (n < 32768) × (k < 32768) ⌝ }
+pub fn push_imm16(ws: &mut NodeWords, val: &mut Values, n: u16, k: u16) -> u16
+    requires { ⌜ (n < nodeLimit) × (k < half16) ⌝ }
     ensures { λ m. ⌜ PutExpr (nodesIn (now (ws .entry)) (now (val .entry)) n) (imm16 (pos k)) (nodesIn (now (ws .exit)) (now (val .exit)) m) ⌝ }
 {
     push_node(ws, val, n, 11, 0, 0, k as i32)
 }
 
 // Expr::imm: Imm16 where the number fits.
-pub fn push_imm(ws: &mut [u16; 98304], val: &mut [i32; 32768], n: u16, z: i32) -> u16
-    requires { ⌜ n < 32768 ⌝ }
+pub fn push_imm(ws: &mut NodeWords, val: &mut Values, n: u16, z: i32) -> u16
+    requires { ⌜ n < nodeLimit ⌝ }
     ensures { λ m. ⌜ PutImm (nodesIn (now (ws .entry)) (now (val .entry)) n) z (nodesIn (now (ws .exit)) (now (val .exit)) m) ⌝ }
 {
-    if z < -32768 {
+    if z < LEAST16 {
         return push_node(ws, val, n, 12, 0, 0, z);
     }
     if z > 32767 {
@@ -70,8 +75,8 @@ pub fn push_imm(ws: &mut [u16; 98304], val: &mut [i32; 32768], n: u16, z: i32) -
 }
 
 // o[z] != 0
-fn push_compare(ws: &mut [u16; 98304], val: &mut [i32; 32768], n: u16, o: Op1, z: i32) -> u16
-    requires { ⌜ n + 4 ≤ 32768 ⌝ }
+fn push_compare(ws: &mut NodeWords, val: &mut Values, n: u16, o: Op1, z: i32) -> u16
+    requires { ⌜ n + 4 ≤ nodeLimit ⌝ }
     ensures { λ m. ⌜ PutExpr (nodesIn (now (ws .entry)) (now (val .entry)) n) (withZero NotEqual o z) (nodesIn (now (ws .exit)) (now (val .exit)) m) ⌝ }
 {
     let n1 = push_imm(ws, val, n, z);
@@ -81,8 +86,8 @@ fn push_compare(ws: &mut [u16; 98304], val: &mut [i32; 32768], n: u16, o: Op1, z
 }
 
 // flag[z]
-fn push_flag(ws: &mut [u16; 98304], val: &mut [i32; 32768], n: u16, z: i32) -> u16
-    requires { ⌜ n + 2 ≤ 32768 ⌝ }
+fn push_flag(ws: &mut NodeWords, val: &mut Values, n: u16, z: i32) -> u16
+    requires { ⌜ n + 2 ≤ nodeLimit ⌝ }
     ensures { λ m. ⌜ PutExpr (nodesIn (now (ws .entry)) (now (val .entry)) n) (one Flag (imm z)) (nodesIn (now (ws .exit)) (now (val .exit)) m) ⌝ }
 {
     let n1 = push_imm(ws, val, n, z);
@@ -90,8 +95,8 @@ fn push_flag(ws: &mut [u16; 98304], val: &mut [i32; 32768], n: u16, z: i32) -> u
 }
 
 // The test of what a requirement is about, had or missing.
-fn push_subject(ws: &mut [u16; 98304], val: &mut [i32; 32768], n: u16, code: u64) -> u16
-    requires { ⌜ n + size (test (subject (requirementOf code))) ≤ 32768 ⌝ }
+fn push_subject(ws: &mut NodeWords, val: &mut Values, n: u16, code: u64) -> u16
+    requires { ⌜ n + size (test (subject (requirementOf code))) ≤ nodeLimit ⌝ }
     ensures { λ m. ⌜ PutExpr (nodesIn (now (ws .entry)) (now (val .entry)) n) (test (subject (requirementOf code))) (nodesIn (now (ws .exit)) (now (val .exit)) m) ⌝ }
 {
     let about = subject_of(code);
@@ -103,8 +108,8 @@ fn push_subject(ws: &mut [u16; 98304], val: &mut [i32; 32768], n: u16, code: u64
 }
 
 // compile_requirement: the test of one requirement; Missing is the negation.
-fn push_test(ws: &mut [u16; 98304], val: &mut [i32; 32768], n: u16, code: u64) -> u16
-    requires { ⌜ n + size (test (requirementOf code)) ≤ 32768 ⌝ }
+fn push_test(ws: &mut NodeWords, val: &mut Values, n: u16, code: u64) -> u16
+    requires { ⌜ n + size (test (requirementOf code)) ≤ nodeLimit ⌝ }
     ensures { λ m. ⌜ PutExpr (nodesIn (now (ws .entry)) (now (val .entry)) n) (test (requirementOf code)) (nodesIn (now (ws .exit)) (now (val .exit)) m) ⌝ }
 {
     let m = push_subject(ws, val, n, code);
@@ -116,14 +121,14 @@ fn push_test(ws: &mut [u16; 98304], val: &mut [i32; 32768], n: u16, code: u64) -
 
 // compile_requirements: the tests of the first len codes joined, leftmost deepest.
 pub fn push_tests(
-    ws: &mut [u16; 98304],
-    val: &mut [i32; 32768],
+    ws: &mut NodeWords,
+    val: &mut Values,
     n: u16,
-    codes: &[u64; 32],
+    codes: &Row,
     len: u8,
 ) -> u16
-    requires { ⌜ (0 < len) × (len ≤ 32) ⌝ }
-    requires { ⌜ n + size (joinCodes (now codes) len) ≤ 32768 ⌝ }
+    requires { ⌜ (0 < len) × (len ≤ entryLimit) ⌝ }
+    requires { ⌜ n + size (joinCodes (now codes) len) ≤ nodeLimit ⌝ }
     ensures { λ m. ⌜ PutExpr (nodesIn (now (ws .entry)) (now (val .entry)) n) (joinCodes (now (codes .entry)) len) (nodesIn (now (ws .exit)) (now (val .exit)) m) ⌝ }
 {
     capacity(codes);
@@ -140,8 +145,8 @@ pub fn push_tests(
 }
 
 // time[2] == rate
-fn push_rate(ws: &mut [u16; 98304], val: &mut [i32; 32768], n: u16, rate: u16) -> u16
-    requires { ⌜ (n + 4 ≤ 32768) × (rate < 32768) ⌝ }
+fn push_rate(ws: &mut NodeWords, val: &mut Values, n: u16, rate: u16) -> u16
+    requires { ⌜ (n + 4 ≤ nodeLimit) × (rate < half16) ⌝ }
     ensures { λ m. ⌜ PutExpr (nodesIn (now (ws .entry)) (now (val .entry)) n) (rateTest rate) (nodesIn (now (ws .exit)) (now (val .exit)) m) ⌝ }
 {
     let n1 = push_imm16(ws, val, n, 2);
@@ -151,8 +156,8 @@ fn push_rate(ws: &mut [u16; 98304], val: &mut [i32; 32768], n: u16, rate: u16) -
 }
 
 // The item's or atc's test, or a timer's rate.
-pub fn push_acquired(ws: &mut [u16; 98304], val: &mut [i32; 32768], n: u16, a: Acquired) -> u16
-    requires { ⌜ (n + size (acquiredOf a) ≤ 32768) × (a .rate < 32768) ⌝ }
+pub fn push_acquired(ws: &mut NodeWords, val: &mut Values, n: u16, a: Acquired) -> u16
+    requires { ⌜ (n + size (acquiredOf a) ≤ nodeLimit) × (a .rate < half16) ⌝ }
     ensures { λ m. ⌜ PutExpr (nodesIn (now (ws .entry)) (now (val .entry)) n) (acquiredOf a) (nodesIn (now (ws .exit)) (now (val .exit)) m) ⌝ }
 {
     let of = a.of;
@@ -165,8 +170,8 @@ pub fn push_acquired(ws: &mut [u16; 98304], val: &mut [i32; 32768], n: u16, a: A
     push_two(ws, val, n2, Op2::BitOr, n1 - 1, n2 - 1)
 }
 
-fn push_missing(ws: &mut [u16; 98304], val: &mut [i32; 32768], n: u16, a: Acquired) -> u16
-    requires { ⌜ (n + size (negate (acquiredOf a)) ≤ 32768) × (a .rate < 32768) ⌝ }
+fn push_missing(ws: &mut NodeWords, val: &mut Values, n: u16, a: Acquired) -> u16
+    requires { ⌜ (n + size (negate (acquiredOf a)) ≤ nodeLimit) × (a .rate < half16) ⌝ }
     ensures { λ m. ⌜ PutExpr (nodesIn (now (ws .entry)) (now (val .entry)) n) (negate (acquiredOf a)) (nodesIn (now (ws .exit)) (now (val .exit)) m) ⌝ }
 {
     let m = push_acquired(ws, val, n, a);
@@ -175,14 +180,14 @@ fn push_missing(ws: &mut [u16; 98304], val: &mut [i32; 32768], n: u16, a: Acquir
 
 // Not acquired, and R where there are requirements.
 pub fn push_missing_and(
-    ws: &mut [u16; 98304],
-    val: &mut [i32; 32768],
+    ws: &mut NodeWords,
+    val: &mut Values,
     n: u16,
     a: Acquired,
-    codes: &[u64; 32],
+    codes: &Row,
     len: u8,
 ) -> u16
-    requires { ⌜ (n + size (missingAnd a (now codes) len) ≤ 32768) × (a .rate < 32768) × (len ≤ 32) ⌝ }
+    requires { ⌜ (n + size (missingAnd a (now codes) len) ≤ nodeLimit) × (a .rate < half16) × (len ≤ entryLimit) ⌝ }
     ensures { λ m. ⌜ PutExpr (nodesIn (now (ws .entry)) (now (val .entry)) n) (missingAnd a (now (codes .entry)) len) (nodesIn (now (ws .exit)) (now (val .exit)) m) ⌝ }
 {
     let n1 = push_missing(ws, val, n, a);
@@ -194,8 +199,8 @@ pub fn push_missing_and(
 }
 
 // MissingItem of one of our own.
-fn push_missing_item(ws: &mut [u16; 98304], val: &mut [i32; 32768], n: u16, item: ItemId) -> u16
-    requires { ⌜ n + 4 ≤ 32768 ⌝ }
+fn push_missing_item(ws: &mut NodeWords, val: &mut Values, n: u16, item: ItemId) -> u16
+    requires { ⌜ n + 4 ≤ nodeLimit ⌝ }
     ensures { λ m. ⌜ PutExpr (nodesIn (now (ws .entry)) (now (val .entry)) n) (negate (withZero NotEqual Item (pos (item .0)))) (nodesIn (now (ws .exit)) (now (val .exit)) m) ⌝ }
 {
     let m = push_compare(ws, val, n, Op1::Item, item.0 as i32);
@@ -204,13 +209,13 @@ fn push_missing_item(ws: &mut [u16; 98304], val: &mut [i32; 32768], n: u16, item
 
 // Two items missing: Timer10 and Timer15.
 pub fn push_no_timer(
-    ws: &mut [u16; 98304],
-    val: &mut [i32; 32768],
+    ws: &mut NodeWords,
+    val: &mut Values,
     n: u16,
     ten: ItemId,
     fifteen: ItemId,
 ) -> u16
-    requires { ⌜ n + 9 ≤ 32768 ⌝ }
+    requires { ⌜ n + 9 ≤ nodeLimit ⌝ }
     ensures { λ m. ⌜ PutExpr (nodesIn (now (ws .entry)) (now (val .entry)) n) (bothMissing (ten .0) (fifteen .0)) (nodesIn (now (ws .exit)) (now (val .exit)) m) ⌝ }
 {
     let n1 = push_missing_item(ws, val, n, ten);
@@ -220,13 +225,13 @@ pub fn push_no_timer(
 
 // limit - item[item]
 pub fn push_left(
-    ws: &mut [u16; 98304],
-    val: &mut [i32; 32768],
+    ws: &mut NodeWords,
+    val: &mut Values,
     n: u16,
     limit: u8,
     item: ItemId,
 ) -> u16
-    requires { ⌜ n + 4 ≤ 32768 ⌝ }
+    requires { ⌜ n + 4 ≤ nodeLimit ⌝ }
     ensures { λ m. ⌜ PutExpr (nodesIn (now (ws .entry)) (now (val .entry)) n) (remainingExpr limit (item .0)) (nodesIn (now (ws .exit)) (now (val .exit)) m) ⌝ }
 {
     let n1 = push_imm16(ws, val, n, limit as u16);
@@ -236,8 +241,8 @@ pub fn push_left(
 }
 
 // var[0]
-pub fn push_temp(ws: &mut [u16; 98304], val: &mut [i32; 32768], n: u16) -> u16
-    requires { ⌜ n + 2 ≤ 32768 ⌝ }
+pub fn push_temp(ws: &mut NodeWords, val: &mut Values, n: u16) -> u16
+    requires { ⌜ n + 2 ≤ nodeLimit ⌝ }
     ensures { λ m. ⌜ PutExpr (nodesIn (now (ws .entry)) (now (val .entry)) n) tempVar (nodesIn (now (ws .exit)) (now (val .exit)) m) ⌝ }
 {
     let n1 = push_imm16(ws, val, n, 0);
@@ -245,8 +250,8 @@ pub fn push_temp(ws: &mut [u16; 98304], val: &mut [i32; 32768], n: u16) -> u16
 }
 
 // var[0] < 0
-pub fn push_below(ws: &mut [u16; 98304], val: &mut [i32; 32768], n: u16) -> u16
-    requires { ⌜ n + 4 ≤ 32768 ⌝ }
+pub fn push_below(ws: &mut NodeWords, val: &mut Values, n: u16) -> u16
+    requires { ⌜ n + 4 ≤ nodeLimit ⌝ }
     ensures { λ m. ⌜ PutExpr (nodesIn (now (ws .entry)) (now (val .entry)) n) (two Less tempVar (imm16 (pos 0))) (nodesIn (now (ws .exit)) (now (val .exit)) m) ⌝ }
 {
     let n1 = push_temp(ws, val, n);

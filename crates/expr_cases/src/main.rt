@@ -6,11 +6,15 @@ ghost use Rattle.expr_cases.specs.Chain.{yes, chain};
 use expr::Value;
 use expr::evaluate;
 use expr_negate::negate;
+use memory::NODES;
+use memory::NODE_WORDS;
+use memory::NodeWords;
+use memory::Values;
 use memory::push_node;
 
 fn main() {
-    let mut ws = [0u16; 98304];
-    let mut val = [0i32; 32768];
+    let mut ws = [0u16; NODE_WORDS];
+    let mut val = [0i32; NODES];
     deepest(&mut ws, &mut val);
     shared(&mut ws, &mut val);
     largest(&mut ws, &mut val);
@@ -19,7 +23,7 @@ fn main() {
 // ---- depth 64
 
 // 1 == 1
-fn push_yes(ws: &mut [u16; 98304], val: &mut [i32; 32768], n: u16) -> u16
+fn push_yes(ws: &mut NodeWords, val: &mut Values, n: u16) -> u16
     requires { ⌜ n + 3 ≤ 32768 ⌝ }
     ensures { λ m. ⌜ PutExpr (nodesIn (now (ws .entry)) (now (val .entry)) n) yes (nodesIn (now (ws .exit)) (now (val .exit)) m) ⌝ }
 {
@@ -28,7 +32,7 @@ fn push_yes(ws: &mut [u16; 98304], val: &mut [i32; 32768], n: u16) -> u16
     push_node(ws, val, r, 0, l - 1, r - 1, 0)
 }
 
-fn push_chain(ws: &mut [u16; 98304], val: &mut [i32; 32768], n: u16, d: u16) -> u16
+fn push_chain(ws: &mut NodeWords, val: &mut Values, n: u16, d: u16) -> u16
     requires { ⌜ n + (4 * d + 3) ≤ 32768 ⌝ }
     ensures { λ m. ⌜ PutExpr (nodesIn (now (ws .entry)) (now (val .entry)) n) (chain d) (nodesIn (now (ws .exit)) (now (val .exit)) m) ⌝ }
 {
@@ -40,7 +44,7 @@ fn push_chain(ws: &mut [u16; 98304], val: &mut [i32; 32768], n: u16, d: u16) -> 
     push_node(ws, val, r, 9, l - 1, r - 1, 0)
 }
 
-fn deepest(ws: &mut [u16; 98304], val: &mut [i32; 32768]) {
+fn deepest(ws: &mut NodeWords, val: &mut Values) {
     let m = push_chain(ws, val, 0, 62);
     show(ws, val, m - 1);
     let k = negate(ws, val, m);
@@ -49,7 +53,7 @@ fn deepest(ws: &mut [u16; 98304], val: &mut [i32; 32768]) {
 
 // ---- 33 nodes, each the sum of the one before with itself
 
-fn shared(ws: &mut [u16; 98304], val: &mut [i32; 32768]) {
+fn shared(ws: &mut NodeWords, val: &mut Values) {
     let mut n = push_node(ws, val, 0, 12, 0, 0, 1);
     while n < 33 {
         n = push_node(ws, val, n, 7, n - 1, n - 1, 0);
@@ -60,14 +64,14 @@ fn shared(ws: &mut [u16; 98304], val: &mut [i32; 32768]) {
 
 // ---- 32,768 nodes: 16,384 numbers, their sums in pairs, and a Not on top
 
-fn push_numbers(ws: &mut [u16; 98304], val: &mut [i32; 32768]) {
+fn push_numbers(ws: &mut NodeWords, val: &mut Values) {
     let mut n = 0;
     while n < 16384 {
         n = push_node(ws, val, n, 11, 0, 0, 2);
     }
 }
 
-fn push_sums(ws: &mut [u16; 98304], val: &mut [i32; 32768]) {
+fn push_sums(ws: &mut NodeWords, val: &mut Values) {
     let mut n: u16 = 16384;
     while n < 32767 {
         let left = 2 * (n - 16384);
@@ -75,7 +79,7 @@ fn push_sums(ws: &mut [u16; 98304], val: &mut [i32; 32768]) {
     }
 }
 
-fn largest(ws: &mut [u16; 98304], val: &mut [i32; 32768]) {
+fn largest(ws: &mut NodeWords, val: &mut Values) {
     push_numbers(ws, val);
     push_sums(ws, val);
     show(ws, val, 32766);
@@ -85,7 +89,7 @@ fn largest(ws: &mut [u16; 98304], val: &mut [i32; 32768]) {
 
 // ---- a line for each
 
-fn show(ws: &[u16; 98304], val: &[i32; 32768], i: u16)
+fn show(ws: &NodeWords, val: &Values, i: u16)
     requires { ⌜ i < 32768 ⌝ }
 {
     let items = [0i16; 1];

@@ -7,6 +7,8 @@ ghost use Rattle.memory.specs.Pushed.{PutExpr};
 ghost use Rattle.memory.specs.Sound.{LongNodes};
 ghost use Rattle.expr_negate.specs.Turns.{flipCode, isSum, operatorOf, Turns};
 ghost use Rattle.expr_negate.specs.InPlace.{Laid, Lies, flipIn, Last};
+use memory::NodeWords;
+use memory::Values;
 use memory::kind_of;
 use memory::push_node;
 use model::Kind;
@@ -60,7 +62,7 @@ fn operator_of(k: Kind) -> Op2
 }
 
 // Negates node i where it stands: a comparison flips, And and Or swap and both sides are negated.
-fn negate_node(ws: &mut [u16; 98304], i: u16)
+fn negate_node(ws: &mut NodeWords, i: u16)
     requires { ⌜ Lies (now ws) i ⌝ }
     ensures { λ _. ⌜ ((c : ℕ) (e : Expr) → Laid (now (ws .entry)) c e i → now (ws .exit) ≡ flipIn (now (ws .entry)) c e) ⌝ }
 {
@@ -77,7 +79,7 @@ fn negate_node(ws: &mut [u16; 98304], i: u16)
 }
 
 // The arrays' lengths, which a reference to an array has in its type.
-fn long(ws: &[u16; 98304], val: &[i32; 32768]) -> usize
+fn long(ws: &NodeWords, val: &Values) -> usize
     ensures { λ _. ⌜ ((n : ℕ) → LongNodes (nodesIn (now (ws .entry)) (now (val .entry)) n)) ⌝ }
 {
     let words: &[u16] = ws;
@@ -86,7 +88,7 @@ fn long(ws: &[u16; 98304], val: &[i32; 32768]) -> usize
 }
 
 // Negates the expression that was appended last, and returns the new count.
-pub fn negate(ws: &mut [u16; 98304], val: &mut [i32; 32768], n: u16) -> u16
+pub fn negate(ws: &mut NodeWords, val: &mut Values, n: u16) -> u16
     requires { ⌜ Last (nodesIn (now ws) (now val) n) ⌝ }
     ensures { λ m. ⌜ ((s : Nodes) (e : Expr) → Turns e → PutExpr s e (nodesIn (now (ws .entry)) (now (val .entry)) n) → PutExpr s (negate e) (nodesIn (now (ws .exit)) (now (val .exit)) m)) ⌝ }
 {

@@ -11,8 +11,9 @@ use lib.ListN.{getD, set, length}
 use lib.Seq.{getD-set-same, getD-set-other}
 use borrow.Author.Tests.{lt-ltb, le-ltb, le-leb, lt-leb, ne-eqb}
 use Rattle.memory.specs.declared.Counts.{Counts}
-use Rattle.model.specs.Memory.{Coded, Memory, codedIn, memoryIn, commandWord}
+use Rattle.model.specs.Memory.{Coded, Memory, codedIn, commandWord}
 use Rattle.model.specs.Record.{rootKept, setKept, rootsKept, commandKept, commandsKept, blockKept, blocksKept, heldKept}
+use Rattle.memory.specs.View.{memoryOf}
 
 -- of d commands from command c on, those before the first whose roots are not all below the kept count
 unfoldable pub runOf : Coded → ℕ → ℕ → ℕ
@@ -127,7 +128,7 @@ module _ (cw : List ℕ) (k : Counts) where
 
 module _ (ws : List ℕ) (vs : List ℤ) (cw bw : List ℕ) (k : Counts) where
   abbrev me : Memory
-  me = memoryIn ws vs cw bw (k .nodes) (k .commands) (k .blocks)
+  me = memoryOf ws vs cw bw k
 
   pub kept-not-code : (i t : ℕ) → (t ≡ 1 → ⊥) → true ≡ blockKept me i t
   unfolding blockKept

@@ -5,14 +5,17 @@ ghost use Prim.Native.Nat.{ℕ, suc, _+_, _*_, _≤_, _<_};
 ghost use lib.IntN.{ℤ};
 ghost use lib.ListN.{length, getD};
 ghost use Rattle.model.specs.Limits.{blockLimit, commandLimit};
-ghost use Rattle.model.specs.Memory.{codedIn, memoryIn};
+ghost use Rattle.model.specs.Memory.{codedIn};
 ghost use Rattle.model.specs.Record.{setKept, rootsKept, blockKept, heldKept};
+ghost use Rattle.memory.specs.View.{memoryOf};
 ghost use Rattle.held.specs.Runs.{Run, Runs};
+use memory::BlockWords;
+use memory::CommandWords;
 use memory::Counts;
 use memory::index_of;
 
 // The roots of a Set: its value, and its target where that is a Variable.
-fn set_kept(cw: &[u16; 65536], nodes: u16, i: usize) -> bool
+fn set_kept(cw: &CommandWords, nodes: u16, i: usize) -> bool
     requires { ⌜ i < commandLimit ⌝ }
     ensures { λ r. ⌜ ((ws : List ℕ) (vs : List ℤ) (c : ℕ) → r ≡ setKept (codedIn ws vs (now (cw .entry)) nodes c) i (getD (now (cw .entry)) (4 * i + 3) 0)) ⌝ }
 {
@@ -24,7 +27,7 @@ fn set_kept(cw: &[u16; 65536], nodes: u16, i: usize) -> bool
 }
 
 // Whether the roots of command i are below the kept count of nodes.
-fn roots_kept(cw: &[u16; 65536], nodes: u16, i: usize) -> bool
+fn roots_kept(cw: &CommandWords, nodes: u16, i: usize) -> bool
     requires { ⌜ i < commandLimit ⌝ }
     ensures { λ r. ⌜ ((ws : List ℕ) (vs : List ℤ) (c : ℕ) → r ≡ rootsKept (codedIn ws vs (now (cw .entry)) nodes c) i (getD (now (cw .entry)) (4 * i) 0)) ⌝ }
 {
@@ -37,7 +40,7 @@ fn roots_kept(cw: &[u16; 65536], nodes: u16, i: usize) -> bool
 }
 
 // The run of command i, where that of the next one is known: none if a root of its own is past the count.
-fn run_from(cw: &[u16; 65536], counts: Counts, i: usize, after: u16) -> u16
+fn run_from(cw: &CommandWords, counts: Counts, i: usize, after: u16) -> u16
     requires { ⌜ (i < counts .commands) × (counts .commands ≤ commandLimit) × Run (now cw) counts (suc i) after ⌝ }
     ensures { λ r. ⌜ Run (now (cw .entry)) counts i r ⌝ }
 {
@@ -48,7 +51,7 @@ fn run_from(cw: &[u16; 65536], counts: Counts, i: usize, after: u16) -> u16
 }
 
 // The runs of all kept commands, from the last on.
-fn note_runs(cw: &[u16; 65536], runs: &mut [u16], counts: Counts)
+fn note_runs(cw: &CommandWords, runs: &mut [u16], counts: Counts)
     requires { ⌜ (counts .commands ≤ commandLimit) × (counts .commands ≤ length (now runs)) ⌝ }
     ensures { λ _. ⌜ Runs (now (cw .entry)) counts (now (runs .exit)) 0 ⌝ }
 {
@@ -62,9 +65,9 @@ fn note_runs(cw: &[u16; 65536], runs: &mut [u16], counts: Counts)
 }
 
 // Block i: where it is code, its commands are no more than the run of the first.
-fn block_kept(bw: &[u16; 20480], runs: &[u16], counts: Counts, i: usize) -> bool
+fn block_kept(bw: &BlockWords, runs: &[u16], counts: Counts, i: usize) -> bool
     requires { ⌜ (i < blockLimit) × (counts .commands ≤ length (now runs)) ⌝ }
-    ensures { λ r. ⌜ ((ws : List ℕ) (vs : List ℤ) (cw : List ℕ) → Runs cw counts (now (runs .entry)) 0 → r ≡ blockKept (memoryIn ws vs cw (now (bw .entry)) (counts .nodes) (counts .commands) (counts .blocks)) i (getD (now (bw .entry)) (5 * i) 0)) ⌝ }
+    ensures { λ r. ⌜ ((ws : List ℕ) (vs : List ℤ) (cw : List ℕ) → Runs cw counts (now (runs .entry)) 0 → r ≡ blockKept (memoryOf ws vs cw (now (bw .entry)) counts) i (getD (now (bw .entry)) (5 * i) 0)) ⌝ }
 {
     let kind = bw[5 * i];
     if kind != 1 {
@@ -79,9 +82,9 @@ fn block_kept(bw: &[u16; 20480], runs: &[u16], counts: Counts, i: usize) -> bool
 }
 
 // All blocks, by the runs of all commands.
-fn blocks_kept(bw: &[u16; 20480], runs: &[u16], counts: Counts) -> bool
+fn blocks_kept(bw: &BlockWords, runs: &[u16], counts: Counts) -> bool
     requires { ⌜ (counts .blocks ≤ blockLimit) × (counts .commands ≤ length (now runs)) ⌝ }
-    ensures { λ r. ⌜ ((ws : List ℕ) (vs : List ℤ) (cw : List ℕ) → Runs cw counts (now (runs .entry)) 0 → r ≡ heldKept (memoryIn ws vs cw (now (bw .entry)) (counts .nodes) (counts .commands) (counts .blocks))) ⌝ }
+    ensures { λ r. ⌜ ((ws : List ℕ) (vs : List ℤ) (cw : List ℕ) → Runs cw counts (now (runs .entry)) 0 → r ≡ heldKept (memoryOf ws vs cw (now (bw .entry)) counts)) ⌝ }
 {
     let end = index_of(counts.blocks);
     let mut i: usize = 0;
@@ -95,9 +98,9 @@ fn blocks_kept(bw: &[u16; 20480], runs: &[u16], counts: Counts) -> bool
 }
 
 // False where a block holds a command, or such a command the root of an expression, at or past its kept count. What the table held before means nothing.
-pub fn held_kept(cw: &[u16; 65536], bw: &[u16; 20480], runs: &mut [u16], counts: Counts) -> bool
+pub fn held_kept(cw: &CommandWords, bw: &BlockWords, runs: &mut [u16], counts: Counts) -> bool
     requires { ⌜ (counts .blocks ≤ blockLimit) × (counts .commands ≤ commandLimit) × (counts .commands ≤ length (now runs)) ⌝ }
-    ensures { λ r. ⌜ ((ws : List ℕ) (vs : List ℤ) → r ≡ heldKept (memoryIn ws vs (now (cw .entry)) (now (bw .entry)) (counts .nodes) (counts .commands) (counts .blocks))) ⌝ }
+    ensures { λ r. ⌜ ((ws : List ℕ) (vs : List ℤ) → r ≡ heldKept (memoryOf ws vs (now (cw .entry)) (now (bw .entry)) counts)) ⌝ }
 {
     note_runs(cw, runs, counts);
     blocks_kept(bw, runs, counts)

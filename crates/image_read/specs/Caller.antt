@@ -11,6 +11,7 @@ use Rattle.model.specs.Script.{Command, return, goto, setVariable, setOther, if
 use Rattle.model.specs.Image.{Limits, limits, readImage}
 use Rattle.model.specs.Memory.{Memory, memoryIn, putBlocks}
 use Rattle.model.specs.Laws.Image.{FitsCommand, FitsCommands, FitsBlock, FitsBlocks, FitsScript, image-fits}
+use Rattle.memory.specs.View.{memoryOf}
 use Rattle.memory.specs.declared.Counts.{Counts}
 use Rattle.image_read.specs.Counts.{nodes-blocks, held-blocks, count-blocks}
 use Rattle.image_read.specs.Outcome.{cleared, readInto, outcome}
@@ -29,10 +30,10 @@ pub record Accepted (ws : List ℕ) (vs : List ℤ) (cw bw : List ℕ) (a : Answ
   pub blocks-held : k .blocks ≡ length blocks
 
 module _ (ws : List ℕ) (vs : List ℤ) (cw bw : List ℕ) (ws′ : List ℕ) (vs′ : List ℤ) (cw′ bw′ : List ℕ) where
-  pub was-accepted : (a : Answer (List Block)) (k : Counts) → outcome (Read k) ws′ vs′ cw′ bw′ ≡ readInto (memoryIn ws vs cw bw 0 0 0) a → Accepted ws vs cw bw a k (memoryIn ws′ vs′ cw′ bw′ (k .nodes) (k .commands) (k .blocks))
+  pub was-accepted : (a : Answer (List Block)) (k : Counts) → outcome (Read k) ws′ vs′ cw′ bw′ ≡ readInto (memoryIn ws vs cw bw 0 0 0) a → Accepted ws vs cw bw a k (memoryOf ws′ vs′ cw′ bw′ k)
   unfolding outcome readInto
   was-accepted (got bs r) k p =
-      let e : memoryIn ws′ vs′ cw′ bw′ (k .nodes) (k .commands) (k .blocks) ≡ putBlocks (memoryIn ws vs cw bw 0 0 0) bs = cc in
+      let e : memoryOf ws′ vs′ cw′ bw′ k ≡ putBlocks (memoryIn ws vs cw bw 0 0 0) bs = cc in
       let n : k .nodes ≡ 0 + sumOf blockNodes bs = ap (λ (m : Memory). m .coded .nodes .count) e ∙ nodes-blocks (memoryIn ws vs cw bw 0 0 0) bs in
       let c : k .commands ≡ 0 + sumOf blockCommands bs = ap (λ (m : Memory). m .coded .count) e ∙ held-blocks (memoryIn ws vs cw bw 0 0 0) bs in
       let b : k .blocks ≡ 0 + length bs = ap (λ (m : Memory). m .count) e ∙ count-blocks (memoryIn ws vs cw bw 0 0 0) bs in

@@ -8,6 +8,7 @@ use Rattle.model.specs.Limits.{blockLimit, commandLimit, nodeLimit}
 use Rattle.model.specs.Reading.{Answer, got, refused}
 use Rattle.model.specs.Script.{Block}
 use Rattle.model.specs.Memory.{Memory, memoryIn, putBlocks}
+use Rattle.memory.specs.View.{memoryOf}
 use Rattle.image_read.specs.declared.Image.{Image}
 use Rattle.image_read.specs.declared.Image.the-variants.{Read, No}
 
@@ -27,5 +28,5 @@ readInto m (refused e) = nothing e cleared
 
 -- what the program answers and leaves in its four arrays
 unfoldable pub outcome : Image → List ℕ → List ℤ → List ℕ → List ℕ → Outcome
-outcome (Read k) ws vs cw bw = held (memoryIn ws vs cw bw (k .nodes) (k .commands) (k .blocks))
+outcome (Read k) ws vs cw bw = held (memoryOf ws vs cw bw k)
 outcome (No e) ws vs cw bw = nothing e (memoryIn ws vs cw bw 0 0 0)

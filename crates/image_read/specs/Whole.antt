@@ -14,6 +14,7 @@ use Rattle.model.specs.Reading.{Answer, got, refused, onward, number}
 use Rattle.model.specs.Script.{Block}
 use Rattle.model.specs.Image.{readBlocks, ended, readWithin, readImage}
 use Rattle.model.specs.Memory.{Memory, memoryIn, putBlocks}
+use Rattle.memory.specs.View.{memoryOf}
 use Rattle.memory.specs.declared.Counts.{Counts}
 use Rattle.image_numbers.specs.Told.{Told}
 use Rattle.image_read.specs.Told.{limitsOf, PutBlocks, ToldBlocks}
@@ -32,7 +33,7 @@ pub record PutImage (me : Memory) (a : Answer (List Block)) (t : Memory) : Type 
 
 -- of a refusal nothing is said of the arrays
 unfoldable pub ToldImage : Memory → Answer (List Block) → Image → List ℕ → List ℤ → List ℕ → List ℕ → Type 0
-ToldImage me a (Read k) w v c b = PutImage me a (memoryIn w v c b (k .nodes) (k .commands) (k .blocks))
+ToldImage me a (Read k) w v c b = PutImage me a (memoryOf w v c b k)
 ToldImage me a (No e) w v c b = a ≡ refused e
 
 module _ (s : List ℕ) (me : Memory) (at : ℕ) (r : Num) (q : Told s r (number wide (drop at s))) where
@@ -88,7 +89,7 @@ module _ (me : Memory) (a : Answer (List Block)) (r : Image) (w : List ℕ) (v :
   pub outcome-read : (k : Counts) → r ≡ Read k → outcome (Read k) w v c b ≡ readInto me a
   unfolding ToldImage outcome readInto
   outcome-read k e =
-      let y : PutImage me a (memoryIn w v c b (k .nodes) (k .commands) (k .blocks)) = rw e at t in
+      let y : PutImage me a (memoryOf w v c b k) = rw e at t in
       ap held (y .after) ∙ sym (ap (readInto me) (y .read))
 
   pub outcome-no : (e : ℕ) → r ≡ No e → outcome (No e) (replicate (3 * nodeLimit) 0) (replicate nodeLimit (pos 0)) (replicate (4 * commandLimit) 0) (replicate (5 * blockLimit) 0) ≡ readInto me a

@@ -6,6 +6,7 @@ ghost use Rattle.model.specs.Limits.{blockLimit, commandLimit, nodeLimit, depth
 ghost use Rattle.model.specs.Reading.{number};
 ghost use Rattle.model.specs.Image.{readBlockNo, commandOf, readCommand, readCommands, readLink, blockOf, readBlock, readBlocks, readImage};
 ghost use Rattle.model.specs.Memory.{nodesIn, codedIn, memoryIn};
+ghost use Rattle.memory.specs.View.{emptyIn};
 ghost use Rattle.image_read.specs.Told.{ToldImm, ToldHead, readAt, ToldExpr, Roomy, AboveOne, AboveTwo};
 ghost use Rattle.image_read.specs.Told.{limitsOf, ToldNo, ToldJump, ToldCommand, ToldSet, ToldCommands};
 ghost use Rattle.image_read.specs.Told.{ToldLink, ToldLinks, ToldCount, ToldBlock, ToldBlocks};
@@ -14,12 +15,28 @@ ghost use Rattle.image_read.specs.Whole.{ToldImage};
 use image_numbers::Num;
 use image_numbers::read_number;
 use image_numbers::signed;
+use memory::BLOCKS;
+use memory::BLOCK_WORDS;
+use memory::BlockWords;
+use memory::COMMANDS;
+use memory::COMMAND_WORDS;
+use memory::CommandWords;
 use memory::Counts;
+use memory::NODES;
+use memory::NODE_LIMIT;
+use memory::NODE_WORDS;
+use memory::NodeWords;
+use memory::Values;
 use memory::kind_of;
 use memory::push_block;
 use memory::push_command;
 use memory::push_node;
 use model::Kind;
+use model::WIDE16;
+
+// The limits as a number of the image is compared with them.
+const MOST_BLOCKS: u64 = BLOCKS as u64;
+const MOST_COMMANDS: u64 = COMMANDS as u64;
 
 // A number or a count and the place after what was read, or a refusal.
 enum Step {
@@ -61,8 +78,8 @@ fn low_word(x: u64) -> u16
 fn read_imm(
     s: &[u8],
     at: usize,
-    ws: &mut [u16; 98304],
-    val: &mut [i32; 32768],
+    ws: &mut NodeWords,
+    val: &mut Values,
     n: u16,
     code: u16,
     limit: u64,
@@ -88,7 +105,7 @@ fn read_head(s: &[u8], at: usize, n: u16, depth: u16) -> Step
     let code = read_number(s, at, 19);
     match code {
         Num::Got(c, p) => {
-            if n + depth >= 32768 {
+            if n + depth >= NODE_LIMIT {
                 return Step::No(3);
             }
             if depth >= 64 {
@@ -101,7 +118,7 @@ fn read_head(s: &[u8], at: usize, n: u16, depth: u16) -> Step
 }
 
 // The parent of an operand that was read, if it was.
-fn push_one(ws: &mut [u16; 98304], val: &mut [i32; 32768], code: u16, a: Step) -> Step
+fn push_one(ws: &mut NodeWords, val: &mut Values, code: u16, a: Step) -> Step
     requires { ⌜ Roomy a ⌝ }
     ensures { λ r. ⌜ AboveOne (now (ws .entry)) (now (val .entry)) code a r (now (ws .exit)) (now (val .exit)) ⌝ }
 {
@@ -115,7 +132,7 @@ fn push_one(ws: &mut [u16; 98304], val: &mut [i32; 32768], code: u16, a: Step) -
 }
 
 // The parent of a left operand and a right one that was read, if it was.
-fn push_two(ws: &mut [u16; 98304], val: &mut [i32; 32768], code: u16, left: u16, b: Step) -> Step
+fn push_two(ws: &mut NodeWords, val: &mut Values, code: u16, left: u16, b: Step) -> Step
     requires { ⌜ Roomy b ⌝ }
     ensures { λ r. ⌜ AboveTwo (now (ws .entry)) (now (val .entry)) code left b r (now (ws .exit)) (now (val .exit)) ⌝ }
 {
@@ -132,8 +149,8 @@ fn push_two(ws: &mut [u16; 98304], val: &mut [i32; 32768], code: u16, left: u16,
 fn read_expr(
     s: &[u8],
     at: usize,
-    ws: &mut [u16; 98304],
-    val: &mut [i32; 32768],
+    ws: &mut NodeWords,
+    val: &mut Values,
     n: u16,
     depth: u16,
 ) -> Step
@@ -159,7 +176,7 @@ fn read_expr(
                     let a = read_expr(s, p, ws, val, n, depth + 1);
                     push_one(ws, val, c, a)
                 }
-                Kind::Imm16 => read_imm(s, p, ws, val, n, 11, 65536),
+                Kind::Imm16 => read_imm(s, p, ws, val, n, 11, WIDE16),
                 Kind::Imm32 => read_imm(s, p, ws, val, n, 12, 4294967296),
                 Kind::Other => Step::Got(push_node(ws, val, n, 18, 0, 0, 0), p),
             }
@@ -192,7 +209,7 @@ fn read_block_no(s: &[u8], at: usize, blocks: u16) -> Step
 fn read_jump(
     s: &[u8],
     at: usize,
-    cw: &mut [u16; 65536],
+    cw: &mut CommandWords,
     n: u16,
     m: u16,
     code: u16,
@@ -215,9 +232,9 @@ fn read_jump(
 fn read_set(
     s: &[u8],
     at: usize,
-    ws: &mut [u16; 98304],
-    val: &mut [i32; 32768],
-    cw: &mut [u16; 65536],
+    ws: &mut NodeWords,
+    val: &mut Values,
+    cw: &mut CommandWords,
     n: u16,
     m: u16,
 ) -> Step
@@ -254,9 +271,9 @@ fn read_set(
 fn read_if(
     s: &[u8],
     at: usize,
-    ws: &mut [u16; 98304],
-    val: &mut [i32; 32768],
-    cw: &mut [u16; 65536],
+    ws: &mut NodeWords,
+    val: &mut Values,
+    cw: &mut CommandWords,
     n: u16,
     m: u16,
     blocks: u16,
@@ -284,9 +301,9 @@ fn read_if(
 fn read_command(
     s: &[u8],
     at: usize,
-    ws: &mut [u16; 98304],
-    val: &mut [i32; 32768],
-    cw: &mut [u16; 65536],
+    ws: &mut NodeWords,
+    val: &mut Values,
+    cw: &mut CommandWords,
     n: u16,
     m: u16,
     blocks: u16,
@@ -318,9 +335,9 @@ fn read_command(
 fn read_commands(
     s: &[u8],
     at: usize,
-    ws: &mut [u16; 98304],
-    val: &mut [i32; 32768],
-    cw: &mut [u16; 65536],
+    ws: &mut NodeWords,
+    val: &mut Values,
+    cw: &mut CommandWords,
     n: u16,
     m: u16,
     count: u16,
@@ -395,7 +412,7 @@ fn read_count(s: &[u8], at: usize, m: u16) -> Step
     match count {
         Num::Got(c, p) => {
             let all = wide_word(m) + c;
-            if all > 16384 {
+            if all > MOST_COMMANDS {
                 return Step::No(3);
             }
             Step::Got(low_word(c), p)
@@ -408,10 +425,10 @@ fn read_count(s: &[u8], at: usize, m: u16) -> Step
 fn read_code(
     s: &[u8],
     at: usize,
-    ws: &mut [u16; 98304],
-    val: &mut [i32; 32768],
-    cw: &mut [u16; 65536],
-    bw: &mut [u16; 20480],
+    ws: &mut NodeWords,
+    val: &mut Values,
+    cw: &mut CommandWords,
+    bw: &mut BlockWords,
     n: u16,
     m: u16,
     q: u16,
@@ -446,10 +463,10 @@ fn read_code(
 fn read_block(
     s: &[u8],
     at: usize,
-    ws: &mut [u16; 98304],
-    val: &mut [i32; 32768],
-    cw: &mut [u16; 65536],
-    bw: &mut [u16; 20480],
+    ws: &mut NodeWords,
+    val: &mut Values,
+    cw: &mut CommandWords,
+    bw: &mut BlockWords,
     n: u16,
     m: u16,
     q: u16,
@@ -479,14 +496,14 @@ fn read_block(
 fn read_blocks(
     s: &[u8],
     at: usize,
-    ws: &mut [u16; 98304],
-    val: &mut [i32; 32768],
-    cw: &mut [u16; 65536],
-    bw: &mut [u16; 20480],
+    ws: &mut NodeWords,
+    val: &mut Values,
+    cw: &mut CommandWords,
+    bw: &mut BlockWords,
     count: u16,
 ) -> Stage
     requires { ⌜ (count ≤ blockLimit) × (at ≤ length (now s)) ⌝ }
-    ensures { λ r. ⌜ ToldBlocks (now (s .entry)) (memoryIn (now (ws .entry)) (now (val .entry)) (now (cw .entry)) (now (bw .entry)) 0 0 0) (readBlocks (limitsOf count) count 0 0 (drop at (now (s .entry)))) r (now (ws .exit)) (now (val .exit)) (now (cw .exit)) (now (bw .exit)) count ⌝ }
+    ensures { λ r. ⌜ ToldBlocks (now (s .entry)) (emptyIn (now (ws .entry)) (now (val .entry)) (now (cw .entry)) (now (bw .entry))) (readBlocks (limitsOf count) count 0 0 (drop at (now (s .entry)))) r (now (ws .exit)) (now (val .exit)) (now (cw .exit)) (now (bw .exit)) count ⌝ }
 {
     let mut p = at;
     let mut n: u16 = 0;
@@ -515,17 +532,17 @@ fn read_blocks(
 fn read_all(
     s: &[u8],
     at: usize,
-    ws: &mut [u16; 98304],
-    val: &mut [i32; 32768],
-    cw: &mut [u16; 65536],
-    bw: &mut [u16; 20480],
+    ws: &mut NodeWords,
+    val: &mut Values,
+    cw: &mut CommandWords,
+    bw: &mut BlockWords,
 ) -> Image
-    ensures { λ r. ⌜ ToldImage (memoryIn (now (ws .entry)) (now (val .entry)) (now (cw .entry)) (now (bw .entry)) 0 0 0) (readImage (drop at (now (s .entry)))) r (now (ws .exit)) (now (val .exit)) (now (cw .exit)) (now (bw .exit)) ⌝ }
+    ensures { λ r. ⌜ ToldImage (emptyIn (now (ws .entry)) (now (val .entry)) (now (cw .entry)) (now (bw .entry))) (readImage (drop at (now (s .entry)))) r (now (ws .exit)) (now (val .exit)) (now (cw .exit)) (now (bw .exit)) ⌝ }
 {
     let count = read_number(s, at, 4294967296);
     match count {
         Num::Got(c, p) => {
-            if c > 4096 {
+            if c > MOST_BLOCKS {
                 return Image::No(3);
             }
             let b = low_word(c);
@@ -552,21 +569,21 @@ fn read_all(
 pub fn read_script(
     bytes: &[u8],
     at: usize,
-    ws: &mut [u16; 98304],
-    val: &mut [i32; 32768],
-    cw: &mut [u16; 65536],
-    bw: &mut [u16; 20480],
+    ws: &mut NodeWords,
+    val: &mut Values,
+    cw: &mut CommandWords,
+    bw: &mut BlockWords,
 ) -> Image
-    ensures { λ r. ⌜ outcome r (now (ws .exit)) (now (val .exit)) (now (cw .exit)) (now (bw .exit)) ≡ readInto (memoryIn (now (ws .entry)) (now (val .entry)) (now (cw .entry)) (now (bw .entry)) 0 0 0) (readImage (drop at (now (bytes .entry)))) ⌝ }
+    ensures { λ r. ⌜ outcome r (now (ws .exit)) (now (val .exit)) (now (cw .exit)) (now (bw .exit)) ≡ readInto (emptyIn (now (ws .entry)) (now (val .entry)) (now (cw .entry)) (now (bw .entry))) (readImage (drop at (now (bytes .entry)))) ⌝ }
 {
     let r = read_all(bytes, at, ws, val, cw, bw);
     match r {
         Image::Read(k) => Image::Read(k),
         Image::No(e) => {
-            *ws = [0; 98304];
-            *val = [0; 32768];
-            *cw = [0; 65536];
-            *bw = [0; 20480];
+            *ws = [0; NODE_WORDS];
+            *val = [0; NODES];
+            *cw = [0; COMMAND_WORDS];
+            *bw = [0; BLOCK_WORDS];
             Image::No(e)
         }
     }

@@ -1,19 +1,24 @@
 // Writing a script record as its image: judged first, then measured against the slice, then written piece by piece.
 ghost use mathlib.Core.Path.{_≡_};
 ghost use Prim.Native.Nat.{suc, _+_, _≤_, _<_};
-ghost use Rattle.model.specs.Memory.{nodesIn, memoryIn};
+ghost use Rattle.model.specs.Limits.{nodeLimit};
+ghost use Rattle.model.specs.Memory.{nodesIn};
 ghost use Rattle.model.specs.Record.{nodeImage, rootImage, commandTail, commandImageIn, commandsImageIn, blockTail, blocksImageIn, recordImage};
 ghost use Rattle.model.specs.RecordCalls.{writeIn};
+ghost use Rattle.memory.specs.View.{nodesOf, codedOf, memoryOf};
 ghost use Rattle.image_numbers.specs.Stored.{Stored, Room};
-ghost use Rattle.terms.specs.Told.{nodesBy};
-ghost use Rattle.judge.specs.Stages.{codedBy, memoryBy, KeptBy, blockImageIn};
+ghost use Rattle.judge.specs.Stages.{KeptBy, blockImageIn};
 ghost use Rattle.image_write.specs.Call.{wrote, lengthIn};
 ghost use Rattle.image_write.specs.Lengths.{mostBytes};
 use image_numbers::write_short;
 use image_numbers::write_value;
 use judge::Judged;
 use judge::judge_record;
+use memory::BlockWords;
+use memory::CommandWords;
 use memory::Counts;
+use memory::NodeWords;
+use memory::Values;
 use memory::index_of;
 use memory::kind_of;
 use model::Kind;
@@ -28,8 +33,8 @@ pub struct Written {
 // ---- expressions
 
 // Node i. Calls go as deep as the expression, which the judgement keeps to 64 levels.
-fn write_expr(ws: &[u16; 98304], val: &[i32; 32768], i: u16, out: &mut [u8], at: usize) -> usize
-    requires { ⌜ (i < 32768) × Room (now out) at (nodeImage (nodesIn (now ws) (now val) 0) (suc i) i) ⌝ }
+fn write_expr(ws: &NodeWords, val: &Values, i: u16, out: &mut [u8], at: usize) -> usize
+    requires { ⌜ (i < nodeLimit) × Room (now out) at (nodeImage (nodesIn (now ws) (now val) 0) (suc i) i) ⌝ }
     ensures { λ r. ⌜ Stored (now (out .entry)) at (nodeImage (nodesIn (now (ws .entry)) (now (val .entry)) 0) (suc i) i) (now (out .exit)) r ⌝ }
 {
     let j = i as usize;
@@ -50,14 +55,14 @@ fn write_expr(ws: &[u16; 98304], val: &[i32; 32768], i: u16, out: &mut [u8], at:
 
 // Node i, which has to be below b: what is not is written as 19, which no image may have. An Imm16, as most operands are, takes no call.
 fn write_operand(
-    ws: &[u16; 98304],
-    val: &[i32; 32768],
+    ws: &NodeWords,
+    val: &Values,
     b: u16,
     i: u16,
     out: &mut [u8],
     at: usize,
 ) -> usize
-    requires { ⌜ (b ≤ 32768) × Room (now out) at (nodeImage (nodesIn (now ws) (now val) 0) b i) ⌝ }
+    requires { ⌜ (b ≤ nodeLimit) × Room (now out) at (nodeImage (nodesIn (now ws) (now val) 0) b i) ⌝ }
     ensures { λ r. ⌜ Stored (now (out .entry)) at (nodeImage (nodesIn (now (ws .entry)) (now (val .entry)) 0) b i) (now (out .exit)) r ⌝ }
 {
     if i >= b {
@@ -74,15 +79,15 @@ fn write_operand(
 
 // An expression of a command: its root has to be below the kept count of nodes.
 fn write_term(
-    ws: &[u16; 98304],
-    val: &[i32; 32768],
+    ws: &NodeWords,
+    val: &Values,
     counts: Counts,
     i: u16,
     out: &mut [u8],
     at: usize,
 ) -> usize
-    requires { ⌜ KeptBy counts × Room (now out) at (rootImage (nodesBy (now ws) (now val) counts) i) ⌝ }
-    ensures { λ r. ⌜ Stored (now (out .entry)) at (rootImage (nodesBy (now (ws .entry)) (now (val .entry)) counts) i) (now (out .exit)) r ⌝ }
+    requires { ⌜ KeptBy counts × Room (now out) at (rootImage (nodesOf (now ws) (now val) counts) i) ⌝ }
+    ensures { λ r. ⌜ Stored (now (out .entry)) at (rootImage (nodesOf (now (ws .entry)) (now (val .entry)) counts) i) (now (out .exit)) r ⌝ }
 {
     write_operand(ws, val, counts.nodes, i, out, at)
 }
@@ -91,16 +96,16 @@ fn write_term(
 
 // What follows the code of a Set: the target's code, the target where it is a Variable, the value.
 fn write_set(
-    ws: &[u16; 98304],
-    val: &[i32; 32768],
-    cw: &[u16; 65536],
+    ws: &NodeWords,
+    val: &Values,
+    cw: &CommandWords,
     counts: Counts,
     i: usize,
     out: &mut [u8],
     at: usize,
 ) -> usize
-    requires { ⌜ (i < counts .commands) × KeptBy counts × Room (now out) at (commandTail (codedBy (now ws) (now val) (now cw) counts) i 2) ⌝ }
-    ensures { λ r. ⌜ Stored (now (out .entry)) at (commandTail (codedBy (now (ws .entry)) (now (val .entry)) (now (cw .entry)) counts) i 2) (now (out .exit)) r ⌝ }
+    requires { ⌜ (i < counts .commands) × KeptBy counts × Room (now out) at (commandTail (codedOf (now ws) (now val) (now cw) counts) i 2) ⌝ }
+    ensures { λ r. ⌜ Stored (now (out .entry)) at (commandTail (codedOf (now (ws .entry)) (now (val .entry)) (now (cw .entry)) counts) i 2) (now (out .exit)) r ⌝ }
 {
     let target = cw[4 * i + 3];
     let p = write_short(out, at, target);
@@ -113,16 +118,16 @@ fn write_set(
 
 // What follows the code of an If: condition and else block.
 fn write_if(
-    ws: &[u16; 98304],
-    val: &[i32; 32768],
-    cw: &[u16; 65536],
+    ws: &NodeWords,
+    val: &Values,
+    cw: &CommandWords,
     counts: Counts,
     i: usize,
     out: &mut [u8],
     at: usize,
 ) -> usize
-    requires { ⌜ (i < counts .commands) × KeptBy counts × Room (now out) at (commandTail (codedBy (now ws) (now val) (now cw) counts) i 3) ⌝ }
-    ensures { λ r. ⌜ Stored (now (out .entry)) at (commandTail (codedBy (now (ws .entry)) (now (val .entry)) (now (cw .entry)) counts) i 3) (now (out .exit)) r ⌝ }
+    requires { ⌜ (i < counts .commands) × KeptBy counts × Room (now out) at (commandTail (codedOf (now ws) (now val) (now cw) counts) i 3) ⌝ }
+    ensures { λ r. ⌜ Stored (now (out .entry)) at (commandTail (codedOf (now (ws .entry)) (now (val .entry)) (now (cw .entry)) counts) i 3) (now (out .exit)) r ⌝ }
 {
     let p = write_term(ws, val, counts, cw[4 * i + 1], out, at);
     write_short(out, p, cw[4 * i + 3])
@@ -130,17 +135,17 @@ fn write_if(
 
 // What follows the code k of a command.
 fn write_tail(
-    ws: &[u16; 98304],
-    val: &[i32; 32768],
-    cw: &[u16; 65536],
+    ws: &NodeWords,
+    val: &Values,
+    cw: &CommandWords,
     counts: Counts,
     i: usize,
     k: u16,
     out: &mut [u8],
     at: usize,
 ) -> usize
-    requires { ⌜ (i < counts .commands) × KeptBy counts × Room (now out) at (commandTail (codedBy (now ws) (now val) (now cw) counts) i k) ⌝ }
-    ensures { λ r. ⌜ Stored (now (out .entry)) at (commandTail (codedBy (now (ws .entry)) (now (val .entry)) (now (cw .entry)) counts) i k) (now (out .exit)) r ⌝ }
+    requires { ⌜ (i < counts .commands) × KeptBy counts × Room (now out) at (commandTail (codedOf (now ws) (now val) (now cw) counts) i k) ⌝ }
+    ensures { λ r. ⌜ Stored (now (out .entry)) at (commandTail (codedOf (now (ws .entry)) (now (val .entry)) (now (cw .entry)) counts) i k) (now (out .exit)) r ⌝ }
 {
     match k {
         1 => write_short(out, at, cw[4 * i + 3]),
@@ -153,16 +158,16 @@ fn write_tail(
 
 // Command i: one that is not there is written as 6, which no image may have.
 fn write_command(
-    ws: &[u16; 98304],
-    val: &[i32; 32768],
-    cw: &[u16; 65536],
+    ws: &NodeWords,
+    val: &Values,
+    cw: &CommandWords,
     counts: Counts,
     i: usize,
     out: &mut [u8],
     at: usize,
 ) -> usize
-    requires { ⌜ KeptBy counts × Room (now out) at (commandImageIn (codedBy (now ws) (now val) (now cw) counts) i) ⌝ }
-    ensures { λ r. ⌜ Stored (now (out .entry)) at (commandImageIn (codedBy (now (ws .entry)) (now (val .entry)) (now (cw .entry)) counts) i) (now (out .exit)) r ⌝ }
+    requires { ⌜ KeptBy counts × Room (now out) at (commandImageIn (codedOf (now ws) (now val) (now cw) counts) i) ⌝ }
+    ensures { λ r. ⌜ Stored (now (out .entry)) at (commandImageIn (codedOf (now (ws .entry)) (now (val .entry)) (now (cw .entry)) counts) i) (now (out .exit)) r ⌝ }
 {
     let there = index_of(counts.commands);
     if i >= there {
@@ -175,17 +180,17 @@ fn write_command(
 
 // So many commands, from the first on.
 fn write_commands(
-    ws: &[u16; 98304],
-    val: &[i32; 32768],
-    cw: &[u16; 65536],
+    ws: &NodeWords,
+    val: &Values,
+    cw: &CommandWords,
     counts: Counts,
     first: u16,
     held: u16,
     out: &mut [u8],
     at: usize,
 ) -> usize
-    requires { ⌜ KeptBy counts × Room (now out) at (commandsImageIn (codedBy (now ws) (now val) (now cw) counts) held first) ⌝ }
-    ensures { λ r. ⌜ Stored (now (out .entry)) at (commandsImageIn (codedBy (now (ws .entry)) (now (val .entry)) (now (cw .entry)) counts) held first) (now (out .exit)) r ⌝ }
+    requires { ⌜ KeptBy counts × Room (now out) at (commandsImageIn (codedOf (now ws) (now val) (now cw) counts) held first) ⌝ }
+    ensures { λ r. ⌜ Stored (now (out .entry)) at (commandsImageIn (codedOf (now (ws .entry)) (now (val .entry)) (now (cw .entry)) counts) held first) (now (out .exit)) r ⌝ }
 {
     let f = index_of(first);
     let count = index_of(held);
@@ -202,17 +207,17 @@ fn write_commands(
 
 // What follows the kind of a code block: how many commands, the commands, next, else.
 fn write_code(
-    ws: &[u16; 98304],
-    val: &[i32; 32768],
-    cw: &[u16; 65536],
-    bw: &[u16; 20480],
+    ws: &NodeWords,
+    val: &Values,
+    cw: &CommandWords,
+    bw: &BlockWords,
     counts: Counts,
     i: usize,
     out: &mut [u8],
     at: usize,
 ) -> usize
-    requires { ⌜ (i < counts .blocks) × KeptBy counts × Room (now out) at (blockTail (memoryBy (now ws) (now val) (now cw) (now bw) counts) i 1) ⌝ }
-    ensures { λ r. ⌜ Stored (now (out .entry)) at (blockTail (memoryBy (now (ws .entry)) (now (val .entry)) (now (cw .entry)) (now (bw .entry)) counts) i 1) (now (out .exit)) r ⌝ }
+    requires { ⌜ (i < counts .blocks) × KeptBy counts × Room (now out) at (blockTail (memoryOf (now ws) (now val) (now cw) (now bw) counts) i 1) ⌝ }
+    ensures { λ r. ⌜ Stored (now (out .entry)) at (blockTail (memoryOf (now (ws .entry)) (now (val .entry)) (now (cw .entry)) (now (bw .entry)) counts) i 1) (now (out .exit)) r ⌝ }
 {
     let held = bw[5 * i + 2];
     let p = write_short(out, at, held);
@@ -223,17 +228,17 @@ fn write_code(
 
 // Block i: its kind, and what follows it.
 fn write_block(
-    ws: &[u16; 98304],
-    val: &[i32; 32768],
-    cw: &[u16; 65536],
-    bw: &[u16; 20480],
+    ws: &NodeWords,
+    val: &Values,
+    cw: &CommandWords,
+    bw: &BlockWords,
     counts: Counts,
     i: usize,
     out: &mut [u8],
     at: usize,
 ) -> usize
-    requires { ⌜ (i < counts .blocks) × KeptBy counts × Room (now out) at (blockImageIn (memoryBy (now ws) (now val) (now cw) (now bw) counts) i) ⌝ }
-    ensures { λ r. ⌜ Stored (now (out .entry)) at (blockImageIn (memoryBy (now (ws .entry)) (now (val .entry)) (now (cw .entry)) (now (bw .entry)) counts) i) (now (out .exit)) r ⌝ }
+    requires { ⌜ (i < counts .blocks) × KeptBy counts × Room (now out) at (blockImageIn (memoryOf (now ws) (now val) (now cw) (now bw) counts) i) ⌝ }
+    ensures { λ r. ⌜ Stored (now (out .entry)) at (blockImageIn (memoryOf (now (ws .entry)) (now (val .entry)) (now (cw .entry)) (now (bw .entry)) counts) i) (now (out .exit)) r ⌝ }
 {
     let kind = bw[5 * i];
     let p = write_short(out, at, kind);
@@ -245,16 +250,16 @@ fn write_block(
 
 // All blocks.
 fn write_blocks(
-    ws: &[u16; 98304],
-    val: &[i32; 32768],
-    cw: &[u16; 65536],
-    bw: &[u16; 20480],
+    ws: &NodeWords,
+    val: &Values,
+    cw: &CommandWords,
+    bw: &BlockWords,
     counts: Counts,
     out: &mut [u8],
     at: usize,
 ) -> usize
-    requires { ⌜ KeptBy counts × Room (now out) at (blocksImageIn (memoryBy (now ws) (now val) (now cw) (now bw) counts) (counts .blocks) 0) ⌝ }
-    ensures { λ r. ⌜ Stored (now (out .entry)) at (blocksImageIn (memoryBy (now (ws .entry)) (now (val .entry)) (now (cw .entry)) (now (bw .entry)) counts) (counts .blocks) 0) (now (out .exit)) r ⌝ }
+    requires { ⌜ KeptBy counts × Room (now out) at (blocksImageIn (memoryOf (now ws) (now val) (now cw) (now bw) counts) (counts .blocks) 0) ⌝ }
+    ensures { λ r. ⌜ Stored (now (out .entry)) at (blocksImageIn (memoryOf (now (ws .entry)) (now (val .entry)) (now (cw .entry)) (now (bw .entry)) counts) (counts .blocks) 0) (now (out .exit)) r ⌝ }
 {
     let end = index_of(counts.blocks);
     let mut p = at;
@@ -270,15 +275,15 @@ fn write_blocks(
 
 // The image from the slice's first byte on; the bytes past it stay as they are.
 fn write_record(
-    ws: &[u16; 98304],
-    val: &[i32; 32768],
-    cw: &[u16; 65536],
-    bw: &[u16; 20480],
+    ws: &NodeWords,
+    val: &Values,
+    cw: &CommandWords,
+    bw: &BlockWords,
     counts: Counts,
     out: &mut [u8],
 ) -> usize
-    requires { ⌜ KeptBy counts × Room (now out) 0 (recordImage (memoryBy (now ws) (now val) (now cw) (now bw) counts)) ⌝ }
-    ensures { λ r. ⌜ Stored (now (out .entry)) 0 (recordImage (memoryBy (now (ws .entry)) (now (val .entry)) (now (cw .entry)) (now (bw .entry)) counts)) (now (out .exit)) r ⌝ }
+    requires { ⌜ KeptBy counts × Room (now out) 0 (recordImage (memoryOf (now ws) (now val) (now cw) (now bw) counts)) ⌝ }
+    ensures { λ r. ⌜ Stored (now (out .entry)) 0 (recordImage (memoryOf (now (ws .entry)) (now (val .entry)) (now (cw .entry)) (now (bw .entry)) counts)) (now (out .exit)) r ⌝ }
 {
     let p = write_short(out, 0, counts.blocks);
     write_blocks(ws, val, cw, bw, counts, out, p)
@@ -286,14 +291,14 @@ fn write_record(
 
 // Judged first, in the place of refusals 2 to 5; then 16 where the slice is shorter than the image; then written. Refused, the slice stays as it was.
 fn write_judged(
-    ws: &[u16; 98304],
-    val: &[i32; 32768],
-    cw: &[u16; 65536],
-    bw: &[u16; 20480],
+    ws: &NodeWords,
+    val: &Values,
+    cw: &CommandWords,
+    bw: &BlockWords,
     counts: Counts,
     out: &mut [u8],
 ) -> Written
-    ensures { λ r. ⌜ (wrote (r .refusal) (now (out .exit)) ≡ writeIn (memoryIn (now (ws .entry)) (now (val .entry)) (now (cw .entry)) (now (bw .entry)) (counts .nodes) (counts .commands) (counts .blocks)) (now (out .entry))) × (r .len ≡ lengthIn (memoryIn (now (ws .entry)) (now (val .entry)) (now (cw .entry)) (now (bw .entry)) (counts .nodes) (counts .commands) (counts .blocks)) (now (out .entry))) ⌝ }
+    ensures { λ r. ⌜ (wrote (r .refusal) (now (out .exit)) ≡ writeIn (memoryOf (now (ws .entry)) (now (val .entry)) (now (cw .entry)) (now (bw .entry)) counts) (now (out .entry))) × (r .len ≡ lengthIn (memoryOf (now (ws .entry)) (now (val .entry)) (now (cw .entry)) (now (bw .entry)) counts) (now (out .entry))) ⌝ }
 {
     let judged = judge_record(ws, val, cw, bw, counts);
     match judged {
@@ -323,14 +328,14 @@ fn most_bytes(counts: Counts) -> usize
 
 // A record that is plainly fine needs no judgement where the slice holds any such record; the others are judged step by step, which also tells the length.
 pub fn write_script(
-    ws: &[u16; 98304],
-    val: &[i32; 32768],
-    cw: &[u16; 65536],
-    bw: &[u16; 20480],
+    ws: &NodeWords,
+    val: &Values,
+    cw: &CommandWords,
+    bw: &BlockWords,
     counts: Counts,
     out: &mut [u8],
 ) -> Written
-    ensures { λ r. ⌜ (wrote (r .refusal) (now (out .exit)) ≡ writeIn (memoryIn (now (ws .entry)) (now (val .entry)) (now (cw .entry)) (now (bw .entry)) (counts .nodes) (counts .commands) (counts .blocks)) (now (out .entry))) × (r .len ≡ lengthIn (memoryIn (now (ws .entry)) (now (val .entry)) (now (cw .entry)) (now (bw .entry)) (counts .nodes) (counts .commands) (counts .blocks)) (now (out .entry))) ⌝ }
+    ensures { λ r. ⌜ (wrote (r .refusal) (now (out .exit)) ≡ writeIn (memoryOf (now (ws .entry)) (now (val .entry)) (now (cw .entry)) (now (bw .entry)) counts) (now (out .entry))) × (r .len ≡ lengthIn (memoryOf (now (ws .entry)) (now (val .entry)) (now (cw .entry)) (now (bw .entry)) counts) (now (out .entry))) ⌝ }
 {
     if most_bytes(counts) <= out.len() {
         if is_plain(ws, val, cw, bw, counts) {

@@ -6,6 +6,12 @@ ghost use lib.Signed.{mag};
 ghost use mir.Syntax.{w16, w32};
 ghost use mir.Val.{toZ, ofZ};
 ghost use Rattle.model.specs.Signed.{wrap32, cut16, b2z, clamp};
+use model::HALF16;
+use model::WIDE16;
+
+// The numbers of 16 bits.
+const WIDE: u32 = WIDE16 as u32;
+const WIDE_SIGNED: i32 = WIDE16 as i32;
 
 // ---- sums that wrap
 
@@ -61,10 +67,10 @@ pub fn from_bits(x: u32) -> i32
 pub fn from_bits16(x: u16) -> i16
     ensures { λ r. ⌜ r ≡ toZ w16 x ⌝ }
 {
-    if x < 32768 {
+    if x < HALF16 {
         return x as i16;
     }
-    ((x as i32) - 65536) as i16
+    ((x as i32) - WIDE_SIGNED) as i16
 }
 
 // ---- 16 bits
@@ -73,7 +79,7 @@ pub fn from_bits16(x: u16) -> i16
 pub fn cut_i16(x: i32) -> i16
     ensures { λ r. ⌜ r ≡ cut16 x ⌝ }
 {
-    from_bits16((to_bits(x) % 65536) as u16)
+    from_bits16((to_bits(x) % WIDE) as u16)
 }
 
 pub fn widen16(x: i16) -> i32

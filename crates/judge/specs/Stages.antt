@@ -10,21 +10,16 @@ use Rattle.memory.specs.declared.Counts.{Counts}
 use Rattle.model.specs.Reading.{Answer, got, refused, onward, word}
 use Rattle.model.specs.Script.{Block, blockNodes, blockCommands}
 use Rattle.model.specs.Image.{image, readLink}
-use Rattle.model.specs.Memory.{Coded, Memory, codedIn, memoryIn, blockWord}
+use Rattle.model.specs.Memory.{Memory, blockWord}
 use Rattle.model.specs.Record.{blockTail, recordImage, heldKept, limitsKept, judgedRecord}
+use Rattle.memory.specs.View.{memoryOf}
 use Rattle.terms.specs.Told.{Kept}
 use Rattle.judge.specs.declared.Stage.{Stage}
 use Rattle.judge.specs.declared.Stage.the-variants.{Fine as Passed, No as Stopped}
 use Rattle.judge.specs.declared.Judged.{Judged}
 use Rattle.judge.specs.declared.Judged.the-variants.{Fine, No}
 
--- ---- a record as the functions get it: arrays, and the kept counts by value
-
-abbrev pub codedBy : List ℕ → List ℤ → List ℕ → Counts → Coded
-codedBy ws vs cw k = codedIn ws vs cw (k .nodes) (k .commands)
-
-abbrev pub memoryBy : List ℕ → List ℤ → List ℕ → List ℕ → Counts → Memory
-memoryBy ws vs cw bw k = memoryIn ws vs cw bw (k .nodes) (k .commands) (k .blocks)
+-- ---- kept counts by value
 
 abbrev pub KeptBy : Counts → Type 0
 KeptBy k = Kept (k .nodes) (k .commands) (k .blocks)
@@ -32,7 +27,7 @@ KeptBy k = Kept (k .nodes) (k .commands) (k .blocks)
 -- whether the kept counts are within their limits
 pub record Within (k : Counts) (b : Bool) : Type 0 where
   pub kept : b ≡ true → KeptBy k
-  pub over : b ≡ false → (ws : List ℕ) (vs : List ℤ) (cw bw : List ℕ) → limitsKept (memoryBy ws vs cw bw k) ≡ false
+  pub over : b ≡ false → (ws : List ℕ) (vs : List ℤ) (cw bw : List ℕ) → limitsKept (memoryOf ws vs cw bw k) ≡ false
 
 -- ---- commands and blocks
 

@@ -6,13 +6,21 @@ ghost use Rattle.model.specs.Limits.{commandLimit};
 ghost use Rattle.model.specs.Reading.{word};
 ghost use Rattle.model.specs.Script.{commandNodes, commandsNodes};
 ghost use Rattle.model.specs.Image.{readBlockNo, readLink, commandOf, readCommand, readCommands, setOf, blockOf, readBlock};
-ghost use Rattle.model.specs.Memory.{memoryIn};
 ghost use Rattle.model.specs.Record.{rootImage, commandTail, commandImageIn, commandsImageIn, blockTail};
-ghost use Rattle.terms.specs.Told.{Told, limitsBy, nodesBy, ReadyBy};
-ghost use Rattle.judge.specs.Stages.{codedBy, memoryBy, KeptBy, uncounted, readLinks, StandingBy, Staged, blockImageIn, Within, JudgedAs, WalkedAs};
+ghost use Rattle.memory.specs.View.{nodesOf, codedOf, memoryOf};
+ghost use Rattle.terms.specs.Told.{Told, limitsBy, ReadyBy};
+ghost use Rattle.judge.specs.Stages.{KeptBy, uncounted, readLinks, StandingBy, Staged, blockImageIn, Within, JudgedAs, WalkedAs};
 use held::held_kept;
 use image_numbers::short_length;
+use memory::BLOCK_LIMIT;
+use memory::BlockWords;
+use memory::COMMANDS;
+use memory::COMMAND_LIMIT;
+use memory::CommandWords;
 use memory::Counts;
+use memory::NODE_LIMIT;
+use memory::NodeWords;
+use memory::Values;
 use memory::index_of;
 use terms::Step;
 use terms::judge_term;
@@ -55,8 +63,8 @@ fn judge_link(k: u16, blocks: u16, n: u16, at: usize) -> Step
 
 // The target and the value of a Set whose target is a Variable.
 fn judge_pair(
-    ws: &[u16; 98304],
-    val: &[i32; 32768],
+    ws: &NodeWords,
+    val: &Values,
     counts: Counts,
     i: u16,
     j: u16,
@@ -64,7 +72,7 @@ fn judge_pair(
     at: usize,
 ) -> Step
     requires { ⌜ ReadyBy counts n at 200000 ⌝ }
-    ensures { λ r. ⌜ Told (setOf (limitsBy counts) n 0) commandNodes (rootImage (nodesBy (now (ws .entry)) (now (val .entry)) counts) i ++ rootImage (nodesBy (now (ws .entry)) (now (val .entry)) counts) j) (counts .nodes) 0 n at r ⌝ }
+    ensures { λ r. ⌜ Told (setOf (limitsBy counts) n 0) commandNodes (rootImage (nodesOf (now (ws .entry)) (now (val .entry)) counts) i ++ rootImage (nodesOf (now (ws .entry)) (now (val .entry)) counts) j) (counts .nodes) 0 n at r ⌝ }
 {
     let a = judge_term(ws, val, counts, i, n, at);
     match a {
@@ -75,16 +83,16 @@ fn judge_pair(
 
 // What follows the code of a Set: target and value.
 fn judge_set(
-    ws: &[u16; 98304],
-    val: &[i32; 32768],
-    cw: &[u16; 65536],
+    ws: &NodeWords,
+    val: &Values,
+    cw: &CommandWords,
     counts: Counts,
     i: usize,
     n: u16,
     at: usize,
 ) -> Step
     requires { ⌜ (i < counts .commands) × ReadyBy counts n at 199000 ⌝ }
-    ensures { λ r. ⌜ Told (commandOf (limitsBy counts) n 2) commandNodes (commandTail (codedBy (now (ws .entry)) (now (val .entry)) (now (cw .entry)) counts) i 2) (counts .nodes) 3 n at r ⌝ }
+    ensures { λ r. ⌜ Told (commandOf (limitsBy counts) n 2) commandNodes (commandTail (codedOf (now (ws .entry)) (now (val .entry)) (now (cw .entry)) counts) i 2) (counts .nodes) 3 n at r ⌝ }
 {
     let target = cw[4 * i + 3];
     if target == 0 {
@@ -98,16 +106,16 @@ fn judge_set(
 
 // What follows the code of an If: condition and else block.
 fn judge_if(
-    ws: &[u16; 98304],
-    val: &[i32; 32768],
-    cw: &[u16; 65536],
+    ws: &NodeWords,
+    val: &Values,
+    cw: &CommandWords,
     counts: Counts,
     i: usize,
     n: u16,
     at: usize,
 ) -> Step
     requires { ⌜ (i < counts .commands) × ReadyBy counts n at 199000 ⌝ }
-    ensures { λ r. ⌜ Told (commandOf (limitsBy counts) n 3) commandNodes (commandTail (codedBy (now (ws .entry)) (now (val .entry)) (now (cw .entry)) counts) i 3) (counts .nodes) 3 n at r ⌝ }
+    ensures { λ r. ⌜ Told (commandOf (limitsBy counts) n 3) commandNodes (commandTail (codedOf (now (ws .entry)) (now (val .entry)) (now (cw .entry)) counts) i 3) (counts .nodes) 3 n at r ⌝ }
 {
     let a = judge_term(ws, val, counts, cw[4 * i + 1], n, at);
     match a {
@@ -118,9 +126,9 @@ fn judge_if(
 
 // What follows the code k of a command.
 fn judge_tail(
-    ws: &[u16; 98304],
-    val: &[i32; 32768],
-    cw: &[u16; 65536],
+    ws: &NodeWords,
+    val: &Values,
+    cw: &CommandWords,
     counts: Counts,
     i: usize,
     k: u16,
@@ -128,7 +136,7 @@ fn judge_tail(
     at: usize,
 ) -> Step
     requires { ⌜ (i < counts .commands) × ReadyBy counts n at 199000 ⌝ }
-    ensures { λ r. ⌜ Told (commandOf (limitsBy counts) n k) commandNodes (commandTail (codedBy (now (ws .entry)) (now (val .entry)) (now (cw .entry)) counts) i k) (counts .nodes) 3 n at r ⌝ }
+    ensures { λ r. ⌜ Told (commandOf (limitsBy counts) n k) commandNodes (commandTail (codedOf (now (ws .entry)) (now (val .entry)) (now (cw .entry)) counts) i k) (counts .nodes) 3 n at r ⌝ }
 {
     match k {
         0 => Step::Fine(n, at),
@@ -142,16 +150,16 @@ fn judge_tail(
 
 // Command i, which has to be below the kept count.
 fn judge_command(
-    ws: &[u16; 98304],
-    val: &[i32; 32768],
-    cw: &[u16; 65536],
+    ws: &NodeWords,
+    val: &Values,
+    cw: &CommandWords,
     counts: Counts,
     i: usize,
     n: u16,
     at: usize,
 ) -> Step
     requires { ⌜ ReadyBy counts n at 198000 ⌝ }
-    ensures { λ r. ⌜ Told (readCommand (limitsBy counts) n) commandNodes (commandImageIn (codedBy (now (ws .entry)) (now (val .entry)) (now (cw .entry)) counts) i) (counts .nodes) 4 n at r ⌝ }
+    ensures { λ r. ⌜ Told (readCommand (limitsBy counts) n) commandNodes (commandImageIn (codedOf (now (ws .entry)) (now (val .entry)) (now (cw .entry)) counts) i) (counts .nodes) 4 n at r ⌝ }
 {
     let there = index_of(counts.commands);
     if i >= there {
@@ -166,17 +174,17 @@ fn judge_command(
 
 // So many commands, from the first on; they may run past the arrays.
 fn judge_commands(
-    ws: &[u16; 98304],
-    val: &[i32; 32768],
-    cw: &[u16; 65536],
+    ws: &NodeWords,
+    val: &Values,
+    cw: &CommandWords,
     counts: Counts,
     first: u16,
     held: u16,
     n: u16,
     at: usize,
 ) -> Step
-    requires { ⌜ (held ≤ 16384) × ReadyBy counts n at 110000 ⌝ }
-    ensures { λ r. ⌜ Told (readCommands (limitsBy counts) held n) commandsNodes (commandsImageIn (codedBy (now (ws .entry)) (now (val .entry)) (now (cw .entry)) counts) held first) (counts .nodes) (4 * held) n at r ⌝ }
+    requires { ⌜ (held ≤ commandLimit) × ReadyBy counts n at 110000 ⌝ }
+    ensures { λ r. ⌜ Told (readCommands (limitsBy counts) held n) commandsNodes (commandsImageIn (codedOf (now (ws .entry)) (now (val .entry)) (now (cw .entry)) counts) held first) (counts .nodes) (4 * held) n at r ⌝ }
 {
     let f = index_of(first);
     let end = index_of(held);
@@ -213,10 +221,10 @@ fn judge_links(x: u16, y: u16, blocks: u16, n: u16, at: usize) -> Step
 
 // What follows the kind of a code block. Its commands count when their number is read, whether they are there or not.
 fn judge_code(
-    ws: &[u16; 98304],
-    val: &[i32; 32768],
-    cw: &[u16; 65536],
-    bw: &[u16; 20480],
+    ws: &NodeWords,
+    val: &Values,
+    cw: &CommandWords,
+    bw: &BlockWords,
     counts: Counts,
     i: usize,
     n: u16,
@@ -224,7 +232,7 @@ fn judge_code(
     at: usize,
 ) -> Stage
     requires { ⌜ StandingBy counts i n m at 109000 ⌝ }
-    ensures { λ r. ⌜ Staged (blockOf (limitsBy counts) m n 1) (blockTail (memoryBy (now (ws .entry)) (now (val .entry)) (now (cw .entry)) (now (bw .entry)) counts) i 1) (counts .nodes) (counts .commands) 9 n m at r ⌝ }
+    ensures { λ r. ⌜ Staged (blockOf (limitsBy counts) m n 1) (blockTail (memoryOf (now (ws .entry)) (now (val .entry)) (now (cw .entry)) (now (bw .entry)) counts) i 1) (counts .nodes) (counts .commands) 9 n m at r ⌝ }
 {
     let held = bw[5 * i + 2];
     let room = counts.commands - m;
@@ -247,10 +255,10 @@ fn judge_code(
 
 // Block i.
 fn judge_block(
-    ws: &[u16; 98304],
-    val: &[i32; 32768],
-    cw: &[u16; 65536],
-    bw: &[u16; 20480],
+    ws: &NodeWords,
+    val: &Values,
+    cw: &CommandWords,
+    bw: &BlockWords,
     counts: Counts,
     i: usize,
     n: u16,
@@ -258,7 +266,7 @@ fn judge_block(
     at: usize,
 ) -> Stage
     requires { ⌜ StandingBy counts i n m at 108000 ⌝ }
-    ensures { λ r. ⌜ Staged (readBlock (limitsBy counts) m n) (blockImageIn (memoryBy (now (ws .entry)) (now (val .entry)) (now (cw .entry)) (now (bw .entry)) counts) i) (counts .nodes) (counts .commands) 10 n m at r ⌝ }
+    ensures { λ r. ⌜ Staged (readBlock (limitsBy counts) m n) (blockImageIn (memoryOf (now (ws .entry)) (now (val .entry)) (now (cw .entry)) (now (bw .entry)) counts) i) (counts .nodes) (counts .commands) 10 n m at r ⌝ }
 {
     let kind = bw[5 * i];
     match kind {
@@ -271,14 +279,14 @@ fn judge_block(
 
 // All blocks, where the kept counts are within their limits.
 fn judge_blocks(
-    ws: &[u16; 98304],
-    val: &[i32; 32768],
-    cw: &[u16; 65536],
-    bw: &[u16; 20480],
+    ws: &NodeWords,
+    val: &Values,
+    cw: &CommandWords,
+    bw: &BlockWords,
     counts: Counts,
 ) -> Judged
     requires { ⌜ KeptBy counts ⌝ }
-    ensures { λ r. ⌜ WalkedAs (memoryBy (now (ws .entry)) (now (val .entry)) (now (cw .entry)) (now (bw .entry)) counts) r ⌝ }
+    ensures { λ r. ⌜ WalkedAs (memoryOf (now (ws .entry)) (now (val .entry)) (now (cw .entry)) (now (bw .entry)) counts) r ⌝ }
 {
     let end = index_of(counts.blocks);
     let mut n: u16 = 0;
@@ -306,26 +314,26 @@ fn judge_blocks(
 fn within_limits(counts: Counts) -> bool
     ensures { λ r. ⌜ Within counts r ⌝ }
 {
-    if counts.blocks > 4096 {
+    if counts.blocks > BLOCK_LIMIT {
         return false;
     }
-    if counts.commands > 16384 {
+    if counts.commands > COMMAND_LIMIT {
         return false;
     }
-    counts.nodes <= 32768
+    counts.nodes <= NODE_LIMIT
 }
 
 // The kept counts, then block by block. What the walk accepts holds nothing past its kept counts, so that only what it refuses is asked for that.
 fn judge_by(
-    ws: &[u16; 98304],
-    val: &[i32; 32768],
+    ws: &NodeWords,
+    val: &Values,
     runs: &mut [u16],
-    cw: &[u16; 65536],
-    bw: &[u16; 20480],
+    cw: &CommandWords,
+    bw: &BlockWords,
     counts: Counts,
 ) -> Judged
     requires { ⌜ commandLimit ≤ length (now runs) ⌝ }
-    ensures { λ r. ⌜ JudgedAs (memoryBy (now (ws .entry)) (now (val .entry)) (now (cw .entry)) (now (bw .entry)) counts) r ⌝ }
+    ensures { λ r. ⌜ JudgedAs (memoryOf (now (ws .entry)) (now (val .entry)) (now (cw .entry)) (now (bw .entry)) counts) r ⌝ }
 {
     if !within_limits(counts) {
         return Judged::No(3);
@@ -345,14 +353,14 @@ fn judge_by(
 // The judgement of a script record, in the place of refusals 2 to 5: the kept counts first, then block by block as its image would be read.
 // The table is made before anything is looked at: a way out before a large array is what the back end may get wrong.
 pub fn judge_record(
-    ws: &[u16; 98304],
-    val: &[i32; 32768],
-    cw: &[u16; 65536],
-    bw: &[u16; 20480],
+    ws: &NodeWords,
+    val: &Values,
+    cw: &CommandWords,
+    bw: &BlockWords,
     counts: Counts,
 ) -> Judged
-    ensures { λ r. ⌜ JudgedAs (memoryIn (now (ws .entry)) (now (val .entry)) (now (cw .entry)) (now (bw .entry)) (counts .nodes) (counts .commands) (counts .blocks)) r ⌝ }
+    ensures { λ r. ⌜ JudgedAs (memoryOf (now (ws .entry)) (now (val .entry)) (now (cw .entry)) (now (bw .entry)) counts) r ⌝ }
 {
-    let mut runs = [0u16; 16384];
+    let mut runs = [0u16; COMMANDS];
     judge_by(ws, val, &mut runs, cw, bw, counts)
 }

@@ -18,6 +18,7 @@ use Rattle.model.specs.RecordCalls.{writeIn}
 use Rattle.model.specs.Laws.Checks.{first-passed}
 use Rattle.model.specs.Laws.Image.{same-bytes}
 use Rattle.model.specs.Laws.Refused.{Accepts, accepts}
+use Rattle.memory.specs.View.{memoryOf}
 use Rattle.memory.specs.Sound.{Long}
 use Rattle.memory.specs.RecordLaws.{proper-record}
 use Rattle.memory.specs.ReadRecord.{Empty, read-blocks}
@@ -37,7 +38,7 @@ pub record Lent : Type 0 where
 
 -- with the kept counts that a call answered, or none
 abbrev pub kept : Lent → Kept → Memory
-kept a r = memoryIn (a .ws) (a .val) (a .cw) (a .bw) (r .nodes) (r .commands) (r .blocks)
+kept a r = memoryOf (a .ws) (a .val) (a .cw) (a .bw) r
 
 abbrev pub empty : Lent → Memory
 empty a = memoryIn (a .ws) (a .val) (a .cw) (a .bw) 0 0 0

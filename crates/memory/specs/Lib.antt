@@ -1,3 +1,4 @@
+pub mod View
 pub mod Pushed
 pub mod Sound
 pub mod NodeLaws

@@ -1,7 +1,7 @@
 -- A script record whose blocks can be written as an image: what they lead to is there and has codes that are known. Assumes nothing: these are definitions.
 use mathlib.Core.Path.{_≡_}
 use mathlib.Core.List.{List}
-use Prim.Native.Nat.{ℕ, zero, suc, _+_, _≤_, _<_}
+use Prim.Native.Nat.{ℕ, zero, suc, _+_, _≤_, _<_, _*_}
 use lib.ListN.{length}
 use Rattle.model.specs.Limits.{blockLimit, commandLimit, nodeLimit}
 use Rattle.model.specs.declared.Op2.{Op2}
@@ -63,16 +63,16 @@ pub record Sound (m : Memory) : Type 0 where
 -- ---- what appending wants: arrays of their lengths, and room in them
 
 pub record LongNodes (ns : Nodes) : Type 0 where
-  pub words : length (ns .words) ≡ 98304
-  pub values : length (ns .values) ≡ 32768
+  pub words : length (ns .words) ≡ 3 * nodeLimit
+  pub values : length (ns .values) ≡ nodeLimit
 
 pub record LongCoded (co : Coded) : Type 0 where
   pub nodes : LongNodes (co .nodes)
-  pub words : length (co .words) ≡ 65536
+  pub words : length (co .words) ≡ 4 * commandLimit
 
 pub record Long (m : Memory) : Type 0 where
   pub coded : LongCoded (m .coded)
-  pub words : length (m .words) ≡ 20480
+  pub words : length (m .words) ≡ 5 * blockLimit
 
 pub record Room (m : Memory) (xs : List Block) : Type 0 where
   pub blocks : m .count + length xs ≤ blockLimit

@@ -1,12 +1,32 @@
 // The script in lent arrays: one node, command or block more, a block emptied and linked, and the codes of kinds.
 ghost use mathlib.Core.Path.{_≡_};
 ghost use Prim.Native.Nat.{_+_, _<_};
+ghost use Rattle.model.specs.Limits.{blockLimit, commandLimit, nodeLimit};
 ghost use Rattle.model.specs.Image.{kindOf, code2, code1};
 ghost use Rattle.model.specs.Memory.{nodesIn, commandWords, blockWords};
 ghost use Rattle.memory.specs.Pushed.{PushedNode, PushedCommand, PushedBlock};
 use model::Kind;
 use model::Op1;
 use model::Op2;
+
+// The limits of a script: blocks, commands, expression nodes (01, Script).
+pub const BLOCKS: usize = 4096;
+pub const COMMANDS: usize = 16384;
+pub const NODES: usize = 32768;
+
+// The same as words.
+pub const BLOCK_LIMIT: u16 = BLOCKS as u16;
+pub const COMMAND_LIMIT: u16 = COMMANDS as u16;
+pub const NODE_LIMIT: u16 = NODES as u16;
+
+// The words of its arrays: five a block, four a command, three a node beside its value.
+pub const BLOCK_WORDS: usize = 5 * BLOCKS;
+pub const COMMAND_WORDS: usize = 4 * COMMANDS;
+pub const NODE_WORDS: usize = 3 * NODES;
+pub type BlockWords = [u16; BLOCK_WORDS];
+pub type CommandWords = [u16; COMMAND_WORDS];
+pub type NodeWords = [u16; NODE_WORDS];
+pub type Values = [i32; NODES];
 
 // The kept counts of a script.
 pub struct Counts {
@@ -79,15 +99,15 @@ pub fn code_one(o: Op1) -> u16
 }
 
 pub fn push_node(
-    ws: &mut [u16; 98304],
-    val: &mut [i32; 32768],
+    ws: &mut NodeWords,
+    val: &mut Values,
     n: u16,
     code: u16,
     left: u16,
     right: u16,
     value: i32,
 ) -> u16
-    requires { ⌜ n < 32768 ⌝ }
+    requires { ⌜ n < nodeLimit ⌝ }
     ensures { λ m. ⌜ PushedNode (nodesIn (now (ws .entry)) (now (val .entry)) n) code left right value (nodesIn (now (ws .exit)) (now (val .exit)) m) ⌝ }
 {
     let i = n as usize;
@@ -98,8 +118,8 @@ pub fn push_node(
     n + 1
 }
 
-pub fn push_command(cw: &mut [u16; 65536], n: u16, code: u16, a: u16, b: u16, block: u16) -> u16
-    requires { ⌜ n < 16384 ⌝ }
+pub fn push_command(cw: &mut CommandWords, n: u16, code: u16, a: u16, b: u16, block: u16) -> u16
+    requires { ⌜ n < commandLimit ⌝ }
     ensures { λ m. ⌜ PushedCommand (now (cw .entry)) n code a b block (now (cw .exit)) m ⌝ }
 {
     let i = n as usize;
@@ -112,7 +132,7 @@ pub fn push_command(cw: &mut [u16; 65536], n: u16, code: u16, a: u16, b: u16, bl
 
 // Writes block b whole.
 pub fn set_block(
-    bw: &mut [u16; 20480],
+    bw: &mut BlockWords,
     b: u16,
     kind: u16,
     first: u16,
@@ -120,7 +140,7 @@ pub fn set_block(
     next: u16,
     other: u16,
 )
-    requires { ⌜ b < 4096 ⌝ }
+    requires { ⌜ b < blockLimit ⌝ }
     ensures { λ _. ⌜ now (bw .exit) ≡ blockWords (now (bw .entry)) b kind first held next other ⌝ }
 {
     let i = b as usize;
@@ -132,7 +152,7 @@ pub fn set_block(
 }
 
 pub fn push_block(
-    bw: &mut [u16; 20480],
+    bw: &mut BlockWords,
     n: u16,
     kind: u16,
     first: u16,
@@ -140,7 +160,7 @@ pub fn push_block(
     next: u16,
     other: u16,
 ) -> u16
-    requires { ⌜ n < 4096 ⌝ }
+    requires { ⌜ n < blockLimit ⌝ }
     ensures { λ m. ⌜ PushedBlock (now (bw .entry)) n kind first held next other (now (bw .exit)) m ⌝ }
 {
     let i = n as usize;

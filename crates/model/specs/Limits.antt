@@ -65,6 +65,10 @@ wide = 4294967296
 abbrev pub wide16 : ℕ
 wide16 = 65536
 
+-- half of the latter: a signed number of 16 bits lies below it
+abbrev pub half16 : ℕ
+half16 = 32768
+
 -- Program slots: the bytes of standard input
 abbrev pub inputLimit : ℕ
 inputLimit = 65536

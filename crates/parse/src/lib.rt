@@ -1,16 +1,23 @@
 // The call parse: its checks in 01's order, then the walk from the setup block and the slots that it read.
 ghost use mathlib.Core.Path.{_≡_};
-ghost use Rattle.model.specs.Memory.{memoryIn};
 ghost use Rattle.model.specs.RecordCalls.{parseIn};
+ghost use Rattle.memory.specs.View.{memoryOf};
 ghost use Rattle.shop.specs.Shapes.{sheetOf};
 ghost use Rattle.shop_arrays.specs.Arrays.{arraysIn};
 ghost use Rattle.parse.specs.Answer.{ParsedAs, ParsedInto};
 use checks::check_call;
+use memory::BlockWords;
+use memory::CommandWords;
 use memory::Counts;
+use memory::NodeWords;
+use memory::Values;
 use model::BlockNo;
 use parse_keys::Known;
 use parse_visit::Walk;
 use parse_walk::walk;
+use shop::CODES;
+use shop::Codes;
+use shop::SLOTS;
 use shop::Sheet;
 use shop::Shop;
 use shop_arrays::clear_arrays;
@@ -27,18 +34,18 @@ pub struct ParsedShop {
 pub fn parse_arrays(
     attached: &[u8],
     sheet: Sheet,
-    ws: &[u16; 98304],
-    val: &[i32; 32768],
-    cw: &[u16; 65536],
-    bw: &[u16; 20480],
+    ws: &NodeWords,
+    val: &Values,
+    cw: &CommandWords,
+    bw: &BlockWords,
     counts: Counts,
     setup: BlockNo,
-    items: &mut [i32; 20],
-    limits: &mut [i16; 20],
-    codes: &mut [u64; 640],
-    lens: &mut [u8; 20],
+    items: &mut [i32; SLOTS],
+    limits: &mut [i16; SLOTS],
+    codes: &mut Codes,
+    lens: &mut [u8; SLOTS],
 ) -> u8
-    ensures { λ r. ⌜ ParsedInto (parseIn (sheetOf (now (attached .entry)) sheet) (memoryIn (now (ws .entry)) (now (val .entry)) (now (cw .entry)) (now (bw .entry)) (counts .nodes) (counts .commands) (counts .blocks)) (setup .0)) r (arraysIn (now (items .exit)) (now (limits .exit)) (now (codes .exit)) (now (lens .exit))) ⌝ }
+    ensures { λ r. ⌜ ParsedInto (parseIn (sheetOf (now (attached .entry)) sheet) (memoryOf (now (ws .entry)) (now (val .entry)) (now (cw .entry)) (now (bw .entry)) counts) (setup .0)) r (arraysIn (now (items .exit)) (now (limits .exit)) (now (codes .exit)) (now (lens .exit))) ⌝ }
 {
     clear_arrays(items, limits, codes, lens);
     let refused = check_call(attached, sheet, ws, val, cw, bw, counts, setup);
@@ -74,19 +81,19 @@ pub fn parse_arrays(
 pub fn parse(
     attached: &[u8],
     sheet: Sheet,
-    ws: &[u16; 98304],
-    val: &[i32; 32768],
-    cw: &[u16; 65536],
-    bw: &[u16; 20480],
+    ws: &NodeWords,
+    val: &Values,
+    cw: &CommandWords,
+    bw: &BlockWords,
     counts: Counts,
     setup: BlockNo,
 ) -> ParsedShop
-    ensures { λ r. ⌜ ParsedAs (parseIn (sheetOf (now (attached .entry)) sheet) (memoryIn (now (ws .entry)) (now (val .entry)) (now (cw .entry)) (now (bw .entry)) (counts .nodes) (counts .commands) (counts .blocks)) (setup .0)) r ⌝ }
+    ensures { λ r. ⌜ ParsedAs (parseIn (sheetOf (now (attached .entry)) sheet) (memoryOf (now (ws .entry)) (now (val .entry)) (now (cw .entry)) (now (bw .entry)) counts) (setup .0)) r ⌝ }
 {
-    let mut items = [-1; 20];
-    let mut limits = [0; 20];
-    let mut codes = [0; 640];
-    let mut lens = [0; 20];
+    let mut items = [-1; SLOTS];
+    let mut limits = [0; SLOTS];
+    let mut codes = [0; CODES];
+    let mut lens = [0; SLOTS];
     let refusal = parse_arrays(
         attached,
         sheet,

@@ -1,9 +1,12 @@
 // The requirements of a condition, read when a block with an If is reached: a list of entries for each If, one after the other.
 ghost use mathlib.Core.Path.{_≡_};
 ghost use Prim.Native.Nat.{_≤_, _<_};
+ghost use Rattle.model.specs.Limits.{nodeLimit};
 ghost use Rattle.model.specs.Parse.{isNot};
 ghost use Rattle.parse_conditions.specs.Gathered.{joins, toggles, alone, gathered};
 ghost use Rattle.parse_conditions.specs.Listing.{Place, ReadCondition};
+use memory::NodeWords;
+use memory::Values;
 use memory::index_of;
 use memory::kind_of;
 use model::Kind;
@@ -14,6 +17,7 @@ use parse_keys::read_entry;
 
 // How far the keys and the list of entries have come is one number, which a call returns in a register: keys * 65536 + entries.
 // This one says that there is no room.
+pub const PLACES: u32 = 65536;
 pub const FULL: u32 = 4294967295;
 
 fn is_join(k: Kind) -> bool
@@ -55,8 +59,8 @@ fn is_not_op(o: Op1) -> bool
 
 // Node i, below b, that neither joins nor toggles: its entry joins the list, where it has one.
 fn read_leaf(
-    ws: &[u16; 98304],
-    val: &[i32; 32768],
+    ws: &NodeWords,
+    val: &Values,
     keys: &mut [u64],
     kids: &mut [u16],
     companions: &mut [u16],
@@ -67,10 +71,10 @@ fn read_leaf(
     neg: bool,
     r: u32,
 ) -> u32
-    requires { ⌜ (b ≤ 32768) × Place (now keys) (now kids) (now companions) (now list) r ⌝ }
+    requires { ⌜ (b ≤ nodeLimit) × Place (now keys) (now kids) (now companions) (now list) r ⌝ }
     ensures { λ s. ⌜ ReadCondition (now (ws .entry)) (now (val .entry)) known b i (λ h e. alone h e neg) r (now (keys .entry)) (now (list .entry)) (now (keys .exit)) (now (kids .exit)) (now (companions .exit)) (now (list .exit)) s ⌝ }
 {
-    let at = (r % 65536) as usize;
+    let at = (r % PLACES) as usize;
     let w = read_entry(
         ws,
         val,
@@ -78,7 +82,7 @@ fn read_leaf(
         kids,
         companions,
         known,
-        (r / 65536) as u16,
+        (r / PLACES) as u16,
         b,
         i,
         neg,
@@ -93,13 +97,13 @@ fn read_leaf(
         return FULL;
     }
     list[at] = w.word;
-    (w.count as u32) * 65536 + (at as u32) + 1
+    (w.count as u32) * PLACES + (at as u32) + 1
 }
 
 // The entries of node i, below b, joined to the list: And and Or both join, Not toggles.
 pub fn read_condition(
-    ws: &[u16; 98304],
-    val: &[i32; 32768],
+    ws: &NodeWords,
+    val: &Values,
     keys: &mut [u64],
     kids: &mut [u16],
     companions: &mut [u16],
@@ -110,7 +114,7 @@ pub fn read_condition(
     neg: bool,
     r: u32,
 ) -> u32
-    requires { ⌜ (b ≤ 32768) × Place (now keys) (now kids) (now companions) (now list) r ⌝ }
+    requires { ⌜ (b ≤ nodeLimit) × Place (now keys) (now kids) (now companions) (now list) r ⌝ }
     ensures { λ s. ⌜ ReadCondition (now (ws .entry)) (now (val .entry)) known b i (λ h e. gathered h e neg) r (now (keys .entry)) (now (list .entry)) (now (keys .exit)) (now (kids .exit)) (now (companions .exit)) (now (list .exit)) s ⌝ }
 {
     if b <= i {

@@ -10,6 +10,8 @@ ghost use Rattle.parse_filter.specs.Chains.{signedEntry, signedPart, ent
 ghost use Rattle.parse_filter.specs.Filter.{Met, Sifted, companionCodes, Coded, Holds};
 ghost use Rattle.parse_filter.specs.Marks.{MarkedAs, Part, Marks, Onward, Unmarks, Served, Parsed};
 use memory::index_of;
+use shop::ENTRIES;
+use shop::Row;
 use shop::insert_in;
 use shop_codes::missing_of;
 
@@ -217,7 +219,7 @@ fn companion_codes(
     companions: &[u16],
     alive: &[u16],
     n: usize,
-    codes: &mut [u64; 32],
+    codes: &mut Row,
 ) -> usize
     requires { ⌜ Coded (now keys) (now companions) (now alive) n ⌝ }
     ensures { λ r. ⌜ Holds (companionCodes (now (keys .entry)) (now (companions .entry)) (take n (now (alive .entry)))) (now (codes .exit)) r ⌝ }
@@ -226,7 +228,7 @@ fn companion_codes(
     let mut i = 0;
     while i < n {
         len = insert_in(codes, len, entry_code(keys, companions[index_of(alive[i])]));
-        if 32 < len {
+        if ENTRIES < len {
             return len;
         }
         i += 1;
@@ -243,7 +245,7 @@ pub fn parse_requirements(
     companions: &[u16],
     seen: &mut [bool],
     alive: &mut [u16],
-    codes: &mut [u64; 32],
+    codes: &mut Row,
     old: Marked,
     first: usize,
 ) -> Filtered

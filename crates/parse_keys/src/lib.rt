@@ -4,7 +4,7 @@ ghost use Prim.Native.Nat.{ℕ, _+_, _*_, _/_, _%_, _<_, _≤_};
 ghost use lib.ListN.{length};
 ghost use Rattle.model.specs.Memory.{nodesIn, rightAt};
 ghost use Rattle.model.specs.Parse.{value, mapReq, signed, parseRequirement};
-ghost use Rattle.model.specs.Limits.{wide};
+ghost use Rattle.model.specs.Limits.{wide, nodeLimit};
 ghost use Rattle.expr.specs.Tree.{treeBelow};
 ghost use Rattle.parse_keys.specs.Entries.{Subject};
 ghost use Rattle.parse_keys.specs.Search.{Table, Search};
@@ -12,6 +12,8 @@ ghost use Rattle.parse_keys.specs.Reads.{Numbered, idCode, flagCode, sig
 ghost use Rattle.parse_keys.specs.Tables.{Tables, OfNode, Entered, ReadEntry};
 use expr::MaybeNumber;
 use expr::number_below;
+use memory::NodeWords;
+use memory::Values;
 use memory::index_of;
 use memory::kind_of;
 use model::Kind;
@@ -48,7 +50,7 @@ struct Found {
 
 // The search goes by the bits of the code, lowest first: codes are below 2^35, so that it takes at most 36 steps whatever the script.
 fn find(keys: &[u64], kids: &[u16], m: usize, code: u64) -> Found
-    requires { ⌜ ((m < 32768) × (2 * m + 2 ≤ length (now kids))) × Table (now keys) (now kids) m ⌝ }
+    requires { ⌜ ((m < nodeLimit) × (2 * m + 2 ≤ length (now kids))) × Table (now keys) (now kids) m ⌝ }
     ensures { λ r. ⌜ Search (now (keys .entry)) (now (kids .entry)) m code r ⌝ }
 {
     let mut at = 0;
@@ -76,8 +78,8 @@ fn find(keys: &[u64], kids: &[u16], m: usize, code: u64) -> Found
 const NO_NUMBER: u64 = KIND;
 
 // The number of node i, which has to be an Imm below b, moved up by 2^31; 2^32 where there is none.
-fn shifted_below(ws: &[u16; 98304], val: &[i32; 32768], b: u16, i: u16) -> u64
-    requires { ⌜ b ≤ 32768 ⌝ }
+fn shifted_below(ws: &NodeWords, val: &Values, b: u16, i: u16) -> u64
+    requires { ⌜ b ≤ nodeLimit ⌝ }
     ensures { λ r. ⌜ ((n : ℕ) → Numbered r (value (treeBelow (nodesIn (now (ws .entry)) (now (val .entry)) n) b i))) ⌝ }
 {
     let v = number_below(ws, val, b, i);
@@ -144,8 +146,8 @@ fn sign_of(o: Op2) -> u16
 }
 
 // .. and which one the comparison o at node i gives: only 0 on the right counts.
-fn zero_sign(ws: &[u16; 98304], val: &[i32; 32768], i: usize, o: Op2) -> u16
-    requires { ⌜ i < 32768 ⌝ }
+fn zero_sign(ws: &NodeWords, val: &Values, i: usize, o: Op2) -> u16
+    requires { ⌜ i < nodeLimit ⌝ }
     ensures { λ r. ⌜ ((n : ℕ) → r ≡ zeroSign o (value (treeBelow (nodesIn (now (ws .entry)) (now (val .entry)) n) i (rightAt (nodesIn (now (ws .entry)) (now (val .entry)) n) i)))) ⌝ }
 {
     let s = shifted_below(ws, val, i as u16, ws[3 * i + 2]);
@@ -171,14 +173,14 @@ fn signed_code(c: u64, neg: bool) -> u64
 
 // The code of the requirement that node i is, below b and under a sign: comparisons with 0 are gone down through.
 fn code_below(
-    ws: &[u16; 98304],
-    val: &[i32; 32768],
+    ws: &NodeWords,
+    val: &Values,
     known: Known,
     b: usize,
     i: usize,
     neg: bool,
 ) -> u64
-    requires { ⌜ b ≤ 32768 ⌝ }
+    requires { ⌜ b ≤ nodeLimit ⌝ }
     ensures { λ r. ⌜ OfNode (now (ws .entry)) (now (val .entry)) known b i (λ h e. Reading r (mapReq (signed neg) (parseRequirement h e))) ⌝ }
 {
     if b <= i {
@@ -242,8 +244,8 @@ fn entry_of(keys: &mut [u64], kids: &mut [u16], companions: &mut [u16], m: u16, 
 
 // The entry of node i, which lies below b and neither joins nor toggles, under a sign: 0 where it is no requirement.
 pub fn read_entry(
-    ws: &[u16; 98304],
-    val: &[i32; 32768],
+    ws: &NodeWords,
+    val: &Values,
     keys: &mut [u64],
     kids: &mut [u16],
     companions: &mut [u16],
@@ -253,7 +255,7 @@ pub fn read_entry(
     i: usize,
     neg: bool,
 ) -> Word
-    requires { ⌜ (b ≤ 32768) × Tables (now keys) (now kids) (now companions) m ⌝ }
+    requires { ⌜ (b ≤ nodeLimit) × Tables (now keys) (now kids) (now companions) m ⌝ }
     ensures { λ r. ⌜ ReadEntry (now (ws .entry)) (now (val .entry)) known b i neg m (now (keys .entry)) (now (keys .exit)) (now (kids .exit)) (now (companions .exit)) r ⌝ }
 {
     let code = code_below(ws, val, known, b, i, neg);

@@ -2,7 +2,7 @@
 use mathlib.Core.Path.{_≡_, refl, sym, ap, _∙_}
 use mathlib.Core.Bool.{true, false, cond}
 use mathlib.Core.Option.{Option, none, some}
-use Prim.Native.Nat.{ℕ, suc, _-_, _^_, _≤_, _<_}
+use Prim.Native.Nat.{ℕ, suc, _-_, _^_, _≤_, _<_, _+_}
 use native.Mathlib.Decide.{decLe}
 use native.Mathlib.Omega.{arith}
 use lib.Dec.{T}
@@ -12,7 +12,7 @@ use mir.Syntax.{w16, w32}
 use mir.Val.{SFits, ofZ, toZ, hbits}
 use mir.Facts.{toZ-ofZ, fits-natAbs}
 use borrow.Author.Tests.{lt-ltb, le-ltb, ltb-true, eq-eqb, ne-eqb}
-use Rattle.model.specs.Limits.{slotCount}
+use Rattle.model.specs.Limits.{slotCount, countFirst, itemFirst}
 use Rattle.model.specs.Signed.{cut16, inRange}
 use Rattle.model.specs.Laws.Signed.{wrap-id}
 use Rattle.model.specs.Expr.{Expr, two, one, imm16, imm32, other}
@@ -199,21 +199,21 @@ module _ (n : ℕ) where
   unfolding placeOf
   place-first e = rw e
 
-  pub place-low : (n ≡ 0 → ⊥) → n < 600 → elsewhere ≡ placeOf n
+  pub place-low : (n ≡ 0 → ⊥) → n < itemFirst → elsewhere ≡ placeOf n
   unfolding placeOf
-  place-low q h = rw (ne-eqb n 0 q, lt-ltb n 600 h)
+  place-low q h = rw (ne-eqb n 0 q, lt-ltb n itemFirst h)
 
-  pub place-item : 600 ≤ n → n < 620 → itemVar (n - 600) ≡ placeOf n
+  pub place-item : itemFirst ≤ n → n < countFirst → itemVar (n - itemFirst) ≡ placeOf n
   unfolding placeOf
-  place-item h g = rw (ne-eqb n 0 (λ e. omega arith), le-ltb n 600 h, lt-ltb n 620 g)
+  place-item h g = rw (ne-eqb n 0 (λ e. omega arith), le-ltb n itemFirst h, lt-ltb n countFirst g)
 
-  pub place-count : 620 ≤ n → n < 640 → countVar (n - 620) ≡ placeOf n
+  pub place-count : countFirst ≤ n → n < (countFirst + slotCount) → countVar (n - countFirst) ≡ placeOf n
   unfolding placeOf
-  place-count h g = rw (ne-eqb n 0 (λ e. omega arith), le-ltb n 600 (omega arith), le-ltb n 620 h, lt-ltb n 640 g)
+  place-count h g = rw (ne-eqb n 0 (λ e. omega arith), le-ltb n itemFirst (omega arith), le-ltb n countFirst h, lt-ltb n (countFirst + slotCount) g)
 
-  pub place-high : 640 ≤ n → elsewhere ≡ placeOf n
+  pub place-high : (countFirst + slotCount) ≤ n → elsewhere ≡ placeOf n
   unfolding placeOf
-  place-high h = rw (ne-eqb n 0 (λ e. omega arith), le-ltb n 600 (omega arith), le-ltb n 620 (omega arith), le-ltb n 640 h)
+  place-high h = rw (ne-eqb n 0 (λ e. omega arith), le-ltb n itemFirst (omega arith), le-ltb n countFirst (omega arith), le-ltb n (countFirst + slotCount) h)
 
 -- the place of the number n that the code has for z
 pub target-is : {p : Place} (x : MaybeNumber) (z : ℤ) (n : ℕ) → x ≡ Is z → SFits w32 z → ltZ (toZ w32 (ofZ w32 z)) (pos 0) ≡ false → n ≡ natAbs (toZ w32 (ofZ w32 z)) → p ≡ placeOf n → p ≡ place (numberOf x)
@@ -227,25 +227,25 @@ target-fits z f = rw (toZ-ofZ f) ((fits-natAbs {w = w32} {w′ = w32} tt f) .fit
 pub target-low : (x : Option ℤ) (i : ℕ) → itemVar i ≡ place x → i < slotCount
 target-low none i e = let z : _≡_ {A = ℕ} 0 1 = cc in absurd (omega arith)
 target-low (some (negsuc n)) i e = let z : _≡_ {A = ℕ} 0 1 = cc in absurd (omega arith)
-target-low (some (pos n)) i e = by (decLe 1 n) (decLe 600 n) (decLe 620 n) (decLe 640 n)
+target-low (some (pos n)) i e = by (decLe 1 n) (decLe itemFirst n) (decLe countFirst n) (decLe (countFirst + slotCount) n)
   where
-    by : Dec (1 ≤ n) → Dec (600 ≤ n) → Dec (620 ≤ n) → Dec (640 ≤ n) → i < 20
+    by : Dec (1 ≤ n) → Dec (itemFirst ≤ n) → Dec (countFirst ≤ n) → Dec ((countFirst + slotCount) ≤ n) → i < 20
     by (no p) q r s = let u : itemVar i ≡ temp = e ∙ sym (place-first n (omega arith)) in let z : _≡_ {A = ℕ} 0 1 = cc in absurd (omega arith)
     by (yes p) (no q) r s = let u : itemVar i ≡ elsewhere = e ∙ sym (place-low n (λ z. omega arith) (omega arith)) in let z : _≡_ {A = ℕ} 0 1 = cc in absurd (omega arith)
-    by (yes p) (yes q) (no r) s = let u : itemVar i ≡ itemVar (n - 600) = e ∙ sym (place-item n q (omega arith)) in let z : i ≡ n - 600 = cc in omega arith
-    by (yes p) (yes q) (yes r) (no s) = let u : itemVar i ≡ countVar (n - 620) = e ∙ sym (place-count n r (omega arith)) in let z : _≡_ {A = ℕ} 0 1 = cc in absurd (omega arith)
+    by (yes p) (yes q) (no r) s = let u : itemVar i ≡ itemVar (n - itemFirst) = e ∙ sym (place-item n q (omega arith)) in let z : i ≡ n - itemFirst = cc in omega arith
+    by (yes p) (yes q) (yes r) (no s) = let u : itemVar i ≡ countVar (n - countFirst) = e ∙ sym (place-count n r (omega arith)) in let z : _≡_ {A = ℕ} 0 1 = cc in absurd (omega arith)
     by (yes p) (yes q) (yes r) (yes s) = let u : itemVar i ≡ elsewhere = e ∙ sym (place-high n s) in let z : _≡_ {A = ℕ} 0 1 = cc in absurd (omega arith)
 
 pub count-low : (x : Option ℤ) (i : ℕ) → countVar i ≡ place x → i < slotCount
 count-low none i e = let z : _≡_ {A = ℕ} 0 1 = cc in absurd (omega arith)
 count-low (some (negsuc n)) i e = let z : _≡_ {A = ℕ} 0 1 = cc in absurd (omega arith)
-count-low (some (pos n)) i e = by (decLe 1 n) (decLe 600 n) (decLe 620 n) (decLe 640 n)
+count-low (some (pos n)) i e = by (decLe 1 n) (decLe itemFirst n) (decLe countFirst n) (decLe (countFirst + slotCount) n)
   where
-    by : Dec (1 ≤ n) → Dec (600 ≤ n) → Dec (620 ≤ n) → Dec (640 ≤ n) → i < 20
+    by : Dec (1 ≤ n) → Dec (itemFirst ≤ n) → Dec (countFirst ≤ n) → Dec ((countFirst + slotCount) ≤ n) → i < 20
     by (no p) q r s = let u : countVar i ≡ temp = e ∙ sym (place-first n (omega arith)) in let z : _≡_ {A = ℕ} 0 1 = cc in absurd (omega arith)
     by (yes p) (no q) r s = let u : countVar i ≡ elsewhere = e ∙ sym (place-low n (λ z. omega arith) (omega arith)) in let z : _≡_ {A = ℕ} 0 1 = cc in absurd (omega arith)
-    by (yes p) (yes q) (no r) s = let u : countVar i ≡ itemVar (n - 600) = e ∙ sym (place-item n q (omega arith)) in let z : _≡_ {A = ℕ} 0 1 = cc in absurd (omega arith)
-    by (yes p) (yes q) (yes r) (no s) = let u : countVar i ≡ countVar (n - 620) = e ∙ sym (place-count n r (omega arith)) in let z : i ≡ n - 620 = cc in omega arith
+    by (yes p) (yes q) (no r) s = let u : countVar i ≡ itemVar (n - itemFirst) = e ∙ sym (place-item n q (omega arith)) in let z : _≡_ {A = ℕ} 0 1 = cc in absurd (omega arith)
+    by (yes p) (yes q) (yes r) (no s) = let u : countVar i ≡ countVar (n - countFirst) = e ∙ sym (place-count n r (omega arith)) in let z : i ≡ n - countFirst = cc in omega arith
     by (yes p) (yes q) (yes r) (yes s) = let u : countVar i ≡ elsewhere = e ∙ sym (place-high n s) in let z : _≡_ {A = ℕ} 0 1 = cc in absurd (omega arith)
 
 -- ---- the limit

@@ -26,11 +26,21 @@ ghost use Rattle.parse_scan.specs.InPlace.{HiddenIn, FilledIn, SlotDone}
 ghost use Rattle.parse_scan.specs.AllSlots.{SlotsUpdated};
 use expr::MaybeNumber;
 use expr::number_below;
+use memory::CommandWords;
+use memory::NODE_LIMIT;
+use memory::NodeWords;
+use memory::Values;
 use memory::kind_of;
 use model::ItemId;
 use model::Kind;
 use model::Op1;
 use model::Op2;
+use shop::COUNT_FIRST;
+use shop::Codes;
+use shop::ENTRIES;
+use shop::ITEM_FIRST;
+use shop::Row;
+use shop::SLOTS;
 use shop::capacity;
 use shop::insert_row;
 use shop_arrays::sizes;
@@ -68,7 +78,7 @@ fn bit(i: usize) -> u32
 }
 
 // How long the array is, for the proofs.
-pub fn size(xs: &[i16; 20]) -> usize
+pub fn size(xs: &[i16; SLOTS]) -> usize
     ensures { λ _. ⌜ length (now (xs .entry)) ≡ slotCount ⌝ }
 {
     let part: &[i16] = xs;
@@ -76,7 +86,7 @@ pub fn size(xs: &[i16; 20]) -> usize
 }
 
 // A number written goes into the array, and its bit into the mask; one that cannot be read leaves what was there.
-fn keep(xs: &mut [i16; 20], mask: u32, slot: usize, w: Short) -> u32
+fn keep(xs: &mut [i16; SLOTS], mask: u32, slot: usize, w: Short) -> u32
     requires { ⌜ slot < slotCount ⌝ }
     ensures { λ r. ⌜ tableOf r (now (xs .exit)) ≡ putAt (tableOf mask (now (xs .entry))) slot (shortIs w) ⌝ }
 {
@@ -88,7 +98,7 @@ fn keep(xs: &mut [i16; 20], mask: u32, slot: usize, w: Short) -> u32
 }
 
 // What was written of a slot's variable: a number left over from another block has no bit.
-fn value_at(xs: &[i16; 20], mask: u32, slot: usize) -> Short
+fn value_at(xs: &[i16; SLOTS], mask: u32, slot: usize) -> Short
     requires { ⌜ slot < slotCount ⌝ }
     ensures { λ r. ⌜ shortIs r ≡ getD (tableOf mask (now (xs .entry))) slot none ⌝ }
 {
@@ -130,14 +140,14 @@ fn target_of(x: MaybeNumber) -> Target
     if n == 0 {
         return Target::First;
     }
-    if n < 600 {
+    if n < ITEM_FIRST {
         return Target::Unused;
     }
-    if n < 620 {
-        return Target::ItemOf(n - 600);
+    if n < COUNT_FIRST {
+        return Target::ItemOf(n - ITEM_FIRST);
     }
-    if n < 640 {
-        return Target::CountOf(n - 620);
+    if n < COUNT_FIRST + SLOTS {
+        return Target::CountOf(n - COUNT_FIRST);
     }
     Target::Unused
 }
@@ -159,7 +169,7 @@ fn first_of(o: Op1, x: MaybeNumber, limit: i16) -> Short
 }
 
 // What the Set with value v writes: an Imm, cut to 16 bits, or the current limit.
-fn written_by(ws: &[u16; 98304], val: &[i32; 32768], v: u16, limit: i16) -> Short
+fn written_by(ws: &NodeWords, val: &Values, v: u16, limit: i16) -> Short
     requires { ⌜ ReadyValue (now ws) (now val) v ⌝ }
     ensures { λ r. ⌜ ((n : ℕ) → shortIs r ≡ written (tree (nodesIn (now (ws .entry)) (now (val .entry)) n) v) limit) ⌝ }
 {
@@ -186,7 +196,7 @@ fn index_by(o: Op1, x: MaybeNumber) -> MaybeNumber
 }
 
 // The Imm in node i, an operand of node b, where that is item[Imm].
-fn index_below(ws: &[u16; 98304], val: &[i32; 32768], b: u16, i: u16) -> MaybeNumber
+fn index_below(ws: &NodeWords, val: &Values, b: u16, i: u16) -> MaybeNumber
     requires { ⌜ b ≤ nodeLimit ⌝ }
     ensures { λ r. ⌜ ((n : ℕ) → numberOf r ≡ itemIndex (treeBelow (nodesIn (now (ws .entry)) (now (val .entry)) n) b i)) ⌝ }
 {
@@ -218,7 +228,7 @@ fn limit_by(o: Op2, x: MaybeNumber, index: MaybeNumber, limit: i16) -> i16
 }
 
 // The current limit after variable 0 was set to node v.
-fn limit_after(ws: &[u16; 98304], val: &[i32; 32768], v: u16, limit: i16) -> i16
+fn limit_after(ws: &NodeWords, val: &Values, v: u16, limit: i16) -> i16
     requires { ⌜ v < nodeLimit ⌝ }
     ensures { λ r. ⌜ ((n : ℕ) → r ≡ newLimit (tree (nodesIn (now (ws .entry)) (now (val .entry)) n) v) limit) ⌝ }
 {
@@ -236,10 +246,10 @@ fn limit_after(ws: &[u16; 98304], val: &[i32; 32768], v: u16, limit: i16) -> i16
 
 // As evaluate_set: t and v are the roots of target and value.
 fn evaluate_set(
-    ws: &[u16; 98304],
-    val: &[i32; 32768],
-    ids: &mut [i16; 20],
-    counts: &mut [i16; 20],
+    ws: &NodeWords,
+    val: &Values,
+    ids: &mut [i16; SLOTS],
+    counts: &mut [i16; SLOTS],
     t: u16,
     v: u16,
     s: Scanned,
@@ -247,7 +257,7 @@ fn evaluate_set(
     requires { ⌜ ReadySet (now ws) (now val) t v ⌝ }
     ensures { λ r. ⌜ SetScanned (now (ws .entry)) (now (val .entry)) t v s (now (ids .entry)) (now (counts .entry)) r (now (ids .exit)) (now (counts .exit)) ⌝ }
 {
-    let target = target_of(number_below(ws, val, 32768, t));
+    let target = target_of(number_below(ws, val, NODE_LIMIT, t));
     match target {
         Target::First => Scanned {
             item_mask: s.item_mask,
@@ -273,11 +283,11 @@ fn evaluate_set(
 
 // Command c. A later If takes the place of an earlier one.
 fn scan_one(
-    ws: &[u16; 98304],
-    val: &[i32; 32768],
-    cw: &[u16; 65536],
-    ids: &mut [i16; 20],
-    counts: &mut [i16; 20],
+    ws: &NodeWords,
+    val: &Values,
+    cw: &CommandWords,
+    ids: &mut [i16; SLOTS],
+    counts: &mut [i16; SLOTS],
     c: u16,
     s: Scanned,
 ) -> Scanned
@@ -306,11 +316,11 @@ fn scan_one(
 
 // The commands of a block, held of them from first on, under the current limit.
 pub fn scan_block(
-    ws: &[u16; 98304],
-    val: &[i32; 32768],
-    cw: &[u16; 65536],
-    ids: &mut [i16; 20],
-    counts: &mut [i16; 20],
+    ws: &NodeWords,
+    val: &Values,
+    cw: &CommandWords,
+    ids: &mut [i16; SLOTS],
+    counts: &mut [i16; SLOTS],
     first: u16,
     held: u16,
     limit: i16,
@@ -347,14 +357,14 @@ fn hides_by(item: Short) -> bool
 }
 
 // Whether the block hides a slot, of those that it wrote a count of. The counts' numbers do not matter.
-pub fn hides(s: Scanned, ids: &[i16; 20]) -> bool
+pub fn hides(s: Scanned, ids: &[i16; SLOTS]) -> bool
     ensures { λ r. ⌜ ((cs : List ℤ) → length cs ≡ slotCount → r ≡ hidesOne (tableOf (s .«item_mask») (now (ids .entry))) (tableOf (s .«count_mask») cs)) ⌝ }
 {
     size(ids);
     let mut at = 0;
-    while at < 20 {
+    while at < SLOTS {
         let i = next_touched(s.count_mask, at);
-        if 20 <= i {
+        if SLOTS <= i {
             return false;
         }
         if hides_by(value_at(ids, s.item_mask, i)) {
@@ -366,7 +376,7 @@ pub fn hides(s: Scanned, ids: &[i16; 20]) -> bool
 }
 
 // len codes of more join the first n of a row: how many there are then, 33 where that is one too many.
-fn hide_row(row: &mut [u64], n: usize, more: &[u64; 32], len: usize) -> usize
+fn hide_row(row: &mut [u64], n: usize, more: &Row, len: usize) -> usize
     requires { ⌜ (length (now row) ≡ entryLimit) × ((n ≤ entryLimit) × (len ≤ entryLimit)) ⌝ }
     ensures { λ r. ⌜ RowHid (now (row .entry)) n (take len (now (more .entry))) (now (row .exit)) r ⌝ }
 {
@@ -375,7 +385,7 @@ fn hide_row(row: &mut [u64], n: usize, more: &[u64; 32], len: usize) -> usize
     let mut i = 0;
     while i < len {
         held = insert_row(row, held, more[i]);
-        if 32 < held {
+        if ENTRIES < held {
             return held;
         }
         i += 1;
@@ -384,30 +394,30 @@ fn hide_row(row: &mut [u64], n: usize, more: &[u64; 32], len: usize) -> usize
 }
 
 // As hide_row, for the row of 32 codes that begins at start.
-fn hide_part(codes: &mut [u64], start: usize, n: usize, more: &[u64; 32], len: usize) -> usize
+fn hide_part(codes: &mut [u64], start: usize, n: usize, more: &Row, len: usize) -> usize
     requires { ⌜ (start + entryLimit ≤ length (now codes)) × ((n ≤ entryLimit) × (len ≤ entryLimit)) ⌝ }
     ensures { λ r. ⌜ PartHid (now (codes .entry)) start n (take len (now (more .entry))) (now (codes .exit)) r ⌝ }
 {
-    let end = start + 32;
+    let end = start + ENTRIES;
     hide_row(&mut codes[start..end], n, more, len)
 }
 
 // len codes of more join slot i's set, in place; false where it would have a 33rd. Where they are too many by themselves, they are too many in a slot.
 fn hide_slot(
-    codes: &mut [u64; 640],
-    lens: &mut [u8; 20],
+    codes: &mut Codes,
+    lens: &mut [u8; SLOTS],
     i: usize,
-    more: &[u64; 32],
+    more: &Row,
     len: usize,
 ) -> bool
     requires { ⌜ ((i < slotCount) × (getD (now lens) i 0 ≤ entryLimit)) × ((length (now codes) ≡ entryLimit * slotCount) × (length (now lens) ≡ slotCount)) ⌝ }
     ensures { λ r. ⌜ HiddenIn (now (codes .entry)) (now (lens .entry)) i (now (more .entry)) len r (now (codes .exit)) (now (lens .exit)) ⌝ }
 {
-    if 32 < len {
+    if ENTRIES < len {
         return false;
     }
-    let n = hide_part(codes, 32 * i, lens[i] as usize, more, len);
-    if 32 < n {
+    let n = hide_part(codes, ENTRIES * i, lens[i] as usize, more, len);
+    if ENTRIES < n {
         return false;
     }
     lens[i] = n as u8;
@@ -438,8 +448,8 @@ fn new_count(count: i16, limit: i16) -> i16
 
 // Known item or not, the count has its say; the slot's requirements stay.
 fn fill_slot(
-    items: &mut [i32; 20],
-    limits: &mut [i16; 20],
+    items: &mut [i32; SLOTS],
+    limits: &mut [i16; SLOTS],
     known: u16,
     i: usize,
     id: ItemId,
@@ -456,15 +466,15 @@ fn fill_slot(
 
 // Slot i by what the block wrote of it: no count, no update; an item below 0 or absent hides it. known is how many items the sheet has.
 fn update_slot(
-    items: &mut [i32; 20],
-    limits: &mut [i16; 20],
-    codes: &mut [u64; 640],
-    lens: &mut [u8; 20],
+    items: &mut [i32; SLOTS],
+    limits: &mut [i16; SLOTS],
+    codes: &mut Codes,
+    lens: &mut [u8; SLOTS],
     known: u16,
     i: usize,
     item: Short,
     count: Short,
-    more: &[u64; 32],
+    more: &Row,
     n: usize,
 ) -> bool
     requires { ⌜ (i < slotCount) × GoodSlot (slotAt (arraysIn (now items) (now limits) (now codes) (now lens)) i) ⌝ }
@@ -486,15 +496,15 @@ fn update_slot(
 
 // The slots that the block wrote to, the lowest first; n codes of more are the negated requirements, 33 where they are too many. False where a slot would have a 33rd requirement.
 pub fn update_slots(
-    items: &mut [i32; 20],
-    limits: &mut [i16; 20],
-    codes: &mut [u64; 640],
-    lens: &mut [u8; 20],
+    items: &mut [i32; SLOTS],
+    limits: &mut [i16; SLOTS],
+    codes: &mut Codes,
+    lens: &mut [u8; SLOTS],
     known: u16,
     s: Scanned,
-    ids: &[i16; 20],
-    counts: &[i16; 20],
-    more: &[u64; 32],
+    ids: &[i16; SLOTS],
+    counts: &[i16; SLOTS],
+    more: &Row,
     n: usize,
 ) -> bool
     requires { ⌜ GoodShop (shopFrom (arraysIn (now items) (now limits) (now codes) (now lens))) ⌝ }
@@ -504,9 +514,9 @@ pub fn update_slots(
     size(counts);
     let touched = s.item_mask | s.count_mask;
     let mut at = 0;
-    while at < 20 {
+    while at < SLOTS {
         let i = next_touched(touched, at);
-        if 20 <= i {
+        if SLOTS <= i {
             return true;
         }
         let item = value_at(ids, s.item_mask, i);

@@ -3,9 +3,9 @@ ghost use mathlib.Core.Path.{_≡_};
 ghost use mathlib.Core.Bool.{cond, true};
 ghost use Prim.Native.Nat.{_+_, _*_, _≤_, _<_};
 ghost use lib.ListN.{length, getD};
-ghost use Rattle.model.specs.Limits.{blockLimit};
+ghost use Rattle.model.specs.Limits.{blockLimit, nodeLimit};
 ghost use Rattle.model.specs.Refusal.{parseTooMany};
-ghost use Rattle.model.specs.Memory.{memoryIn};
+ghost use Rattle.memory.specs.View.{memoryOf};
 ghost use Rattle.shop.specs.Good.{GoodShop};
 ghost use Rattle.shop_arrays.specs.Arrays.{arraysIn, shopFrom};
 ghost use Rattle.parse_conditions.specs.Listing.{Place};
@@ -16,11 +16,17 @@ ghost use Rattle.parse_visit.specs.State.{noRoom, withAnswer, oneCellMor
 ghost use Rattle.parse_visit.specs.Joins.{withCell};
 ghost use Rattle.parse_visit.specs.Slots.{Under, Slots};
 ghost use Rattle.parse_visit.specs.Ways.{placeOf, Joined, ReadsOn, GoesOn};
+use memory::BLOCKS;
+use memory::BlockWords;
+use memory::CommandWords;
 use memory::Counts;
+use memory::NodeWords;
+use memory::Values;
 use memory::index_of;
 use model::BlockNo;
 use model::Link;
 use parse_conditions::FULL;
+use parse_conditions::PLACES;
 use parse_conditions::read_condition;
 use parse_filter::Filtered;
 use parse_filter::Marked;
@@ -32,6 +38,10 @@ use parse_scan::scan_block;
 use parse_scan::size;
 use parse_scan::update_slots;
 use reach::Condition;
+use shop::Codes;
+use shop::ENTRIES;
+use shop::Row;
+use shop::SLOTS;
 
 // What is carried from block to block beside the arrays: the current limit, how many cells of conditions there are, the refusal or 0, how many entries of Ifs and keys there are, and the condition whose entries are marked.
 pub struct Walk {
@@ -71,8 +81,8 @@ fn hidden_under(
     seen: &mut [bool],
     alive: &mut [u16],
     cells: &[u16],
-    more: &mut [u64; 32],
-    ids: &[i16; 20],
+    more: &mut Row,
+    ids: &[i16; SLOTS],
     s: Scanned,
     old: Marked,
     c: usize,
@@ -106,12 +116,12 @@ fn slots_after(
     seen: &mut [bool],
     alive: &mut [u16],
     cells: &[u16],
-    items: &mut [i32; 20],
-    limits: &mut [i16; 20],
-    codes: &mut [u64; 640],
-    lens: &mut [u8; 20],
-    ids: &[i16; 20],
-    counts: &[i16; 20],
+    items: &mut [i32; SLOTS],
+    limits: &mut [i16; SLOTS],
+    codes: &mut Codes,
+    lens: &mut [u8; SLOTS],
+    ids: &[i16; SLOTS],
+    counts: &[i16; SLOTS],
     known: u16,
     s: Scanned,
     old: Marked,
@@ -128,7 +138,7 @@ fn slots_after(
             marked: old,
         };
     }
-    let mut more = [0u64; 32];
+    let mut more = [0u64; ENTRIES];
     let f = hidden_under(
         keys,
         companions,
@@ -177,7 +187,7 @@ fn add_cell(cells: &mut [u16], n: usize, c: Condition, from: u16, to: u16)
 fn place(w: Walk) -> u32
     ensures { λ r. ⌜ r ≡ placeOf w ⌝ }
 {
-    (w.keyed as u32) * 65536 + (w.used as u32)
+    (w.keyed as u32) * PLACES + (w.used as u32)
 }
 
 pub fn answered(w: Walk, answer: u8) -> Walk
@@ -212,8 +222,8 @@ fn one_cell_more(w: Walk, used: u16, keyed: u16) -> Walk
 
 // The If of root i, below n, read and joined to the condition c as a cell more.
 fn join(
-    ws: &[u16; 98304],
-    val: &[i32; 32768],
+    ws: &NodeWords,
+    val: &Values,
     keys: &mut [u64],
     kids: &mut [u16],
     companions: &mut [u16],
@@ -225,7 +235,7 @@ fn join(
     c: Condition,
     w: Walk,
 ) -> Walk
-    requires { ⌜ ((n ≤ 32768) × (w .cells < blockLimit)) × ((w .answer ≡ noRoom → ⊥) × Place (now keys) (now kids) (now companions) (now list) (placeOf w)) ⌝ }
+    requires { ⌜ ((n ≤ nodeLimit) × (w .cells < blockLimit)) × ((w .answer ≡ noRoom → ⊥) × Place (now keys) (now kids) (now companions) (now list) (placeOf w)) ⌝ }
     ensures { λ r. ⌜ Joined (now (ws .entry)) (now (val .entry)) known n i (c .0) w (now (keys .entry)) (now (list .entry)) (now (cells .entry)) (now (keys .exit)) (now (kids .exit)) (now (companions .exit)) (now (list .exit)) (now (cells .exit)) r ⌝ }
 {
     let at = index_of(w.cells);
@@ -248,13 +258,13 @@ fn join(
     if r == FULL {
         return answered(w, NO_ROOM);
     }
-    let used = (r % 65536) as u16;
+    let used = (r % PLACES) as u16;
     add_cell(cells, at, c, w.used, used);
-    one_cell_more(w, used, (r / 65536) as u16)
+    one_cell_more(w, used, (r / PLACES) as u16)
 }
 
 // Word j of block b.
-fn block_word(bw: &[u16; 20480], b: BlockNo, j: usize) -> u16
+fn block_word(bw: &BlockWords, b: BlockNo, j: usize) -> u16
     requires { ⌜ (b .0 < blockLimit) × (j < 5) ⌝ }
     ensures { λ r. ⌜ r ≡ getD (now (bw .entry)) (5 * b .0 + j) 0 ⌝ }
 {
@@ -279,9 +289,9 @@ fn reads_on(answer: u8, last: u16, next: Link) -> bool
 
 // Where the walk goes on after block b: the condition c joined with its last If, negated for the else. It is read where the block has an If and a next, and nothing was refused.
 fn go_on(
-    ws: &[u16; 98304],
-    val: &[i32; 32768],
-    bw: &[u16; 20480],
+    ws: &NodeWords,
+    val: &Values,
+    bw: &BlockWords,
     keys: &mut [u64],
     kids: &mut [u16],
     companions: &mut [u16],
@@ -294,7 +304,7 @@ fn go_on(
     b: BlockNo,
     c: Condition,
 ) -> Visited
-    requires { ⌜ ((n ≤ 32768) × ((w .cells < blockLimit) × (b .0 < blockLimit))) × ((w .answer ≡ noRoom → ⊥) × Place (now keys) (now kids) (now companions) (now list) (placeOf w)) ⌝ }
+    requires { ⌜ ((n ≤ nodeLimit) × ((w .cells < blockLimit) × (b .0 < blockLimit))) × ((w .answer ≡ noRoom → ⊥) × Place (now keys) (now kids) (now companions) (now list) (placeOf w)) ⌝ }
     ensures { λ r. ⌜ GoesOn (now (ws .entry)) (now (val .entry)) n known (now (keys .entry)) (now (kids .entry)) (now (companions .entry)) (now (list .entry)) (now (cells .entry)) w (c .0) last (now (keys .exit)) (now (kids .exit)) (now (companions .exit)) (now (list .exit)) (now (cells .exit)) r × ((r .next .0 ≡ getD (now (bw .entry)) (5 * b .0 + 3) 0) × (r .other .0 ≡ getD (now (bw .entry)) (5 * b .0 + 4) 0)) ⌝ }
 {
     let next = Link(block_word(bw, b, 3));
@@ -350,10 +360,10 @@ fn scanned(w: Walk, s: Scanned, a: Slotted) -> Walk
 
 // Block b, which is code and not marked, under the condition c.
 pub fn visit(
-    ws: &[u16; 98304],
-    val: &[i32; 32768],
-    cw: &[u16; 65536],
-    bw: &[u16; 20480],
+    ws: &NodeWords,
+    val: &Values,
+    cw: &CommandWords,
+    bw: &BlockWords,
     keys: &mut [u64],
     kids: &mut [u16],
     companions: &mut [u16],
@@ -361,13 +371,13 @@ pub fn visit(
     seen: &mut [bool],
     alive: &mut [u16],
     cells: &mut [u16],
-    marks: &mut [bool; 4096],
-    items: &mut [i32; 20],
-    limits: &mut [i16; 20],
-    codes: &mut [u64; 640],
-    lens: &mut [u8; 20],
-    ids: &mut [i16; 20],
-    counts: &mut [i16; 20],
+    marks: &mut [bool; BLOCKS],
+    items: &mut [i32; SLOTS],
+    limits: &mut [i16; SLOTS],
+    codes: &mut Codes,
+    lens: &mut [u8; SLOTS],
+    ids: &mut [i16; SLOTS],
+    counts: &mut [i16; SLOTS],
     k: Counts,
     known: Known,
     w: Walk,
@@ -375,8 +385,8 @@ pub fn visit(
     c: Condition,
 ) -> Visited
     requires { ⌜ Held known (storedIn (now keys) (now kids) (now companions) (now list) (now seen) (now alive) (now cells)) w ⌝ }
-    requires { ⌜ Open (memoryIn (now ws) (now val) (now cw) (now bw) (k .nodes) (k .commands) (k .blocks)) (shopFrom (arraysIn (now items) (now limits) (now codes) (now lens))) w (b .0) (c .0) ⌝ }
-    ensures { λ r. ⌜ Visits (memoryIn (now (ws .entry)) (now (val .entry)) (now (cw .entry)) (now (bw .entry)) (k .nodes) (k .commands) (k .blocks)) known (storedIn (now (keys .entry)) (now (kids .entry)) (now (companions .entry)) (now (list .entry)) (now (seen .entry)) (now (alive .entry)) (now (cells .entry))) (now (marks .entry)) (shopFrom (arraysIn (now (items .entry)) (now (limits .entry)) (now (codes .entry)) (now (lens .entry)))) w (b .0) (c .0) (storedIn (now (keys .exit)) (now (kids .exit)) (now (companions .exit)) (now (list .exit)) (now (seen .exit)) (now (alive .exit)) (now (cells .exit))) (now (marks .exit)) (shopFrom (arraysIn (now (items .exit)) (now (limits .exit)) (now (codes .exit)) (now (lens .exit)))) r ⌝ }
+    requires { ⌜ Open (memoryOf (now ws) (now val) (now cw) (now bw) k) (shopFrom (arraysIn (now items) (now limits) (now codes) (now lens))) w (b .0) (c .0) ⌝ }
+    ensures { λ r. ⌜ Visits (memoryOf (now (ws .entry)) (now (val .entry)) (now (cw .entry)) (now (bw .entry)) k) known (storedIn (now (keys .entry)) (now (kids .entry)) (now (companions .entry)) (now (list .entry)) (now (seen .entry)) (now (alive .entry)) (now (cells .entry))) (now (marks .entry)) (shopFrom (arraysIn (now (items .entry)) (now (limits .entry)) (now (codes .entry)) (now (lens .entry)))) w (b .0) (c .0) (storedIn (now (keys .exit)) (now (kids .exit)) (now (companions .exit)) (now (list .exit)) (now (seen .exit)) (now (alive .exit)) (now (cells .exit))) (now (marks .exit)) (shopFrom (arraysIn (now (items .exit)) (now (limits .exit)) (now (codes .exit)) (now (lens .exit)))) r ⌝ }
 {
     let first = block_word(bw, b, 1);
     let held = block_word(bw, b, 2);

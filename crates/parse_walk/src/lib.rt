@@ -3,14 +3,20 @@ ghost use mathlib.Core.Path.{_≡_};
 ghost use mathlib.Core.Bool.{false};
 ghost use Prim.Native.Nat.{_≤_, _<_};
 ghost use lib.ListN.{length, getD, replicate};
-ghost use Rattle.model.specs.Memory.{memoryIn};
+ghost use Rattle.model.specs.Limits.{blockLimit};
 ghost use Rattle.model.specs.Sheet.{Sheet};
+ghost use Rattle.memory.specs.View.{memoryOf};
 ghost use Rattle.expr.specs.Requirement.{Has};
 ghost use Rattle.shop.specs.Shapes.{noShop};
 ghost use Rattle.shop_arrays.specs.Arrays.{arraysIn, shopFrom};
 ghost use Rattle.parse_visit.specs.State.{Accepted, storedIn, Holding};
 ghost use Rattle.parse_walk.specs.Walks.{startWalk, noneYet, Walked, WalkedIf, Ends};
+use memory::BLOCKS;
+use memory::BlockWords;
+use memory::CommandWords;
 use memory::Counts;
+use memory::NodeWords;
+use memory::Values;
 use model::BlockNo;
 use parse_filter::Marked;
 use parse_keys::Known;
@@ -22,6 +28,8 @@ use reach::Condition;
 use reach::is_code;
 use reach::push;
 use reach::top_unmarked;
+use shop::Codes;
+use shop::SLOTS;
 use shop_arrays::clear_arrays;
 
 fn start() -> Walk
@@ -40,10 +48,10 @@ fn start() -> Walk
 // The walk from the block that is on the stack, under no condition: each block once, next before else, 10 at a block not code. Each turn marks one block more: the measure is the number of unmarked blocks.
 // The variables of a block, ids and counts, are lent to each visit, which says by masks which of them it wrote.
 fn walk_all(
-    ws: &[u16; 98304],
-    val: &[i32; 32768],
-    cw: &[u16; 65536],
-    bw: &[u16; 20480],
+    ws: &NodeWords,
+    val: &Values,
+    cw: &CommandWords,
+    bw: &BlockWords,
     keys: &mut [u64],
     kids: &mut [u16],
     companions: &mut [u16],
@@ -52,20 +60,20 @@ fn walk_all(
     alive: &mut [u16],
     cells: &mut [u16],
     stack: &mut [u16],
-    marks: &mut [bool; 4096],
-    items: &mut [i32; 20],
-    limits: &mut [i16; 20],
-    codes: &mut [u64; 640],
-    lens: &mut [u8; 20],
+    marks: &mut [bool; BLOCKS],
+    items: &mut [i32; SLOTS],
+    limits: &mut [i16; SLOTS],
+    codes: &mut Codes,
+    lens: &mut [u8; SLOTS],
     k: Counts,
     known: Known,
 ) -> Walk
-    requires { ⌜ Holding known (storedIn (now keys) (now kids) (now companions) (now list) (now seen) (now alive) (now cells)) startWalk noneYet × ((now marks ≡ replicate 4096 false) × ((2 ≤ length (now stack)) × (getD (now stack) 1 0 ≡ 0))) ⌝ }
-    requires { ⌜ Accepted (memoryIn (now ws) (now val) (now cw) (now bw) (k .nodes) (k .commands) (k .blocks)) × (shopFrom (arraysIn (now items) (now limits) (now codes) (now lens)) ≡ noShop) ⌝ }
-    ensures { λ r. ⌜ Ends known (memoryIn (now (ws .entry)) (now (val .entry)) (now (cw .entry)) (now (bw .entry)) (k .nodes) (k .commands) (k .blocks)) (getD (now (stack .entry)) 0 0) (storedIn (now (keys .entry)) (now (kids .entry)) (now (companions .entry)) (now (list .entry)) (now (seen .entry)) (now (alive .entry)) (now (cells .entry))) (now (stack .entry)) (shopFrom (arraysIn (now (items .exit)) (now (limits .exit)) (now (codes .exit)) (now (lens .exit)))) r ⌝ }
+    requires { ⌜ Holding known (storedIn (now keys) (now kids) (now companions) (now list) (now seen) (now alive) (now cells)) startWalk noneYet × ((now marks ≡ replicate blockLimit false) × ((2 ≤ length (now stack)) × (getD (now stack) 1 0 ≡ 0))) ⌝ }
+    requires { ⌜ Accepted (memoryOf (now ws) (now val) (now cw) (now bw) k) × (shopFrom (arraysIn (now items) (now limits) (now codes) (now lens)) ≡ noShop) ⌝ }
+    ensures { λ r. ⌜ Ends known (memoryOf (now (ws .entry)) (now (val .entry)) (now (cw .entry)) (now (bw .entry)) k) (getD (now (stack .entry)) 0 0) (storedIn (now (keys .entry)) (now (kids .entry)) (now (companions .entry)) (now (list .entry)) (now (seen .entry)) (now (alive .entry)) (now (cells .entry))) (now (stack .entry)) (shopFrom (arraysIn (now (items .exit)) (now (limits .exit)) (now (codes .exit)) (now (lens .exit)))) r ⌝ }
 {
-    let mut ids = [0i16; 20];
-    let mut counts = [0i16; 20];
+    let mut ids = [0i16; SLOTS];
+    let mut counts = [0i16; SLOTS];
     let mut w = start();
     let mut depth = 1;
     while 0 < depth {
@@ -117,21 +125,21 @@ fn walk_all(
 
 // With tables for what a usual shop reaches, whatever the script's size.
 fn walk_few(
-    ws: &[u16; 98304],
-    val: &[i32; 32768],
-    cw: &[u16; 65536],
-    bw: &[u16; 20480],
-    items: &mut [i32; 20],
-    limits: &mut [i16; 20],
-    codes: &mut [u64; 640],
-    lens: &mut [u8; 20],
+    ws: &NodeWords,
+    val: &Values,
+    cw: &CommandWords,
+    bw: &BlockWords,
+    items: &mut [i32; SLOTS],
+    limits: &mut [i16; SLOTS],
+    codes: &mut Codes,
+    lens: &mut [u8; SLOTS],
     k: Counts,
     known: Known,
     setup: BlockNo,
 ) -> Walk
-    requires { ⌜ Accepted (memoryIn (now ws) (now val) (now cw) (now bw) (k .nodes) (k .commands) (k .blocks)) × (shopFrom (arraysIn (now items) (now limits) (now codes) (now lens)) ≡ noShop) ⌝ }
+    requires { ⌜ Accepted (memoryOf (now ws) (now val) (now cw) (now bw) k) × (shopFrom (arraysIn (now items) (now limits) (now codes) (now lens)) ≡ noShop) ⌝ }
     requires { ⌜ setup .0 < k .blocks ⌝ }
-    ensures { λ r. ⌜ WalkedIf known (memoryIn (now (ws .entry)) (now (val .entry)) (now (cw .entry)) (now (bw .entry)) (k .nodes) (k .commands) (k .blocks)) (setup .0) (shopFrom (arraysIn (now (items .exit)) (now (limits .exit)) (now (codes .exit)) (now (lens .exit)))) r ⌝ }
+    ensures { λ r. ⌜ WalkedIf known (memoryOf (now (ws .entry)) (now (val .entry)) (now (cw .entry)) (now (bw .entry)) k) (setup .0) (shopFrom (arraysIn (now (items .exit)) (now (limits .exit)) (now (codes .exit)) (now (lens .exit)))) r ⌝ }
 {
     let mut keys = [0u64; 256];
     let mut kids = [0u16; 512];
@@ -141,7 +149,7 @@ fn walk_few(
     let mut alive = [0u16; 512];
     let mut cells = [0u16; 384];
     let mut stack = [0u16; 516];
-    let mut marks = [false; 4096];
+    let mut marks = [false; BLOCKS];
     stack[0] = setup.0 as u16;
     walk_all(
         ws,
@@ -168,21 +176,21 @@ fn walk_few(
 
 // With tables for all that a script can reach.
 fn walk_many(
-    ws: &[u16; 98304],
-    val: &[i32; 32768],
-    cw: &[u16; 65536],
-    bw: &[u16; 20480],
-    items: &mut [i32; 20],
-    limits: &mut [i16; 20],
-    codes: &mut [u64; 640],
-    lens: &mut [u8; 20],
+    ws: &NodeWords,
+    val: &Values,
+    cw: &CommandWords,
+    bw: &BlockWords,
+    items: &mut [i32; SLOTS],
+    limits: &mut [i16; SLOTS],
+    codes: &mut Codes,
+    lens: &mut [u8; SLOTS],
     k: Counts,
     known: Known,
     setup: BlockNo,
 ) -> Walk
-    requires { ⌜ Accepted (memoryIn (now ws) (now val) (now cw) (now bw) (k .nodes) (k .commands) (k .blocks)) × (shopFrom (arraysIn (now items) (now limits) (now codes) (now lens)) ≡ noShop) ⌝ }
+    requires { ⌜ Accepted (memoryOf (now ws) (now val) (now cw) (now bw) k) × (shopFrom (arraysIn (now items) (now limits) (now codes) (now lens)) ≡ noShop) ⌝ }
     requires { ⌜ setup .0 < k .blocks ⌝ }
-    ensures { λ r. ⌜ ((h : Sheet) → Has h (known .items) (known .atcs) → Walked h (memoryIn (now (ws .entry)) (now (val .entry)) (now (cw .entry)) (now (bw .entry)) (k .nodes) (k .commands) (k .blocks)) (setup .0) (shopFrom (arraysIn (now (items .exit)) (now (limits .exit)) (now (codes .exit)) (now (lens .exit)))) r) ⌝ }
+    ensures { λ r. ⌜ ((h : Sheet) → Has h (known .items) (known .atcs) → Walked h (memoryOf (now (ws .entry)) (now (val .entry)) (now (cw .entry)) (now (bw .entry)) k) (setup .0) (shopFrom (arraysIn (now (items .exit)) (now (limits .exit)) (now (codes .exit)) (now (lens .exit)))) r) ⌝ }
 {
     let mut keys = [0u64; 12289];
     let mut kids = [0u16; 24578];
@@ -192,7 +200,7 @@ fn walk_many(
     let mut alive = [0u16; 12288];
     let mut cells = [0u16; 12288];
     let mut stack = [0u16; 8194];
-    let mut marks = [false; 4096];
+    let mut marks = [false; BLOCKS];
     stack[0] = setup.0 as u16;
     walk_all(
         ws,
@@ -219,21 +227,21 @@ fn walk_many(
 
 // The walk of an accepted script from block setup, for every sheet of so many items and atcs. It finds the slots empty and leaves what it read in them.
 pub fn walk(
-    ws: &[u16; 98304],
-    val: &[i32; 32768],
-    cw: &[u16; 65536],
-    bw: &[u16; 20480],
-    items: &mut [i32; 20],
-    limits: &mut [i16; 20],
-    codes: &mut [u64; 640],
-    lens: &mut [u8; 20],
+    ws: &NodeWords,
+    val: &Values,
+    cw: &CommandWords,
+    bw: &BlockWords,
+    items: &mut [i32; SLOTS],
+    limits: &mut [i16; SLOTS],
+    codes: &mut Codes,
+    lens: &mut [u8; SLOTS],
     k: Counts,
     known: Known,
     setup: BlockNo,
 ) -> Walk
-    requires { ⌜ Accepted (memoryIn (now ws) (now val) (now cw) (now bw) (k .nodes) (k .commands) (k .blocks)) × (shopFrom (arraysIn (now items) (now limits) (now codes) (now lens)) ≡ noShop) ⌝ }
+    requires { ⌜ Accepted (memoryOf (now ws) (now val) (now cw) (now bw) k) × (shopFrom (arraysIn (now items) (now limits) (now codes) (now lens)) ≡ noShop) ⌝ }
     requires { ⌜ setup .0 < k .blocks ⌝ }
-    ensures { λ r. ⌜ ((h : Sheet) → Has h (known .items) (known .atcs) → Walked h (memoryIn (now (ws .entry)) (now (val .entry)) (now (cw .entry)) (now (bw .entry)) (k .nodes) (k .commands) (k .blocks)) (setup .0) (shopFrom (arraysIn (now (items .exit)) (now (limits .exit)) (now (codes .exit)) (now (lens .exit)))) r) ⌝ }
+    ensures { λ r. ⌜ ((h : Sheet) → Has h (known .items) (known .atcs) → Walked h (memoryOf (now (ws .entry)) (now (val .entry)) (now (cw .entry)) (now (bw .entry)) k) (setup .0) (shopFrom (arraysIn (now (items .exit)) (now (limits .exit)) (now (codes .exit)) (now (lens .exit)))) r) ⌝ }
 {
     let w = walk_few(ws, val, cw, bw, items, limits, codes, lens, k, known, setup);
     if w.answer != NO_ROOM {

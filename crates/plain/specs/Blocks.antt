@@ -10,10 +10,11 @@ use Rattle.model.specs.Reading.{Answer, word}
 use Rattle.model.specs.Script.{Block, commandsNodes}
 use Rattle.model.specs.Image.{readLink, readCommands, blockOf}
 use Rattle.model.specs.Record.{commandsImageIn, blockTail}
+use Rattle.memory.specs.View.{codedOf, memoryOf}
 use Rattle.terms.specs.Told.{Told, limitsBy}
 use Rattle.image_numbers.specs.Lengths.{short-word}
 use Rattle.terms.specs.declared.Step.the-variants.{Fine}
-use Rattle.judge.specs.Stages.{codedBy, memoryBy, KeptBy, uncounted, readLinks, Staged}
+use Rattle.judge.specs.Stages.{KeptBy, uncounted, readLinks, Staged}
 use Rattle.judge.specs.Links.{link-there}
 use Rattle.judge.specs.Blocks.{links-told, code-told, block-placeholder, block-data, block-code}
 use Rattle.judge.specs.declared.Stage.the-variants.{Fine as Passed}
@@ -37,11 +38,11 @@ module _ (t cw bw : List ℕ) (k : Counts) (K : KeptBy k) (i : ℕ) where
 
   module _ (held : getD bw (5 * i + 2) 0 ≤ k .commands) (next : getD bw (5 * i + 3) 0 ≤ k .blocks) (else : getD bw (5 * i + 4) 0 ≤ k .blocks) where
     code-read : (ws : List ℕ) (vs : List ℤ) (n m at r to : ℕ) → m + getD bw (5 * i + 2) 0 ≤ k .commands
-        → Told (readCommands (limitsBy k) (getD bw (5 * i + 2) 0) n) commandsNodes (commandsImageIn (codedBy ws vs cw k) (getD bw (5 * i + 2) 0) (getD bw (5 * i + 1) 0)) (k .nodes) (4 * getD bw (5 * i + 2) 0) n (at + length (word (getD bw (5 * i + 2) 0))) (Fine (n + r) to)
-        → Stands (blockOf (limitsBy k) m n 1) (blockTail (memoryBy ws vs cw bw k) i 1) (k .nodes) (k .commands) 9 n m at r (getD bw (5 * i + 2) 0)
+        → Told (readCommands (limitsBy k) (getD bw (5 * i + 2) 0) n) commandsNodes (commandsImageIn (codedOf ws vs cw k) (getD bw (5 * i + 2) 0) (getD bw (5 * i + 1) 0)) (k .nodes) (4 * getD bw (5 * i + 2) 0) n (at + length (word (getD bw (5 * i + 2) 0))) (Fine (n + r) to)
+        → Stands (blockOf (limitsBy k) m n 1) (blockTail (memoryOf ws vs cw bw k) i 1) (k .nodes) (k .commands) 9 n m at r (getD bw (5 * i + 2) 0)
     code-read ws vs n m at r to more P =
         let kc = K .commands in
-        stands (code-told (limitsBy k) (memoryBy ws vs cw bw k) i n m at _ (short-word (getD bw (5 * i + 2) 0) _ (omega arith) refl) more P refl (links-fine (getD bw (5 * i + 3) 0) (getD bw (5 * i + 4) 0) (n + r) to next else) refl) refl refl
+        stands (code-told (limitsBy k) (memoryOf ws vs cw bw k) i n m at _ (short-word (getD bw (5 * i + 2) 0) _ (omega arith) refl) more P refl (links-fine (getD bw (5 * i + 3) 0) (getD bw (5 * i + 4) 0) (n + r) to next else) refl) refl refl
 
     code-fine : {r : ℕ} → CommandsCount t cw k (getD bw (5 * i + 1) 0) (getD bw (5 * i + 2) 0) r → CodeCount t cw bw k i r
     code-fine {r} C =
@@ -61,14 +62,14 @@ module _ (t cw bw : List ℕ) (k : Counts) (K : KeptBy k) (i : ℕ) where
   count-placeholder e = record {
     reads = λ ws vs T n m h at H room more.
         let z : h ≡ 0 = H .none (λ o. omega arith) in
-        stands (block-placeholder (limitsBy k) (memoryBy ws vs cw bw k) i n m at e (omega arith) (omega arith)) (omega arith) (omega arith);
+        stands (block-placeholder (limitsBy k) (memoryOf ws vs cw bw k) i n m at e (omega arith) (omega arith)) (omega arith) (omega arith);
   }
 
   pub count-data : getD bw (5 * i) 0 ≡ 2 → BlockCount t cw bw k i 0
   count-data e = record {
     reads = λ ws vs T n m h at H room more.
         let z : h ≡ 0 = H .none (λ o. omega arith) in
-        stands (block-data (limitsBy k) (memoryBy ws vs cw bw k) i n m at e (omega arith) (omega arith)) (omega arith) (omega arith);
+        stands (block-data (limitsBy k) (memoryOf ws vs cw bw k) i n m at e (omega arith) (omega arith)) (omega arith) (omega arith);
   }
 
   pub count-code : {r : ℕ} → getD bw (5 * i) 0 ≡ 1 → CodeCount t cw bw k i r → BlockCount t cw bw k i r
@@ -76,7 +77,7 @@ module _ (t cw bw : List ℕ) (k : Counts) (K : KeptBy k) (i : ℕ) where
     reads = λ ws vs T n m h at H room more.
         let z : h ≡ getD bw (5 * i + 2) 0 = H .code e in
         let S = C .reads ws vs T n m (at + 1) room (omega arith) in
-        stands (block-code (limitsBy k) (memoryBy ws vs cw bw k) i n m at e (S .staged)) refl (omega arith);
+        stands (block-code (limitsBy k) (memoryOf ws vs cw bw k) i n m at e (S .staged)) refl (omega arith);
   }
 
 -- ---- the commands that a block holds

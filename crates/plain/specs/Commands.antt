@@ -14,11 +14,12 @@ use Rattle.model.specs.Expr.{size}
 use Rattle.model.specs.Reading.{Answer, word}
 use Rattle.model.specs.Image.{readTerm, readBlockNo}
 use Rattle.model.specs.Record.{rootImage}
-use Rattle.terms.specs.Told.{Told, limitsBy, nodesBy}
+use Rattle.memory.specs.View.{nodesOf, codedOf}
+use Rattle.terms.specs.Told.{Told, limitsBy}
 use Rattle.image_numbers.specs.Lengths.{short-word}
 use Rattle.terms.specs.Nodes.{term-told}
 use Rattle.terms.specs.declared.Step.the-variants.{Fine}
-use Rattle.judge.specs.Stages.{codedBy, KeptBy, uncounted}
+use Rattle.judge.specs.Stages.{KeptBy, uncounted}
 use Rattle.judge.specs.Links.{block-there}
 use Rattle.judge.specs.Commands.{pair-told, set-variable, set-other, if-told, tail-return, tail-goto, tail-endIf, tail-other, command-told}
 use Rattle.judge.specs.CommandList.{Walked, walk-start, walk-next, walk-done}
@@ -60,10 +61,10 @@ module _ (ws cw : List ℕ) (i : ℕ) where
 
 module _ (t cw : List ℕ) (k : Counts) (K : KeptBy k) where
   module _ (ws : List ℕ) (vs : List ℤ) (T : Trees ws vs t (k .nodes)) where
-    term-passes : {i r : ℕ} → TermCount t (k .nodes) i r → Shallow ws 64 i → (n at : ℕ) → n + r ≤ k .nodes → Passes (readTerm (limitsBy k) n) size (rootImage (nodesBy ws vs k) i) (k .nodes) 0 n at r
+    term-passes : {i r : ℕ} → TermCount t (k .nodes) i r → Shallow ws 64 i → (n at : ℕ) → n + r ≤ k .nodes → Passes (readTerm (limitsBy k) n) size (rootImage (nodesOf ws vs k) i) (k .nodes) 0 n at r
     term-passes {i} C S n at room =
         let R = C .reads ws vs T S n at room in
-        record { to = R .to; told = term-told (limitsBy k) (nodesBy ws vs k) i n at refl (R .told) }
+        record { to = R .to; told = term-told (limitsBy k) (nodesOf ws vs k) i n at refl (R .told) }
 
   -- ---- a block that is named
 
@@ -83,7 +84,7 @@ module _ (t cw : List ℕ) (k : Counts) (K : KeptBy k) where
       reads = λ ws vs T L n at room.
           let P = term-passes ws vs T A (L .target refl e) n (at + 1) (omega arith) in
           let Q = term-passes ws vs T B (L .value refl) (n + a) (P .to) (omega arith) in
-          passes (set-variable (limitsBy k) (codedBy ws vs cw k) i n at e (pair-told (limitsBy k) (nodesBy ws vs k) _ _ n (at + 1) (P .told) refl (Q .told))) (omega arith);
+          passes (set-variable (limitsBy k) (codedOf ws vs cw k) i n at e (pair-told (limitsBy k) (nodesOf ws vs k) _ _ n (at + 1) (P .told) refl (Q .told))) (omega arith);
     }
 
     pub set-value : {r : ℕ} → getD cw (4 * i + 3) 0 ≡ 1 → TermCount t (k .nodes) (getD cw (4 * i + 2) 0) r → TailCount t cw k i 2 r
@@ -92,7 +93,7 @@ module _ (t cw : List ℕ) (k : Counts) (K : KeptBy k) where
       narrow = λ lt ws vs T. levels-value ws cw i refl (λ z. omega arith) (B .narrow lt ws vs T);
       reads = λ ws vs T L n at room.
           let Q = term-passes ws vs T B (L .value refl) n (at + 1) room in
-          passes (set-other (limitsBy k) (codedBy ws vs cw k) i n at e (Q .told)) refl;
+          passes (set-other (limitsBy k) (codedOf ws vs cw k) i n at e (Q .told)) refl;
     }
 
     -- ---- the other codes
@@ -105,14 +106,14 @@ module _ (t cw : List ℕ) (k : Counts) (K : KeptBy k) where
     tail-nothing = record {
       few = omega arith;
       narrow = λ lt ws vs T. levels-none ws cw i (λ z. omega arith) (λ z. omega arith);
-      reads = λ ws vs T L n at room. passes (tail-return (limitsBy k) (codedBy ws vs cw k) i n at (omega arith) 0 refl) (omega arith);
+      reads = λ ws vs T L n at room. passes (tail-return (limitsBy k) (codedOf ws vs cw k) i n at (omega arith) 0 refl) (omega arith);
     }
 
     pub tail-rest : TailCount t cw k i 5 0
     tail-rest = record {
       few = omega arith;
       narrow = λ lt ws vs T. levels-none ws cw i (λ z. omega arith) (λ z. omega arith);
-      reads = λ ws vs T L n at room. passes (tail-other (limitsBy k) (codedBy ws vs cw k) i n at (omega arith) 5 (omega arith)) (omega arith);
+      reads = λ ws vs T L n at room. passes (tail-other (limitsBy k) (codedOf ws vs cw k) i n at (omega arith) 5 (omega arith)) (omega arith);
     }
 
     module _ {r : ℕ} (N : Named (getD cw (4 * i + 3) 0) (k .blocks) r) where
@@ -122,7 +123,7 @@ module _ (t cw : List ℕ) (k : Counts) (K : KeptBy k) where
           record {
             few = omega (arith, N .few);
             narrow = λ lt ws vs T. levels-none ws cw i (λ z. omega arith) (λ z. omega arith);
-            reads = λ ws vs T L n at room. passes (tail-goto (limitsBy k) (codedBy ws vs cw k) i n at (omega arith) (named-told N (omega arith) n at) 1 refl) (omega (arith, N .none (omega arith)));
+            reads = λ ws vs T L n at room. passes (tail-goto (limitsBy k) (codedOf ws vs cw k) i n at (omega arith) (named-told N (omega arith) n at) 1 refl) (omega (arith, N .none (omega arith)));
           }
 
       pub tail-end : TailCount t cw k i 4 r
@@ -131,7 +132,7 @@ module _ (t cw : List ℕ) (k : Counts) (K : KeptBy k) where
           record {
             few = omega (arith, N .few);
             narrow = λ lt ws vs T. levels-none ws cw i (λ z. omega arith) (λ z. omega arith);
-            reads = λ ws vs T L n at room. passes (tail-endIf (limitsBy k) (codedBy ws vs cw k) i n at (omega arith) (named-told N (omega arith) n at) 4 refl) (omega (arith, N .none (omega arith)));
+            reads = λ ws vs T L n at room. passes (tail-endIf (limitsBy k) (codedOf ws vs cw k) i n at (omega arith) (named-told N (omega arith) n at) 4 refl) (omega (arith, N .none (omega arith)));
           }
 
     pub tail-if : {a b r : ℕ} → TermCount t (k .nodes) (getD cw (4 * i + 1) 0) a → Named (getD cw (4 * i + 3) 0) (k .blocks) b → r ≡ a + b → TailCount t cw k i 3 r
@@ -142,7 +143,7 @@ module _ (t cw : List ℕ) (k : Counts) (K : KeptBy k) where
           narrow = λ lt ws vs T. levels-if ws cw i (A .narrow (omega arith) ws vs T);
           reads = λ ws vs T L n at room.
               let P = term-passes ws vs T A (L .condition refl) n at (omega arith) in
-              passes (if-told (limitsBy k) (codedBy ws vs cw k) i n at (P .told) refl (named-told N (omega arith) (n + a) (P .to))) (omega (arith, N .none (omega arith)));
+              passes (if-told (limitsBy k) (codedOf ws vs cw k) i n at (P .told) refl (named-told N (omega arith) (n + a) (P .to))) (omega (arith, N .none (omega arith)));
         }
 
     -- ---- a command, by its code
@@ -154,7 +155,7 @@ module _ (t cw : List ℕ) (k : Counts) (K : KeptBy k) where
         narrow = C .narrow;
         reads = λ ws vs G n at room.
             let P = C .reads ws vs (G .trees) (G .low i there) n (at + 1) room in
-            passes (command-told (limitsBy k) (codedBy ws vs cw k) i n at there lt (P .told)) refl;
+            passes (command-told (limitsBy k) (codedOf ws vs cw k) i n at there lt (P .told)) refl;
       }
 
       -- the code is read, and what follows it
@@ -169,7 +170,7 @@ module _ (t cw : List ℕ) (k : Counts) (K : KeptBy k) where
 -- of h commands from the first on i were read, with r nodes on top of n
 pub record Walks (ws : List ℕ) (vs : List ℤ) (cw : List ℕ) (k : Counts) (h first n at i r : ℕ) : Type 0 where
   pub to : ℕ
-  pub walked : Walked (limitsBy k) (codedBy ws vs cw k) h first n at i (n + r) to
+  pub walked : Walked (limitsBy k) (codedOf ws vs cw k) h first n at i (n + r) to
 
 -- i of them were counted: r nodes
 pub record WalkCount (t cw : List ℕ) (k : Counts) (h first i r : ℕ) : Type 0 where
@@ -180,7 +181,7 @@ module _ (t cw : List ℕ) (k : Counts) (h first : ℕ) where
   count-start = record {
     walks = λ ws vs T n at room.
         let z : n + 0 ≡ n = omega arith in
-        record { to = at; walked = rw z (walk-start (limitsBy k) (codedBy ws vs cw k) h first n at (omega arith)) };
+        record { to = at; walked = rw z (walk-start (limitsBy k) (codedOf ws vs cw k) h first n at (omega arith)) };
   }
 
   pub count-next : {i r c : ℕ} → WalkCount t cw k h first i r → i < h → CommandCount t cw k (first + i) c → WalkCount t cw k h first (i + 1) (r + c)
@@ -189,14 +190,14 @@ module _ (t cw : List ℕ) (k : Counts) (h first : ℕ) where
         let w = W .walks ws vs T n at (omega arith) in
         let q = C .reads ws vs T (n + r) (w .to) (omega arith) in
         let z : n + (r + c) ≡ (n + r) + c = omega arith in
-        record { to = q .to; walked = rw z (walk-next (limitsBy k) (codedBy ws vs cw k) h first n at (w .walked) lt refl (q .told) refl) };
+        record { to = q .to; walked = rw z (walk-next (limitsBy k) (codedOf ws vs cw k) h first n at (w .walked) lt refl (q .told) refl) };
   }
 
   pub count-done : {i r : ℕ} → WalkCount t cw k h first i r → h ≤ i → i ≤ h → CommandsCount t cw k first h r
   count-done {i} {r} W ge le = record {
     reads = λ ws vs T n at room.
         let w = W .walks ws vs T n at room in
-        passes (walk-done (limitsBy k) (codedBy ws vs cw k) h first n at (w .walked) ge le) refl;
+        passes (walk-done (limitsBy k) (codedOf ws vs cw k) h first n at (w .walked) ge le) refl;
   }
 
 -- ---- all commands

@@ -10,9 +10,10 @@ use Rattle.model.specs.Script.{Block, commandNodes, commandsNodes}
 use Rattle.model.specs.Image.{commandOf, readCommand, readCommands, blockOf, readBlock}
 use Rattle.model.specs.Memory.{Memory}
 use Rattle.model.specs.Record.{commandTail, commandImageIn, commandsImageIn, blockTail, judgedRecord}
+use Rattle.memory.specs.View.{codedOf, memoryOf}
 use Rattle.terms.specs.Told.{Told, limitsBy}
 use Rattle.terms.specs.declared.Step.the-variants.{Fine}
-use Rattle.judge.specs.Stages.{codedBy, memoryBy, KeptBy, Staged, blockImageIn}
+use Rattle.judge.specs.Stages.{KeptBy, Staged, blockImageIn}
 use Rattle.judge.specs.declared.Stage.the-variants.{Fine as Passed}
 use Rattle.trees.specs.Trees.{Trees, Shallow, Reads}
 use Rattle.plain.specs.Chain.{Chain}
@@ -59,7 +60,7 @@ pub record TailCount (t cw : List ℕ) (k : Counts) (i c r : ℕ) : Type 0 where
   pub few : r ≤ 131072
   pub narrow : r < 64 → (ws : List ℕ) (vs : List ℤ) → Trees ws vs t (k .nodes) → Levels ws cw i c
   pub reads : (ws : List ℕ) (vs : List ℤ) → Trees ws vs t (k .nodes) → Levels ws cw i c → (n at : ℕ) → n + r ≤ k .nodes
-      → Passes (commandOf (limitsBy k) n c) commandNodes (commandTail (codedBy ws vs cw k) i c) (k .nodes) 3 n at r
+      → Passes (commandOf (limitsBy k) n c) commandNodes (commandTail (codedOf ws vs cw k) i c) (k .nodes) 3 n at r
 
 -- the trees are told, and the expressions of all commands have at most 64 levels
 pub record Given (ws : List ℕ) (vs : List ℤ) (t cw : List ℕ) (k : Counts) : Type 0 where
@@ -71,7 +72,7 @@ pub record CommandCount (t cw : List ℕ) (k : Counts) (i r : ℕ) : Type 0 wher
   pub few : r ≤ 131072
   pub narrow : r < 64 → (ws : List ℕ) (vs : List ℤ) → Trees ws vs t (k .nodes) → Levels ws cw i (getD cw (4 * i) 0)
   pub reads : (ws : List ℕ) (vs : List ℤ) → Given ws vs t cw k → (n at : ℕ) → n + r ≤ k .nodes
-      → Passes (readCommand (limitsBy k) n) commandNodes (commandImageIn (codedBy ws vs cw k) i) (k .nodes) 4 n at r
+      → Passes (readCommand (limitsBy k) n) commandNodes (commandImageIn (codedOf ws vs cw k) i) (k .nodes) 4 n at r
 
 -- the expressions of command i have at most 64 levels, by what the table tells
 pub record LowCommand (ws t cw : List ℕ) (k : Counts) (i : ℕ) : Type 0 where
@@ -96,12 +97,12 @@ pub record SumCount (t cw : List ℕ) (k : Counts) (i r w : ℕ) : Type 0 where
 -- h commands from the first on
 pub record CommandsCount (t cw : List ℕ) (k : Counts) (first h r : ℕ) : Type 0 where
   pub reads : (ws : List ℕ) (vs : List ℤ) → Given ws vs t cw k → (n at : ℕ) → n + r ≤ k .nodes
-      → Passes (readCommands (limitsBy k) h n) commandsNodes (commandsImageIn (codedBy ws vs cw k) h first) (k .nodes) (4 * h) n at r
+      → Passes (readCommands (limitsBy k) h n) commandsNodes (commandsImageIn (codedOf ws vs cw k) h first) (k .nodes) (4 * h) n at r
 
 -- what follows the kind of block i, which is code
 pub record CodeCount (t cw bw : List ℕ) (k : Counts) (i r : ℕ) : Type 0 where
   pub reads : (ws : List ℕ) (vs : List ℤ) → Given ws vs t cw k → (n m at : ℕ) → n + r ≤ k .nodes → m + getD bw (5 * i + 2) 0 ≤ k .commands
-      → Stands (blockOf (limitsBy k) m n 1) (blockTail (memoryBy ws vs cw bw k) i 1) (k .nodes) (k .commands) 9 n m at r (getD bw (5 * i + 2) 0)
+      → Stands (blockOf (limitsBy k) m n 1) (blockTail (memoryOf ws vs cw bw k) i 1) (k .nodes) (k .commands) 9 n m at r (getD bw (5 * i + 2) 0)
 
 -- the commands of block i: none where it is not code
 pub record Held (bw : List ℕ) (i h : ℕ) : Type 0 where
@@ -111,7 +112,7 @@ pub record Held (bw : List ℕ) (i h : ℕ) : Type 0 where
 -- block i
 pub record BlockCount (t cw bw : List ℕ) (k : Counts) (i r : ℕ) : Type 0 where
   pub reads : (ws : List ℕ) (vs : List ℤ) → Given ws vs t cw k → (n m h at : ℕ) → Held bw i h → n + r ≤ k .nodes → m + h ≤ k .commands
-      → Stands (readBlock (limitsBy k) m n) (blockImageIn (memoryBy ws vs cw bw k) i) (k .nodes) (k .commands) 10 n m at r h
+      → Stands (readBlock (limitsBy k) m n) (blockImageIn (memoryOf ws vs cw bw k) i) (k .nodes) (k .commands) 10 n m at r h
 
 -- the links of block i are there, or none
 pub record Linked (bw : List ℕ) (k : Counts) (i : ℕ) : Type 0 where

@@ -12,8 +12,9 @@ use borrow.Author.Tests.{ltb-true, ltb-false}
 use Rattle.memory.specs.declared.Counts.{Counts}
 use Rattle.model.specs.Reading.{word}
 use Rattle.model.specs.Memory.{Memory}
+use Rattle.memory.specs.View.{memoryOf}
 use Rattle.image_numbers.specs.Lengths.{short-word}
-use Rattle.judge.specs.Stages.{memoryBy, KeptBy, Accepted, JudgedAs}
+use Rattle.judge.specs.Stages.{KeptBy, Accepted, JudgedAs}
 use Rattle.judge.specs.Whole.{Passing, pass-start, pass-next, pass-done}
 use Rattle.judge.specs.declared.Judged.the-variants.{Fine}
 use Rattle.trees.specs.Trees.{Trees}
@@ -29,7 +30,7 @@ record Passage (me : Memory) (i n m : ℕ) : Type 0 where
 
 -- i blocks were counted: n nodes and m commands
 record PassCount (t cw bw : List ℕ) (k : Counts) (i n m : ℕ) : Type 0 where
-  passes : (ws : List ℕ) (vs : List ℤ) → Given ws vs t cw k → n ≤ k .nodes → m ≤ k .commands → Passage (memoryBy ws vs cw bw k) i n m
+  passes : (ws : List ℕ) (vs : List ℤ) → Given ws vs t cw k → n ≤ k .nodes → m ≤ k .commands → Passage (memoryOf ws vs cw bw k) i n m
 
 accepted : (me : Memory) {to : ℕ} → JudgedAs me (Fine to) → Accepted me to
 unfolding JudgedAs
@@ -41,7 +42,7 @@ module _ (t cw bw : List ℕ) (k : Counts) (K : KeptBy k) where
     passes = λ ws vs T few room.
         let b = k .blocks in
         let kb = K .blocks in
-        record { to = length (word b); passing = pass-start (memoryBy ws vs cw bw k) K (length (word b)) (short-word b (length (word b)) (omega arith) refl) };
+        record { to = length (word b); passing = pass-start (memoryOf ws vs cw bw k) K (length (word b)) (short-word b (length (word b)) (omega arith) refl) };
   }
 
   pass-more : {i n m r h : ℕ} → PassCount t cw bw k i n m → i < k .blocks → BlockCount t cw bw k i r → Held bw i h → PassCount t cw bw k (i + 1) (n + r) (m + h)
@@ -49,13 +50,13 @@ module _ (t cw bw : List ℕ) (k : Counts) (K : KeptBy k) where
     passes = λ ws vs T few room.
         let p = P .passes ws vs T (omega arith) (omega arith) in
         let q = C .reads ws vs T n m h (p .to) H few room in
-        record { to = q .to; passing = pass-next (memoryBy ws vs cw bw k) K (p .passing) lt (q .staged) refl };
+        record { to = q .to; passing = pass-next (memoryOf ws vs cw bw k) K (p .passing) lt (q .staged) refl };
   }
 
-  pass-plain : {i n m : ℕ} → PassCount t cw bw k i n m → k .blocks ≤ i → n ≤ k .nodes → m ≤ k .commands → (ws : List ℕ) (vs : List ℤ) → Given ws vs t cw k → Plain (memoryBy ws vs cw bw k)
+  pass-plain : {i n m : ℕ} → PassCount t cw bw k i n m → k .blocks ≤ i → n ≤ k .nodes → m ≤ k .commands → (ws : List ℕ) (vs : List ℤ) → Given ws vs t cw k → Plain (memoryOf ws vs cw bw k)
   pass-plain P ge few room ws vs T =
       let p = P .passes ws vs T few room in
-      let a = accepted (memoryBy ws vs cw bw k) (pass-done (memoryBy ws vs cw bw k) K (p .passing) ge) in
+      let a = accepted (memoryOf ws vs cw bw k) (pass-done (memoryOf ws vs cw bw k) K (p .passing) ge) in
       record { blocks = a .blocks; judged = a .judged }
 
 -- ---- the commands of a block, out of the sum of all
@@ -147,7 +148,7 @@ module _ (t cw bw : List ℕ) (k : Counts) (K : KeptBy k) {r : ℕ} (C : Chain (
     reached (suc i) le = reached-more i le (reached i (below i (k .blocks) le))
 
 -- the nodes of all commands have room, none has too many levels, and no command is held twice
-pub plain-apart : (ws t cw bw : List ℕ) (k : Counts) → KeptBy k → {r w : ℕ} → SumCount t cw k (k .commands) r w → r ≤ k .nodes → (64 ≤ w → LowCommands ws t cw k (k .commands)) → Apart bw k → (vs : List ℤ) → Trees ws vs t (k .nodes) → Plain (memoryBy ws vs cw bw k)
+pub plain-apart : (ws t cw bw : List ℕ) (k : Counts) → KeptBy k → {r w : ℕ} → SumCount t cw k (k .commands) r w → r ≤ k .nodes → (64 ≤ w → LowCommands ws t cw k (k .commands)) → Apart bw k → (vs : List ℤ) → Trees ws vs t (k .nodes) → Plain (memoryOf ws vs cw bw k)
 plain-apart ws t cw bw k K {w = w} S le low A vs T =
     let C = S .sums in
     let R = reached t cw bw k K C (A .ends) (k .blocks) (omega arith) in

@@ -6,12 +6,20 @@ ghost use mathlib.Core.List.{List};
 ghost use Prim.Native.Nat.{_*_, _≤_, _<_};
 ghost use lib.IntN.{ℤ};
 ghost use lib.ListN.{length, getD};
-ghost use Rattle.model.specs.Limits.{nodeLimit};
-ghost use Rattle.model.specs.Memory.{memoryIn};
+ghost use Rattle.model.specs.Limits.{nodeLimit, commandLimit, wide16};
+ghost use Rattle.memory.specs.View.{memoryOf};
 ghost use Rattle.trees.specs.Trees.{Trees};
-ghost use Rattle.judge.specs.Stages.{memoryBy, KeptBy};
+ghost use Rattle.judge.specs.Stages.{KeptBy};
 ghost use Rattle.plain.specs.Counted.{Ready, TermCount, Named, TailCount, CommandCount, SumCount, Levels, LowCommand, LowCommands, Follows, Apart, Plain};
+use memory::BLOCK_LIMIT;
+use memory::BlockWords;
+use memory::COMMAND_LIMIT;
+use memory::CommandWords;
 use memory::Counts;
+use memory::NODES;
+use memory::NODE_LIMIT;
+use memory::NodeWords;
+use memory::Values;
 use memory::index_of;
 use trees::is_shallow;
 use trees::measure_trees;
@@ -21,7 +29,7 @@ const TOO_MANY: usize = 40000;
 
 // An element as a number that is known to be one of 16 bits.
 fn element(x: u16) -> usize
-    ensures { λ r. ⌜ (r ≡ x) × (r < 65536) ⌝ }
+    ensures { λ r. ⌜ (r ≡ x) × (r < wide16) ⌝ }
 {
     x as usize
 }
@@ -48,7 +56,7 @@ fn named_block(k: u16, blocks: u16) -> usize
 }
 
 // What follows the code of a Set: target and value.
-fn set_nodes(sizes: &[u16], cw: &[u16; 65536], counts: Counts, i: usize) -> usize
+fn set_nodes(sizes: &[u16], cw: &CommandWords, counts: Counts, i: usize) -> usize
     requires { ⌜ (i < counts .commands) × Ready counts (now sizes) ⌝ }
     ensures { λ r. ⌜ TailCount (now (sizes .entry)) (now (cw .entry)) counts i 2 r ⌝ }
 {
@@ -65,7 +73,7 @@ fn set_nodes(sizes: &[u16], cw: &[u16; 65536], counts: Counts, i: usize) -> usiz
 }
 
 // What follows the code of an If: condition and else block.
-fn if_nodes(sizes: &[u16], cw: &[u16; 65536], counts: Counts, i: usize) -> usize
+fn if_nodes(sizes: &[u16], cw: &CommandWords, counts: Counts, i: usize) -> usize
     requires { ⌜ (i < counts .commands) × Ready counts (now sizes) ⌝ }
     ensures { λ r. ⌜ TailCount (now (sizes .entry)) (now (cw .entry)) counts i 3 r ⌝ }
 {
@@ -75,7 +83,7 @@ fn if_nodes(sizes: &[u16], cw: &[u16; 65536], counts: Counts, i: usize) -> usize
 }
 
 // Command i.
-fn command_nodes(sizes: &[u16], cw: &[u16; 65536], counts: Counts, i: usize) -> usize
+fn command_nodes(sizes: &[u16], cw: &CommandWords, counts: Counts, i: usize) -> usize
     requires { ⌜ (i < counts .commands) × Ready counts (now sizes) ⌝ }
     ensures { λ r. ⌜ CommandCount (now (sizes .entry)) (now (cw .entry)) counts i r ⌝ }
 {
@@ -108,7 +116,7 @@ struct Sum {
 }
 
 // The nodes of all commands that are kept, whether a block holds them or not; too many where one is not plainly fine.
-fn commands_nodes(sizes: &[u16], cw: &[u16; 65536], counts: Counts) -> Sum
+fn commands_nodes(sizes: &[u16], cw: &CommandWords, counts: Counts) -> Sum
     requires { ⌜ Ready counts (now sizes) ⌝ }
     ensures { λ r. ⌜ (r .nodes ≤ counts .nodes → SumCount (now (sizes .entry)) (now (cw .entry)) counts (counts .commands) (r .nodes) (r .most)) ⌝ }
 {
@@ -135,8 +143,8 @@ fn commands_nodes(sizes: &[u16], cw: &[u16; 65536], counts: Counts) -> Sum
 }
 
 // Target and value of a Set have at most 64 levels.
-fn set_shallow(ws: &[u16; 98304], cw: &[u16; 65536], i: usize) -> bool
-    requires { ⌜ i < 16384 ⌝ }
+fn set_shallow(ws: &NodeWords, cw: &CommandWords, i: usize) -> bool
+    requires { ⌜ i < commandLimit ⌝ }
     ensures { λ r. ⌜ (r ≡ true → Levels (now (ws .entry)) (now (cw .entry)) i 2) ⌝ }
 {
     if !is_shallow(ws, index_of(cw[4 * i + 2]), 64) {
@@ -150,9 +158,9 @@ fn set_shallow(ws: &[u16; 98304], cw: &[u16; 65536], i: usize) -> bool
 
 // Whether the expressions of command i have at most 64 levels each.
 fn command_shallow(
-    ws: &[u16; 98304],
+    ws: &NodeWords,
     sizes: &[u16],
-    cw: &[u16; 65536],
+    cw: &CommandWords,
     counts: Counts,
     i: usize,
 ) -> bool
@@ -174,9 +182,9 @@ fn command_shallow(
 
 // The same of all commands, where one of them may have more levels: at most so many nodes has each.
 fn commands_shallow(
-    ws: &[u16; 98304],
+    ws: &NodeWords,
     sizes: &[u16],
-    cw: &[u16; 65536],
+    cw: &CommandWords,
     counts: Counts,
     most: usize,
 ) -> bool
@@ -198,7 +206,7 @@ fn commands_shallow(
 }
 
 // Where the commands of block i end, which is code: they begin where those of the blocks before it end, or later, and its links are there.
-fn code_end(bw: &[u16; 20480], counts: Counts, i: usize, end: usize) -> usize
+fn code_end(bw: &BlockWords, counts: Counts, i: usize, end: usize) -> usize
     requires { ⌜ (i < counts .blocks) × (getD (now bw) (5 * i) 0 ≡ 1) × KeptBy counts ⌝ }
     ensures { λ r. ⌜ (r ≤ counts .commands → Follows (now (bw .entry)) counts i end r) ⌝ }
 {
@@ -220,7 +228,7 @@ fn code_end(bw: &[u16; 20480], counts: Counts, i: usize, end: usize) -> usize
 }
 
 // The same of any block: where it is not code it holds no commands.
-fn block_end(bw: &[u16; 20480], counts: Counts, i: usize, end: usize) -> usize
+fn block_end(bw: &BlockWords, counts: Counts, i: usize, end: usize) -> usize
     requires { ⌜ (i < counts .blocks) × KeptBy counts ⌝ }
     ensures { λ r. ⌜ (r ≤ counts .commands → Follows (now (bw .entry)) counts i end r) ⌝ }
 {
@@ -238,7 +246,7 @@ fn block_end(bw: &[u16; 20480], counts: Counts, i: usize, end: usize) -> usize
 }
 
 // Whether no command is held twice and every block is fine but for its commands.
-fn blocks_apart(bw: &[u16; 20480], counts: Counts) -> bool
+fn blocks_apart(bw: &BlockWords, counts: Counts) -> bool
     requires { ⌜ KeptBy counts ⌝ }
     ensures { λ r. ⌜ (r ≡ true → Apart (now (bw .entry)) counts) ⌝ }
 {
@@ -258,14 +266,14 @@ fn blocks_apart(bw: &[u16; 20480], counts: Counts) -> bool
 
 // All commands and blocks, by a table of the trees.
 fn plain_by(
-    ws: &[u16; 98304],
+    ws: &NodeWords,
     sizes: &[u16],
-    cw: &[u16; 65536],
-    bw: &[u16; 20480],
+    cw: &CommandWords,
+    bw: &BlockWords,
     counts: Counts,
 ) -> bool
     requires { ⌜ Ready counts (now sizes) ⌝ }
-    ensures { λ r. ⌜ (r ≡ true → (vs : List ℤ) → Trees (now (ws .entry)) vs (now (sizes .entry)) (counts .nodes) → Plain (memoryBy (now (ws .entry)) vs (now (cw .entry)) (now (bw .entry)) counts)) ⌝ }
+    ensures { λ r. ⌜ (r ≡ true → (vs : List ℤ) → Trees (now (ws .entry)) vs (now (sizes .entry)) (counts .nodes) → Plain (memoryOf (now (ws .entry)) vs (now (cw .entry)) (now (bw .entry)) counts)) ⌝ }
 {
     let sum = commands_nodes(sizes, cw, counts);
     if index_of(counts.nodes) < sum.nodes {
@@ -279,23 +287,23 @@ fn plain_by(
 
 // The same with a table that is still to be filled, with room for every node that a script may keep.
 fn plain_with(
-    ws: &[u16; 98304],
-    val: &[i32; 32768],
-    cw: &[u16; 65536],
-    bw: &[u16; 20480],
+    ws: &NodeWords,
+    val: &Values,
+    cw: &CommandWords,
+    bw: &BlockWords,
     sizes: &mut [u16],
     counts: Counts,
 ) -> bool
-    requires { ⌜ (counts .nodes ≤ 32768 → counts .nodes ≤ length (now sizes)) ⌝ }
-    ensures { λ r. ⌜ (r ≡ true → Plain (memoryBy (now (ws .entry)) (now (val .entry)) (now (cw .entry)) (now (bw .entry)) counts)) ⌝ }
+    requires { ⌜ (counts .nodes ≤ nodeLimit → counts .nodes ≤ length (now sizes)) ⌝ }
+    ensures { λ r. ⌜ (r ≡ true → Plain (memoryOf (now (ws .entry)) (now (val .entry)) (now (cw .entry)) (now (bw .entry)) counts)) ⌝ }
 {
-    if counts.blocks > 4096 {
+    if counts.blocks > BLOCK_LIMIT {
         return false;
     }
-    if counts.commands > 16384 {
+    if counts.commands > COMMAND_LIMIT {
         return false;
     }
-    if counts.nodes > 32768 {
+    if counts.nodes > NODE_LIMIT {
         return false;
     }
     if !measure_trees(ws, val, sizes, index_of(counts.nodes)) {
@@ -306,14 +314,14 @@ fn plain_with(
 
 // With a table for 64 nodes: to clear a large one takes longer than to go over a small script.
 fn plain_up_to_64(
-    ws: &[u16; 98304],
-    val: &[i32; 32768],
-    cw: &[u16; 65536],
-    bw: &[u16; 20480],
+    ws: &NodeWords,
+    val: &Values,
+    cw: &CommandWords,
+    bw: &BlockWords,
     counts: Counts,
 ) -> bool
     requires { ⌜ counts .nodes ≤ 64 ⌝ }
-    ensures { λ r. ⌜ (r ≡ true → Plain (memoryBy (now (ws .entry)) (now (val .entry)) (now (cw .entry)) (now (bw .entry)) counts)) ⌝ }
+    ensures { λ r. ⌜ (r ≡ true → Plain (memoryOf (now (ws .entry)) (now (val .entry)) (now (cw .entry)) (now (bw .entry)) counts)) ⌝ }
 {
     let mut sizes = [0u16; 64];
     plain_with(ws, val, cw, bw, &mut sizes, counts)
@@ -321,14 +329,14 @@ fn plain_up_to_64(
 
 // With a table for 1,024 nodes.
 fn plain_up_to_1024(
-    ws: &[u16; 98304],
-    val: &[i32; 32768],
-    cw: &[u16; 65536],
-    bw: &[u16; 20480],
+    ws: &NodeWords,
+    val: &Values,
+    cw: &CommandWords,
+    bw: &BlockWords,
     counts: Counts,
 ) -> bool
     requires { ⌜ counts .nodes ≤ 1024 ⌝ }
-    ensures { λ r. ⌜ (r ≡ true → Plain (memoryBy (now (ws .entry)) (now (val .entry)) (now (cw .entry)) (now (bw .entry)) counts)) ⌝ }
+    ensures { λ r. ⌜ (r ≡ true → Plain (memoryOf (now (ws .entry)) (now (val .entry)) (now (cw .entry)) (now (bw .entry)) counts)) ⌝ }
 {
     let mut sizes = [0u16; 1024];
     plain_with(ws, val, cw, bw, &mut sizes, counts)
@@ -336,28 +344,28 @@ fn plain_up_to_1024(
 
 // With a table for any script.
 fn plain_any(
-    ws: &[u16; 98304],
-    val: &[i32; 32768],
-    cw: &[u16; 65536],
-    bw: &[u16; 20480],
+    ws: &NodeWords,
+    val: &Values,
+    cw: &CommandWords,
+    bw: &BlockWords,
     counts: Counts,
 ) -> bool
-    ensures { λ r. ⌜ (r ≡ true → Plain (memoryBy (now (ws .entry)) (now (val .entry)) (now (cw .entry)) (now (bw .entry)) counts)) ⌝ }
+    ensures { λ r. ⌜ (r ≡ true → Plain (memoryOf (now (ws .entry)) (now (val .entry)) (now (cw .entry)) (now (bw .entry)) counts)) ⌝ }
 {
-    let mut sizes = [0u16; 32768];
+    let mut sizes = [0u16; NODES];
     plain_with(ws, val, cw, bw, &mut sizes, counts)
 }
 
 // True says that the record is judged fine, false says nothing. There is no way out before a table: the kept counts are held against
 // their limits behind it (docs/DECISIONS.md, "Large arrays").
 pub fn is_plain(
-    ws: &[u16; 98304],
-    val: &[i32; 32768],
-    cw: &[u16; 65536],
-    bw: &[u16; 20480],
+    ws: &NodeWords,
+    val: &Values,
+    cw: &CommandWords,
+    bw: &BlockWords,
     counts: Counts,
 ) -> bool
-    ensures { λ r. ⌜ (r ≡ true → Plain (memoryIn (now (ws .entry)) (now (val .entry)) (now (cw .entry)) (now (bw .entry)) (counts .nodes) (counts .commands) (counts .blocks))) ⌝ }
+    ensures { λ r. ⌜ (r ≡ true → Plain (memoryOf (now (ws .entry)) (now (val .entry)) (now (cw .entry)) (now (bw .entry)) counts)) ⌝ }
 {
     if counts.nodes > 1024 {
         return plain_any(ws, val, cw, bw, counts);

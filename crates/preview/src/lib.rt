@@ -23,7 +23,11 @@ ghost use Rattle.preview.specs.Parts.{partsOf};
 ghost use Rattle.preview.specs.Shown.{meaningIs, blankOf, meaningsOf, previewedOf};
 use checks::check_save;
 use model::ItemId;
+use shop::CODES;
+use shop::Codes;
+use shop::ENTRIES;
 use shop::ItemAtc;
+use shop::SLOTS;
 use shop::Sheet;
 use shop::Shop;
 use shop::SlotItem;
@@ -44,8 +48,8 @@ use shop_codes::subject_of;
 // The refusal or 0, the pairs of the slots, 0 where it is refused, and variable 0 after them.
 pub struct Previewed {
     pub refusal: u8,
-    pub items: [i32; 20],
-    pub counts: [i32; 20],
+    pub items: [i32; SLOTS],
+    pub counts: [i32; SLOTS],
     pub temp: i32,
 }
 
@@ -314,10 +318,10 @@ fn meaning_of(
 fn meaning_at(
     attached: &[u8],
     sheet: Sheet,
-    sold: &[i32; 20],
-    limits: &[i16; 20],
-    codes: &[u64; 640],
-    lens: &[u8; 20],
+    sold: &[i32; SLOTS],
+    limits: &[i16; SLOTS],
+    codes: &Codes,
+    lens: &[u8; SLOTS],
     i: usize,
     items: &[i16],
     atcs: &[u8],
@@ -329,8 +333,8 @@ fn meaning_at(
 {
     sizes(sold, limits, codes, lens);
     let all: &[u64] = codes;
-    let start = 32 * i;
-    let end = start + 32;
+    let start = ENTRIES * i;
+    let end = start + ENTRIES;
     let item = item_at(sold, i);
     meaning_of(
         attached,
@@ -358,8 +362,8 @@ fn blank(refusal: u8, vars: &[i32]) -> Previewed
     }
     Previewed {
         refusal: refusal,
-        items: [0; 20],
-        counts: [0; 20],
+        items: [0; SLOTS],
+        counts: [0; SLOTS],
         temp: temp,
     }
 }
@@ -378,10 +382,10 @@ fn temp_after(m: Meaning, temp: i32) -> i32
 fn meanings(
     attached: &[u8],
     sheet: Sheet,
-    sold: &[i32; 20],
-    limits: &[i16; 20],
-    codes: &[u64; 640],
-    lens: &[u8; 20],
+    sold: &[i32; SLOTS],
+    limits: &[i16; SLOTS],
+    codes: &Codes,
+    lens: &[u8; SLOTS],
     items: &[i16],
     atcs: &[u8],
     flags: &[u8],
@@ -392,7 +396,7 @@ fn meanings(
 {
     let mut out = blank(0, vars);
     let mut i = 0;
-    while i < 20 {
+    while i < SLOTS {
         let m = meaning_at(
             attached,
             sheet,
@@ -420,10 +424,10 @@ fn meanings(
 pub fn preview_arrays(
     attached: &[u8],
     sheet: Sheet,
-    sold: &[i32; 20],
-    limits: &[i16; 20],
-    codes: &[u64; 640],
-    lens: &[u8; 20],
+    sold: &[i32; SLOTS],
+    limits: &[i16; SLOTS],
+    codes: &Codes,
+    lens: &[u8; SLOTS],
     items: &[i16],
     atcs: &[u8],
     flags: &[u8],
@@ -469,10 +473,10 @@ pub fn preview(
 ) -> Previewed
     ensures { λ r. ⌜ r ≡ previewedOf (previewCall (sheetOf (now (attached .entry)) sheet) (slotsOf shop) (saveOf (now (items .entry)) (now (atcs .entry)) (now (flags .entry)) (now (times .entry)) (now (vars .entry)))) ⌝ }
 {
-    let mut sold = [-1; 20];
-    let mut limits = [0; 20];
-    let mut codes = [0; 640];
-    let mut lens = [0; 20];
+    let mut sold = [-1; SLOTS];
+    let mut limits = [0; SLOTS];
+    let mut codes = [0; CODES];
+    let mut lens = [0; SLOTS];
     arrays_of(shop, &mut sold, &mut limits, &mut codes, &mut lens);
     preview_arrays(
         attached,

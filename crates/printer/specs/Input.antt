@@ -28,6 +28,7 @@ use Rattle.image_read.specs.Caller.{was-accepted, was-refused}
 use Rattle.image_read.specs.declared.Image.{Image}
 use Rattle.image_read.specs.declared.Image.the-variants.{Read, No}
 use Rattle.model.specs.Printer.{refusedText, parsedText, inputText, slots}
+use Rattle.memory.specs.View.{memoryOf}
 use Rattle.sheet_read.specs.declared.Heading.{Heading}
 use Rattle.sheet_read.specs.Outcome.{Head, headOf, readHead}
 use Rattle.sheet_read.specs.Whole.{withBlocks, read-input}
@@ -65,7 +66,7 @@ put-stands m e long s bs r p =
     }
 
 pub read-stands : (ws : List ℕ) (vs : List ℤ) (cw bw : List ℕ) → Long (memoryIn ws vs cw bw 0 0 0) → (ws′ : List ℕ) (vs′ : List ℤ) (cw′ bw′ : List ℕ) (s : List ℕ) (k : Counts)
-    → outcome (Read k) ws′ vs′ cw′ bw′ ≡ readInto (memoryIn ws vs cw bw 0 0 0) (readImage s) → Stands s (memoryIn ws′ vs′ cw′ bw′ (k .nodes) (k .commands) (k .blocks))
+    → outcome (Read k) ws′ vs′ cw′ bw′ ≡ readInto (memoryIn ws vs cw bw 0 0 0) (readImage s) → Stands s (memoryOf ws′ vs′ cw′ bw′ k)
 read-stands ws vs cw bw long ws′ vs′ cw′ bw′ s k p =
     let a = was-accepted ws vs cw bw ws′ vs′ cw′ bw′ (readImage s) k p in
     subst (Stands s) (sym (a .after)) (put-stands (memoryIn ws vs cw bw 0 0 0) (record { blocks = refl; commands = refl; nodes = refl }) long s (a .blocks) (a .rest) (a .read))
@@ -107,7 +108,7 @@ pub record Headed (s : List ℕ) (h : Heading) (ks : List ℕ) : Type 0 where
 module _ (s : List ℕ) (h : Heading) (ks : List ℕ) (d : Headed s h ks) where
   module _ (ws : List ℕ) (vs : List ℤ) (cw bw : List ℕ) (ws′ : List ℕ) (vs′ : List ℤ) (cw′ bw′ : List ℕ) (a : Image) (p : outcome a ws′ vs′ cw′ bw′ ≡ readInto (memoryIn ws vs cw bw 0 0 0) (readImage (drop (h .at) s))) where
     pub image-parsed : Long (memoryIn ws vs cw bw 0 0 0) → (k : Counts) → a ≡ Read k
-        → parsedText (parseIn (headOf h ks .sheet) (memoryIn ws′ vs′ cw′ bw′ (k .nodes) (k .commands) (k .blocks)) (h .setup)) ≡ slots s
+        → parsedText (parseIn (headOf h ks .sheet) (memoryOf ws′ vs′ cw′ bw′ k) (h .setup)) ≡ slots s
     image-parsed long k e =
         let z = read-stands ws vs cw bw long ws′ vs′ cw′ bw′ (drop (h .at) s) k (rw e at p) in
         ap parsedText (z .parses (headOf h ks .sheet) (h .setup)) ∙ sym (slots-parsed s (d .short) (headOf h ks) (drop (h .at) s) (d .read) (z .blocks) (z .rest) (z .read))

@@ -1,32 +1,44 @@
 // The program slots from bytes to bytes: it reads the sheet, the setup number and the image, parses, and writes twenty lines or a refusal.
 ghost use Prim.Native.Nat.{_≤_};
 ghost use lib.ListN.{length, take};
-ghost use Rattle.model.specs.Memory.{memoryIn};
 ghost use Rattle.model.specs.RecordCalls.{parseIn};
 ghost use Rattle.model.specs.Printer.{parsedText};
 ghost use Rattle.model.specs.Printer as Printer;
+ghost use Rattle.memory.specs.View.{memoryOf, emptyIn};
 ghost use Rattle.memory.specs.Sound.{Long};
 ghost use Rattle.shop.specs.Shapes.{sheetOf};
 ghost use Rattle.printer.specs.Input.{Headed};
 ghost use Rattle.printer.specs.Text.{Printed};
 use image_read::Image;
 use image_read::read_script;
+use memory::BLOCK_WORDS;
+use memory::BlockWords;
+use memory::COMMAND_WORDS;
+use memory::CommandWords;
 use memory::Counts;
+use memory::NODES;
+use memory::NODE_WORDS;
+use memory::NodeWords;
+use memory::Values;
 use model::BlockNo;
 use parse::parse;
 use sheet_read::Heading;
 use sheet_read::read_heading;
+use text::Text;
 use text::put_refused;
 use text::put_slots;
 
+// The bytes of standard input that are read (01, Program slots).
+const INPUT: usize = 65536;
+
 // The arrays' lengths, for the proofs.
 fn known_arrays(
-    ws: &[u16; 98304],
-    val: &[i32; 32768],
-    cw: &[u16; 65536],
-    bw: &[u16; 20480],
+    ws: &NodeWords,
+    val: &Values,
+    cw: &CommandWords,
+    bw: &BlockWords,
 ) -> usize
-    ensures { λ _. ⌜ Long (memoryIn (now (ws .entry)) (now (val .entry)) (now (cw .entry)) (now (bw .entry)) 0 0 0) ⌝ }
+    ensures { λ _. ⌜ Long (emptyIn (now (ws .entry)) (now (val .entry)) (now (cw .entry)) (now (bw .entry))) ⌝ }
 {
     let words: &[u16] = ws;
     let values: &[i32] = val;
@@ -39,15 +51,15 @@ fn known_arrays(
 fn parsed_text(
     attached: &[u8; 512],
     h: Heading,
-    ws: &[u16; 98304],
-    val: &[i32; 32768],
-    cw: &[u16; 65536],
-    bw: &[u16; 20480],
+    ws: &NodeWords,
+    val: &Values,
+    cw: &CommandWords,
+    bw: &BlockWords,
     counts: Counts,
-    out: &mut [u8; 16384],
+    out: &mut Text,
 ) -> usize
     requires { ⌜ h .items ≤ length (now attached) ⌝ }
-    ensures { λ r. ⌜ Printed (now (out .entry)) (parsedText (parseIn (sheetOf (take (h .items) (now (attached .entry))) (h .sheet)) (memoryIn (now (ws .entry)) (now (val .entry)) (now (cw .entry)) (now (bw .entry)) (counts .nodes) (counts .commands) (counts .blocks)) (h .setup))) (now (out .exit)) r ⌝ }
+    ensures { λ r. ⌜ Printed (now (out .entry)) (parsedText (parseIn (sheetOf (take (h .items) (now (attached .entry))) (h .sheet)) (memoryOf (now (ws .entry)) (now (val .entry)) (now (cw .entry)) (now (bw .entry)) counts) (h .setup))) (now (out .exit)) r ⌝ }
 {
     let n = h.items as usize;
     let sheet = h.sheet;
@@ -65,11 +77,11 @@ fn image_text(
     input: &[u8],
     attached: &[u8; 512],
     h: Heading,
-    ws: &mut [u16; 98304],
-    val: &mut [i32; 32768],
-    cw: &mut [u16; 65536],
-    bw: &mut [u16; 20480],
-    out: &mut [u8; 16384],
+    ws: &mut NodeWords,
+    val: &mut Values,
+    cw: &mut CommandWords,
+    bw: &mut BlockWords,
+    out: &mut Text,
 ) -> usize
     requires { ⌜ Headed (now input) h (now attached) ⌝ }
     ensures { λ r. ⌜ Printed (now (out .entry)) (Printer.slots (now (input .entry))) (now (out .exit)) r ⌝ }
@@ -83,22 +95,22 @@ fn image_text(
 }
 
 // The large arrays are made here and lent.
-fn script_text(input: &[u8], attached: &[u8; 512], h: Heading, out: &mut [u8; 16384]) -> usize
+fn script_text(input: &[u8], attached: &[u8; 512], h: Heading, out: &mut Text) -> usize
     requires { ⌜ Headed (now input) h (now attached) ⌝ }
     ensures { λ r. ⌜ Printed (now (out .entry)) (Printer.slots (now (input .entry))) (now (out .exit)) r ⌝ }
 {
-    let mut ws = [0u16; 98304];
-    let mut val = [0i32; 32768];
-    let mut cw = [0u16; 65536];
-    let mut bw = [0u16; 20480];
+    let mut ws = [0u16; NODE_WORDS];
+    let mut val = [0i32; NODES];
+    let mut cw = [0u16; COMMAND_WORDS];
+    let mut bw = [0u16; BLOCK_WORDS];
     image_text(input, attached, h, &mut ws, &mut val, &mut cw, &mut bw, out)
 }
 
 // What stands before the image is read first; an input past the limit is refused before all else.
-fn input_text(input: &[u8], attached: &mut [u8; 512], out: &mut [u8; 16384]) -> usize
+fn input_text(input: &[u8], attached: &mut [u8; 512], out: &mut Text) -> usize
     ensures { λ r. ⌜ Printed (now (out .entry)) (Printer.slots (now (input .entry))) (now (out .exit)) r ⌝ }
 {
-    if 65536 < input.len() {
+    if INPUT < input.len() {
         return put_refused(out, 3);
     }
     let h = read_heading(input, attached);
@@ -109,7 +121,7 @@ fn input_text(input: &[u8], attached: &mut [u8; 512], out: &mut [u8; 16384]) -> 
 }
 
 // Writes what the program prints for an input into out, and answers how long that is; the bytes past it stay.
-pub fn slots(input: &[u8], out: &mut [u8; 16384]) -> usize
+pub fn slots(input: &[u8], out: &mut Text) -> usize
     ensures { λ r. ⌜ Printed (now (out .entry)) (Printer.slots (now (input .entry))) (now (out .exit)) r ⌝ }
 {
     let mut attached = [0u8; 512];

@@ -3,8 +3,11 @@ ghost use mathlib.Core.Path.{_≡_};
 ghost use mathlib.Core.Bool.{false};
 ghost use Prim.Native.Nat.{_+_, _*_, _-_, _≤_, _<_};
 ghost use lib.ListN.{length, getD, take};
+ghost use Rattle.model.specs.Limits.{blockLimit};
 ghost use Rattle.reach.specs.Dfs.{entry, to};
 ghost use Rattle.reach.specs.Stacks.{isCodeAt, topOf, ways, Pushed};
+use memory::BLOCKS;
+use memory::BlockWords;
 use memory::index_of;
 use model::BlockNo;
 use model::Link;
@@ -13,8 +16,8 @@ use model::Link;
 pub struct Condition(pub u16);
 
 // Whether block b is one of nb blocks and marked.
-fn is_marked(marks: &[bool; 4096], nb: u16, b: u16) -> bool
-    requires { ⌜ nb ≤ 4096 ⌝ }
+fn is_marked(marks: &[bool; BLOCKS], nb: u16, b: u16) -> bool
+    requires { ⌜ nb ≤ blockLimit ⌝ }
     ensures { λ r. ⌜ r ≡ getD (take nb (now (marks .entry))) b false ⌝ }
 {
     if b < nb {
@@ -24,8 +27,8 @@ fn is_marked(marks: &[bool; 4096], nb: u16, b: u16) -> bool
 }
 
 // The depth of the stack without the marked entries at its top.
-pub fn top_unmarked(marks: &[bool; 4096], stack: &[u16], nb: u16, depth: usize) -> usize
-    requires { ⌜ (nb ≤ 4096) × (2 * depth ≤ length (now stack)) ⌝ }
+pub fn top_unmarked(marks: &[bool; BLOCKS], stack: &[u16], nb: u16, depth: usize) -> usize
+    requires { ⌜ (nb ≤ blockLimit) × (2 * depth ≤ length (now stack)) ⌝ }
     ensures { λ r. ⌜ r ≡ topOf (take nb (now (marks .entry))) (now (stack .entry)) depth ⌝ }
 {
     let mut d = depth;
@@ -71,8 +74,8 @@ pub fn push(
 }
 
 // Whether block b is one of nb blocks and code.
-pub fn is_code(bw: &[u16; 20480], nb: u16, b: BlockNo) -> bool
-    requires { ⌜ nb ≤ 4096 ⌝ }
+pub fn is_code(bw: &BlockWords, nb: u16, b: BlockNo) -> bool
+    requires { ⌜ nb ≤ blockLimit ⌝ }
     ensures { λ r. ⌜ r ≡ isCodeAt (now (bw .entry)) nb (b .0) ⌝ }
 {
     let n = b.0;

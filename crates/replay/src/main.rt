@@ -11,11 +11,21 @@ use image_read::read_script;
 use image_write::write_script;
 use libc::STDIN_FILENO;
 use libc::STDOUT_FILENO;
+use memory::BLOCK_WORDS;
+use memory::BlockWords;
+use memory::COMMAND_WORDS;
+use memory::CommandWords;
 use memory::Counts;
+use memory::NODES;
+use memory::NODE_WORDS;
+use memory::NodeWords;
+use memory::Values;
 use model::BlockNo;
 use model::ItemId;
 use sheet_read::Heading;
 use sheet_read::read_heading;
+use shop::ENTRIES;
+use shop::Row;
 use shop::Sheet;
 use shop::Shop;
 use shop::Slot;
@@ -212,20 +222,20 @@ fn printed(input: &[u8], text: &[u8]) -> bool {
 
 // The large arrays are made here and lent.
 fn compile_lists(s: &[u8], at: usize) -> Tally {
-    let mut ws = [0u16; 98304];
-    let mut val = [0i32; 32768];
-    let mut cw = [0u16; 65536];
-    let mut bw = [0u16; 20480];
+    let mut ws = [0u16; NODE_WORDS];
+    let mut val = [0i32; NODES];
+    let mut cw = [0u16; COMMAND_WORDS];
+    let mut bw = [0u16; BLOCK_WORDS];
     all_lists(s, at, &mut ws, &mut val, &mut cw, &mut bw)
 }
 
 fn all_lists(
     s: &[u8],
     at: usize,
-    ws: &mut [u16; 98304],
-    val: &mut [i32; 32768],
-    cw: &mut [u16; 65536],
-    bw: &mut [u16; 20480],
+    ws: &mut NodeWords,
+    val: &mut Values,
+    cw: &mut CommandWords,
+    bw: &mut BlockWords,
 ) -> Tally {
     let n = number_at(s, at, 1000000);
     let mut t = no_cases(n.at);
@@ -241,10 +251,10 @@ fn all_lists(
 fn compile_list(
     s: &[u8],
     at: usize,
-    ws: &mut [u16; 98304],
-    val: &mut [i32; 32768],
-    cw: &mut [u16; 65536],
-    bw: &mut [u16; 20480],
+    ws: &mut NodeWords,
+    val: &mut Values,
+    cw: &mut CommandWords,
+    bw: &mut BlockWords,
 ) -> Case
     ensures { λ r. ⌜ r .compiles ≤ 1000 ⌝ }
 {
@@ -269,10 +279,10 @@ fn before_list(
     s: &[u8],
     run: Run,
     attached: &mut [u8; 512],
-    ws: &mut [u16; 98304],
-    val: &mut [i32; 32768],
-    cw: &mut [u16; 65536],
-    bw: &mut [u16; 20480],
+    ws: &mut NodeWords,
+    val: &mut Values,
+    cw: &mut CommandWords,
+    bw: &mut BlockWords,
 ) -> Before
     requires { ⌜ (run .from ≤ run .end) × (run .end ≤ length (now s)) ⌝ }
 {
@@ -310,10 +320,10 @@ fn compiles(
     n: Number,
     attached: &[u8; 512],
     before: Before,
-    ws: &mut [u16; 98304],
-    val: &mut [i32; 32768],
-    cw: &mut [u16; 65536],
-    bw: &mut [u16; 20480],
+    ws: &mut NodeWords,
+    val: &mut Values,
+    cw: &mut CommandWords,
+    bw: &mut BlockWords,
 ) -> Listed {
     let all: &[u8] = attached;
     let items = before.items;
@@ -336,10 +346,10 @@ fn all_compiles(
     attached: &[u8],
     sheet: Sheet,
     start: Listed,
-    ws: &mut [u16; 98304],
-    val: &mut [i32; 32768],
-    cw: &mut [u16; 65536],
-    bw: &mut [u16; 20480],
+    ws: &mut NodeWords,
+    val: &mut Values,
+    cw: &mut CommandWords,
+    bw: &mut BlockWords,
 ) -> Listed {
     let mut t = start;
     let mut i: u64 = 0;
@@ -356,10 +366,10 @@ fn one_compile(
     attached: &[u8],
     sheet: Sheet,
     t: Listed,
-    ws: &mut [u16; 98304],
-    val: &mut [i32; 32768],
-    cw: &mut [u16; 65536],
-    bw: &mut [u16; 20480],
+    ws: &mut NodeWords,
+    val: &mut Values,
+    cw: &mut CommandWords,
+    bw: &mut BlockWords,
 ) -> Listed {
     let setup = number_at(s, t.at, 4294967295);
     let given = shop_at(s, setup.at);
@@ -379,10 +389,10 @@ fn one_compile(
 fn writes(
     s: &[u8],
     after: Run,
-    ws: &[u16; 98304],
-    val: &[i32; 32768],
-    cw: &[u16; 65536],
-    bw: &[u16; 20480],
+    ws: &NodeWords,
+    val: &Values,
+    cw: &CommandWords,
+    bw: &BlockWords,
     counts: Counts,
 ) -> bool
     requires { ⌜ (after .from ≤ after .end) × (after .end ≤ length (now s)) ⌝ }
@@ -395,10 +405,10 @@ fn writes(
 
 fn written(
     image: &[u8],
-    ws: &[u16; 98304],
-    val: &[i32; 32768],
-    cw: &[u16; 65536],
-    bw: &[u16; 20480],
+    ws: &NodeWords,
+    val: &Values,
+    cw: &CommandWords,
+    bw: &BlockWords,
     counts: Counts,
     out: &mut [u8],
 ) -> bool {
@@ -433,7 +443,7 @@ fn shop_at(s: &[u8], at: usize) -> Given {
 
 // Item + 1 or 0 for none, limit, how many entries, and those.
 fn slot_at(s: &[u8], at: usize) -> Filled {
-    let mut codes = [0u64; 32];
+    let mut codes = [0u64; ENTRIES];
     let item = number_at(s, at, 65536);
     let limit = number_at(s, item.at, 65535);
     let n = number_at(s, limit.at, 255);
@@ -467,7 +477,7 @@ fn limit_of(x: u64) -> i16
 }
 
 // Entries past the array are read and dropped: their number alone has the shop refused.
-fn entries_at(s: &[u8], n: Number, codes: &mut [u64; 32]) -> usize {
+fn entries_at(s: &[u8], n: Number, codes: &mut Row) -> usize {
     let mut p = n.at;
     let mut i: u64 = 0;
     while i < n.value {
@@ -480,7 +490,7 @@ fn entries_at(s: &[u8], n: Number, codes: &mut [u64; 32]) -> usize {
     p
 }
 
-fn put_code(codes: &mut [u64; 32], i: u64, code: u64) {
+fn put_code(codes: &mut Row, i: u64, code: u64) {
     if i < 32 {
         codes[i as usize] = code;
     }

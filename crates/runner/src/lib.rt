@@ -8,18 +8,23 @@ ghost use lib.ListN.{length};
 ghost use Rattle.model.specs.Limits.{nodeLimit, blockLimit};
 ghost use Rattle.model.specs.Script.{setVariable, ifElse};
 ghost use Rattle.model.specs.Run.{execute, follow, step, store, run};
-ghost use Rattle.model.specs.Memory.{Coded, nodesIn, codedIn, memoryIn, tree, commandIn, commandsIn, linkIn, scriptOf};
+ghost use Rattle.model.specs.Memory.{nodesIn, codedIn, tree, commandIn, commandsIn, linkIn, scriptOf};
 ghost use Rattle.expr.specs.Value.{valueOf, reads};
 ghost use Rattle.shop.specs.Shapes.{sheetOf};
 ghost use Rattle.runner.specs.Steps.{outcomeOf, Flows, Sets, Readable, Readables, Ready};
 ghost use Rattle.model.specs.RecordCalls.{runIn};
+ghost use Rattle.memory.specs.View.{memoryOf};
 ghost use Rattle.checks.specs.Calls.{saveOf};
 ghost use Rattle.runner.specs.RunIn.{ranOf};
 use checks::check_call;
 use checks::check_save;
 use expr::Value;
 use expr::evaluate;
+use memory::BlockWords;
+use memory::CommandWords;
 use memory::Counts;
+use memory::NodeWords;
+use memory::Values;
 use model::BlockNo;
 use model::Link;
 use shop::Sheet;
@@ -94,8 +99,8 @@ fn store_value(vars: &mut [i32; 1024], t: Value, e: Value) -> Flow
 
 // Set evaluates target, then value, then writes.
 fn set_variable(
-    ws: &[u16; 98304],
-    val: &[i32; 32768],
+    ws: &NodeWords,
+    val: &Values,
     target: u16,
     value: u16,
     items: &[i16],
@@ -115,8 +120,8 @@ fn set_variable(
 
 // If nonzero takes next, else its else target.
 fn if_else(
-    ws: &[u16; 98304],
-    val: &[i32; 32768],
+    ws: &NodeWords,
+    val: &Values,
     condition: u16,
     other: BlockNo,
     link: Link,
@@ -153,9 +158,9 @@ fn if_else(
 
 // One command of a block whose next is link.
 fn command(
-    ws: &[u16; 98304],
-    val: &[i32; 32768],
-    cw: &[u16; 65536],
+    ws: &NodeWords,
+    val: &Values,
+    cw: &CommandWords,
     c: u16,
     link: Link,
     items: &[i16],
@@ -203,9 +208,9 @@ fn command(
 
 // The commands of one block, many of them from command first on.
 fn execute_block(
-    ws: &[u16; 98304],
-    val: &[i32; 32768],
-    cw: &[u16; 65536],
+    ws: &NodeWords,
+    val: &Values,
+    cw: &CommandWords,
     first: u16,
     many: u16,
     link: Link,
@@ -246,10 +251,10 @@ fn execute_block(
 
 // Where block b leads. A block that is not code is 13, and so is one that is not there.
 fn step_block(
-    ws: &[u16; 98304],
-    val: &[i32; 32768],
-    cw: &[u16; 65536],
-    bw: &[u16; 20480],
+    ws: &NodeWords,
+    val: &Values,
+    cw: &CommandWords,
+    bw: &BlockWords,
     counts: Counts,
     b: BlockNo,
     items: &[i16],
@@ -259,7 +264,7 @@ fn step_block(
     vars: &mut [i32; 1024],
 ) -> Step
     requires { ⌜ Ready (now cw) (now bw) (counts .blocks) ⌝ }
-    ensures { λ r. ⌜ outcomeOf r (now (vars .exit)) ≡ step (scriptOf (memoryIn (now (ws .entry)) (now (val .entry)) (now (cw .entry)) (now (bw .entry)) (counts .nodes) (counts .commands) (counts .blocks)) .blocks) (reads (now (items .entry)) (now (atcs .entry)) (now (flags .entry)) (now (times .entry))) (b .0) (now (vars .entry)) ⌝ }
+    ensures { λ r. ⌜ outcomeOf r (now (vars .exit)) ≡ step (scriptOf (memoryOf (now (ws .entry)) (now (val .entry)) (now (cw .entry)) (now (bw .entry)) counts) .blocks) (reads (now (items .entry)) (now (atcs .entry)) (now (flags .entry)) (now (times .entry))) (b .0) (now (vars .entry)) ⌝ }
 {
     let n = b.0;
     if n >= counts.blocks as u32 {
@@ -290,10 +295,10 @@ fn step_block(
 
 // Block after block. Entering one of any kind costs 1, counts 1 and needs budget left.
 fn run_blocks(
-    ws: &[u16; 98304],
-    val: &[i32; 32768],
-    cw: &[u16; 65536],
-    bw: &[u16; 20480],
+    ws: &NodeWords,
+    val: &Values,
+    cw: &CommandWords,
+    bw: &BlockWords,
     counts: Counts,
     start: BlockNo,
     items: &[i16],
@@ -304,7 +309,7 @@ fn run_blocks(
     budget: u32,
 ) -> Ran
     requires { ⌜ Ready (now cw) (now bw) (counts .blocks) ⌝ }
-    ensures { λ r. ⌜ ranOf r (now (vars .exit)) ≡ run (scriptOf (memoryIn (now (ws .entry)) (now (val .entry)) (now (cw .entry)) (now (bw .entry)) (counts .nodes) (counts .commands) (counts .blocks)) .blocks) (reads (now (items .entry)) (now (atcs .entry)) (now (flags .entry)) (now (times .entry))) budget (start .0) (now (vars .entry)) ⌝ }
+    ensures { λ r. ⌜ ranOf r (now (vars .exit)) ≡ run (scriptOf (memoryOf (now (ws .entry)) (now (val .entry)) (now (cw .entry)) (now (bw .entry)) counts) .blocks) (reads (now (items .entry)) (now (atcs .entry)) (now (flags .entry)) (now (times .entry))) budget (start .0) (now (vars .entry)) ⌝ }
 {
     let mut b = start;
     let mut entered = 0;
@@ -362,10 +367,10 @@ fn write_back(held: &[i32; 1024], vars: &mut [i32])
 pub fn run(
     attached: &[u8],
     sheet: Sheet,
-    ws: &[u16; 98304],
-    val: &[i32; 32768],
-    cw: &[u16; 65536],
-    bw: &[u16; 20480],
+    ws: &NodeWords,
+    val: &Values,
+    cw: &CommandWords,
+    bw: &BlockWords,
     counts: Counts,
     start: BlockNo,
     items: &[i16],
@@ -375,7 +380,7 @@ pub fn run(
     vars: &mut [i32],
     budget: u32,
 ) -> Ran
-    ensures { λ r. ⌜ ranOf r (now (vars .exit)) ≡ runIn (sheetOf (now (attached .entry)) sheet) (memoryIn (now (ws .entry)) (now (val .entry)) (now (cw .entry)) (now (bw .entry)) (counts .nodes) (counts .commands) (counts .blocks)) (start .0) (saveOf (now (items .entry)) (now (atcs .entry)) (now (flags .entry)) (now (times .entry)) (now (vars .entry))) budget ⌝ }
+    ensures { λ r. ⌜ ranOf r (now (vars .exit)) ≡ runIn (sheetOf (now (attached .entry)) sheet) (memoryOf (now (ws .entry)) (now (val .entry)) (now (cw .entry)) (now (bw .entry)) counts) (start .0) (saveOf (now (items .entry)) (now (atcs .entry)) (now (flags .entry)) (now (times .entry)) (now (vars .entry))) budget ⌝ }
 {
     let refused = check_call(attached, sheet, ws, val, cw, bw, counts, start);
     if refused != 0 {

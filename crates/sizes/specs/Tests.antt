@@ -17,6 +17,7 @@ use Rattle.model.specs.Sheet.{Sheet, atcFor}
 use Rattle.model.specs.Shop.{Timer, plain, five, ten, fifteen, timerOf}
 use Rattle.model.specs.Compile.{test, itemTest, atcTest, flagTest, joinTests, acquiredReq, rateOf, orRate, acquiredExpr}
 use Rattle.model.specs.Laws.Sound.{sum-append}
+use Rattle.memory.specs.View.{nodesOf}
 use Rattle.shop_codes.specs.Codes.{requirementOf, subject, isMissing}
 use Rattle.expr_build.specs.Laws.{size-imm}
 use Rattle.expr_build.specs.Codes.{size-compare, size-flag, size-not-flag}
@@ -34,15 +35,15 @@ test-size (missingFlag f) = size-not-flag f
 -- ---- the test of a code, by what it is about
 
 -- .. and by whether that has to be missing
-abbrev nodesBy : Requirement → Bool → ℕ
-nodesBy (haveFlag f) b = cond b 3 2
-nodesBy (missingFlag f) b = cond b 3 2
-nodesBy (haveItem i) b = 4
-nodesBy (missingItem i) b = 4
-nodesBy (haveAtc a) b = 4
-nodesBy (missingAtc a) b = 4
+abbrev nodesOf : Requirement → Bool → ℕ
+nodesOf (haveFlag f) b = cond b 3 2
+nodesOf (missingFlag f) b = cond b 3 2
+nodesOf (haveItem i) b = 4
+nodesOf (missingItem i) b = 4
+nodesOf (haveAtc a) b = 4
+nodesOf (missingAtc a) b = 4
 
-nodes-by : (r : Requirement) → testNodes r ≡ nodesBy (subject r) (isMissing r)
+nodes-by : (r : Requirement) → testNodes r ≡ nodesOf (subject r) (isMissing r)
 nodes-by (haveItem i) = refl
 nodes-by (missingItem i) = refl
 nodes-by (haveAtc a) = refl
@@ -51,8 +52,8 @@ nodes-by (haveFlag f) = refl
 nodes-by (missingFlag f) = refl
 
 module _ (c : ℕ) (s : Requirement) (e : s ≡ subject (requirementOf c)) where
-  by-subject : testNodes (requirementOf c) ≡ nodesBy s (isMissing (requirementOf c))
-  by-subject = nodes-by (requirementOf c) ∙ ap (λ r. nodesBy r (isMissing (requirementOf c))) (sym e)
+  by-subject : testNodes (requirementOf c) ≡ nodesOf s (isMissing (requirementOf c))
+  by-subject = nodes-by (requirementOf c) ∙ ap (λ r. nodesOf r (isMissing (requirementOf c))) (sym e)
 
   pub item-nodes : (i : ℕ) → s ≡ haveItem i → testNodes (requirementOf c) ≡ 4
   item-nodes i f = by-subject ∙ rw f

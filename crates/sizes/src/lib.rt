@@ -3,7 +3,7 @@ ghost use mathlib.Core.Path.{_≡_};
 ghost use Prim.Native.Nat.{_≤_, _<_};
 ghost use mathlib.Core.List.{map};
 ghost use lib.ListN.{length, take};
-ghost use Rattle.model.specs.Limits.{entryLimit, slotCount};
+ghost use Rattle.model.specs.Limits.{entryLimit, slotCount, wide16};
 ghost use Rattle.model.specs.Script.{Script};
 ghost use Rattle.model.specs.Compile.{shopBlocks, discLimits, hasRoom};
 ghost use Rattle.shop_codes.specs.Codes.{requirementOf};
@@ -12,7 +12,14 @@ ghost use Rattle.shop.specs.Sets.{AllExact, Exact};
 ghost use Rattle.shop_arrays.specs.Arrays.{arraysIn, slotAt, shopFrom};
 ghost use Rattle.sizes.specs.Blocks.{within};
 ghost use Rattle.sizes.specs.Sizes.{AtMost, testNodes, testsNodes, acquiredNodes, sized, plus, soldSize, enableSize, uniqueSize, limitSize, slotSize, shopSize};
+use memory::BLOCKS;
+use memory::COMMANDS;
 use memory::Counts;
+use memory::NODES;
+use shop::Codes;
+use shop::ENTRIES;
+use shop::Row;
+use shop::SLOTS;
 use shop::Sheet;
 use shop::SlotItem;
 use shop::Timer;
@@ -24,11 +31,11 @@ use shop_codes::Subject;
 use shop_codes::is_missing;
 use shop_codes::subject_of;
 
-const BLOCK_LIMIT: u32 = 4096;
+const BLOCK_LIMIT: u32 = BLOCKS as u32;
 
-const COMMAND_LIMIT: u32 = 16384;
+const COMMAND_LIMIT: u32 = COMMANDS as u32;
 
-const NODE_LIMIT: u32 = 32768;
+const NODE_LIMIT: u32 = NODES as u32;
 
 // What any shop takes at most: the Return block, and for each slot 7 blocks, 14 commands and 203 nodes (specs/Most).
 const MOST_BLOCKS: u32 = 141;
@@ -57,7 +64,7 @@ fn sized(blocks: u32, commands: u32, nodes: u32) -> Size
 
 // What two lists of blocks take together.
 fn plus(a: Size, b: Size) -> Size
-    requires { ⌜ AtMost a 65536 × AtMost b 65536 ⌝ }
+    requires { ⌜ AtMost a wide16 × AtMost b wide16 ⌝ }
     ensures { λ r. ⌜ r ≡ plus a b ⌝ }
 {
     Size {
@@ -87,7 +94,7 @@ fn test_nodes(code: u64) -> u32
 }
 
 // The tests of the first len codes, each with the node that joins it to what stands before it.
-fn tests_nodes(codes: [u64; 32], len: u8) -> u32
+fn tests_nodes(codes: Row, len: u8) -> u32
     requires { ⌜ len ≤ entryLimit ⌝ }
     ensures { λ r. ⌜ (r ≡ testsNodes (map requirementOf (take len codes))) × (r ≤ 160) ⌝ }
 {
@@ -165,10 +172,10 @@ fn limit_size(len: u8, tests: u32) -> Size
 fn slot_size(
     attached: &[u8],
     sheet: Sheet,
-    items: &[i32; 20],
-    limits: &[i16; 20],
-    codes: &[u64; 640],
-    lens: &[u8; 20],
+    items: &[i32; SLOTS],
+    limits: &[i16; SLOTS],
+    codes: &Codes,
+    lens: &[u8; SLOTS],
     i: usize,
 ) -> Size
     requires { ⌜ (i < slotCount) × Exact (slotAt (arraysIn (now items) (now limits) (now codes) (now lens)) i) ⌝ }
@@ -178,7 +185,7 @@ fn slot_size(
     match item {
         SlotItem::Nothing => sized(1, 2, 4),
         SlotItem::Of(w) => {
-            let mut set = [0; 32];
+            let mut set = [0; ENTRIES];
             let len = sort_row(codes, lens, i, &mut set);
             let tests = tests_nodes(set, len);
             if limit_of(attached, sheet, w, limits[i]) <= 1 {
@@ -195,16 +202,16 @@ fn slot_size(
 fn shop_size(
     attached: &[u8],
     sheet: Sheet,
-    items: &[i32; 20],
-    limits: &[i16; 20],
-    codes: &[u64; 640],
-    lens: &[u8; 20],
+    items: &[i32; SLOTS],
+    limits: &[i16; SLOTS],
+    codes: &Codes,
+    lens: &[u8; SLOTS],
 ) -> Size
     requires { ⌜ AllExact (shopFrom (arraysIn (now items) (now limits) (now codes) (now lens))) ⌝ }
-    ensures { λ r. ⌜ (r ≡ shopSize (sheetOf (now (attached .entry)) sheet) (slotsOf (shopFrom (arraysIn (now (items .entry)) (now (limits .entry)) (now (codes .entry)) (now (lens .entry)))))) × AtMost r 65536 ⌝ }
+    ensures { λ r. ⌜ (r ≡ shopSize (sheetOf (now (attached .entry)) sheet) (slotsOf (shopFrom (arraysIn (now (items .entry)) (now (limits .entry)) (now (codes .entry)) (now (lens .entry)))))) × AtMost r wide16 ⌝ }
 {
     let mut total = sized(1, 1, 0);
-    let mut i = 20;
+    let mut i = SLOTS;
     while 0 < i {
         i -= 1;
         let next = slot_size(attached, sheet, items, limits, codes, lens, i);
@@ -215,7 +222,7 @@ fn shop_size(
 
 // A script with the counts k has room for what takes s.
 fn room(k: Counts, s: Size) -> bool
-    requires { ⌜ AtMost s 65536 ⌝ }
+    requires { ⌜ AtMost s wide16 ⌝ }
     ensures { λ r. ⌜ r ≡ within k s ⌝ }
 {
     if BLOCK_LIMIT < k.blocks as u32 + s.blocks {
@@ -232,10 +239,10 @@ pub fn fits(
     attached: &[u8],
     sheet: Sheet,
     k: Counts,
-    items: &[i32; 20],
-    limits: &[i16; 20],
-    codes: &[u64; 640],
-    lens: &[u8; 20],
+    items: &[i32; SLOTS],
+    limits: &[i16; SLOTS],
+    codes: &Codes,
+    lens: &[u8; SLOTS],
 ) -> bool
     requires { ⌜ AllExact (shopFrom (arraysIn (now items) (now limits) (now codes) (now lens))) ⌝ }
     ensures { λ r. ⌜ ((sc : Script) → length (sc .blocks) ≡ k .blocks → sc .commands ≡ k .commands → sc .nodes ≡ k .nodes → r ≡ hasRoom discLimits sc (shopBlocks (sheetOf (now (attached .entry)) sheet) (k .blocks) (slotsOf (shopFrom (arraysIn (now (items .entry)) (now (limits .entry)) (now (codes .entry)) (now (lens .entry))))))) ⌝ }

@@ -14,13 +14,10 @@ use Rattle.model.specs.Memory.{Nodes, nodesIn}
 use Rattle.terms.specs.declared.Step.{Step}
 use Rattle.terms.specs.declared.Step.the-variants.{Fine, No}
 
--- ---- a record as the functions get it: arrays, and the kept counts by value
+-- ---- kept counts by value
 
 abbrev pub limitsBy : Counts → Limits
 limitsBy k = limits (k .blocks) (k .commands) (k .nodes)
-
-abbrev pub nodesBy : List ℕ → List ℤ → Counts → Nodes
-nodesBy ws vs k = nodesIn ws vs (k .nodes)
 
 -- ---- what callers have to bring
 

@@ -6,12 +6,16 @@ ghost use Rattle.model.specs.Expr.{size};
 ghost use Rattle.model.specs.Image.{readExpr, readTerm};
 ghost use Rattle.model.specs.Memory.{nodesIn};
 ghost use Rattle.model.specs.Record.{nodeImage, rootImage};
-ghost use Rattle.terms.specs.Told.{Told, limitsBy, nodesBy, ReadyBy, Walking, immJudged};
+ghost use Rattle.memory.specs.View.{nodesOf};
+ghost use Rattle.terms.specs.Told.{Told, limitsBy, ReadyBy, Walking, immJudged};
 use image_numbers::folded;
 use image_numbers::word_length;
 use memory::Counts;
+use memory::NodeWords;
+use memory::Values;
 use memory::kind_of;
 use model::Kind;
+use model::WIDE16;
 
 // The nodes counted and the bytes passed after a piece of the image, or a refusal.
 pub enum Step {
@@ -33,8 +37,8 @@ fn judge_imm(z: i32, limit: u64, n: u16, at: usize) -> Step
 
 // Node i, which has to be below b. Each node visited raises the count, so that the walk ends at the limit however nodes are shared.
 fn judge_expr(
-    ws: &[u16; 98304],
-    val: &[i32; 32768],
+    ws: &NodeWords,
+    val: &Values,
     b: u16,
     i: u16,
     n: u16,
@@ -69,7 +73,7 @@ fn judge_expr(
             }
         }
         Kind::One(_) => judge_expr(ws, val, i, ws[3 * j + 1], n + 1, at + 1, limit, depth + 1),
-        Kind::Imm16 => judge_imm(val[j], 65536, n + 1, at + 1),
+        Kind::Imm16 => judge_imm(val[j], WIDE16, n + 1, at + 1),
         Kind::Imm32 => judge_imm(val[j], 4294967296, n + 1, at + 1),
         Kind::Other => Step::Fine(n + 1, at + 1),
     }
@@ -77,15 +81,15 @@ fn judge_expr(
 
 // An expression of a command: its root has to be below the kept count of nodes, which is also their limit.
 pub fn judge_term(
-    ws: &[u16; 98304],
-    val: &[i32; 32768],
+    ws: &NodeWords,
+    val: &Values,
     counts: Counts,
     i: u16,
     n: u16,
     at: usize,
 ) -> Step
     requires { ⌜ ReadyBy counts n at 200000 ⌝ }
-    ensures { λ r. ⌜ Told (readTerm (limitsBy counts) n) size (rootImage (nodesBy (now (ws .entry)) (now (val .entry)) counts) i) (counts .nodes) 0 n at r ⌝ }
+    ensures { λ r. ⌜ Told (readTerm (limitsBy counts) n) size (rootImage (nodesOf (now (ws .entry)) (now (val .entry)) counts) i) (counts .nodes) 0 n at r ⌝ }
 {
     judge_expr(ws, val, counts.nodes, i, n, at, counts.nodes, 0)
 }

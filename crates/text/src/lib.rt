@@ -3,12 +3,14 @@ ghost use mathlib.Core.Path.{_≡_};
 ghost use mathlib.Core.List.{[], _∷_};
 ghost use lib.IntN.{ℤ};
 ghost use Prim.Native.Nat.{_+_, _<_, _≤_};
+ghost use Rattle.model.specs.Limits.{entryLimit};
 ghost use Rattle.model.specs.Printer.{digitsTo, decimal, signedDecimal, letter, requirementsText, itemText, slotLine, slotLines, refusedText};
 ghost use Rattle.shop_codes.specs.Codes.{ofKind, requirementOf};
 ghost use Rattle.shop.specs.Shapes.{itemOf, slotOf, slotsOf};
 ghost use Rattle.image_numbers.specs.Stored.{Stored};
 ghost use Rattle.text.specs.Written.{Space, Wrote};
 ghost use Rattle.text.specs.Lines.{requirementText, FewEach};
+use shop::SLOTS;
 use shop::Shop;
 use shop::Slot;
 use shop::SlotItem;
@@ -17,17 +19,24 @@ use shop_codes::kind_of;
 use shop_codes::number_of;
 use shop_codes::shifted;
 
+// A limit moved up by this is not below 0.
+const HALF: i32 = HALF16 as i32;
+
+// The printed text of any twenty slots fits into so many bytes.
+pub const TEXT: usize = 16384;
+pub type Text = [u8; TEXT];
+
 // ---- bytes
 
-fn put_byte(out: &mut [u8; 16384], at: usize, b: u8) -> usize
-    requires { ⌜ at < 16384 ⌝ }
+fn put_byte(out: &mut Text, at: usize, b: u8) -> usize
+    requires { ⌜ at < textLimit ⌝ }
     ensures { λ r. ⌜ Stored (now (out .entry)) at (b ∷ []) (now (out .exit)) r ⌝ }
 {
     out[at] = b;
     at + 1
 }
 
-fn put_bytes(out: &mut [u8; 16384], at: usize, s: &[u8]) -> usize
+fn put_bytes(out: &mut Text, at: usize, s: &[u8]) -> usize
     requires { ⌜ Space at (now s) ⌝ }
     ensures { λ r. ⌜ Stored (now (out .entry)) at (now (s .entry)) (now (out .exit)) r ⌝ }
 {
@@ -50,7 +59,7 @@ fn digit(n: u32) -> u8
 }
 
 // At most f digits, the last one last.
-fn put_digits(out: &mut [u8; 16384], at: usize, n: u32, f: u8) -> usize
+fn put_digits(out: &mut Text, at: usize, n: u32, f: u8) -> usize
     requires { ⌜ Space at (digitsTo f n) ⌝ }
     ensures { λ r. ⌜ Stored (now (out .entry)) at (digitsTo f n) (now (out .exit)) r ⌝ }
 {
@@ -64,14 +73,14 @@ fn put_digits(out: &mut [u8; 16384], at: usize, n: u32, f: u8) -> usize
     put_byte(out, p, digit(n % 10))
 }
 
-fn put_decimal(out: &mut [u8; 16384], at: usize, n: u32) -> usize
+fn put_decimal(out: &mut Text, at: usize, n: u32) -> usize
     requires { ⌜ Space at (decimal n) ⌝ }
     ensures { λ r. ⌜ Stored (now (out .entry)) at (decimal n) (now (out .exit)) r ⌝ }
 {
     put_digits(out, at, n, 10)
 }
 
-fn put_signed(out: &mut [u8; 16384], at: usize, z: i32) -> usize
+fn put_signed(out: &mut Text, at: usize, z: i32) -> usize
     requires { ⌜ Space at (signedDecimal z) ⌝ }
     ensures { λ r. ⌜ Stored (now (out .entry)) at (signedDecimal z) (now (out .exit)) r ⌝ }
 {
@@ -100,7 +109,7 @@ fn letter_of(kind: u64) -> u8
     }
 }
 
-fn put_requirement(out: &mut [u8; 16384], at: usize, code: u64) -> usize
+fn put_requirement(out: &mut Text, at: usize, code: u64) -> usize
     requires { ⌜ Space at (requirementText (requirementOf code)) ⌝ }
     ensures { λ r. ⌜ Stored (now (out .entry)) at (requirementText (requirementOf code)) (now (out .exit)) r ⌝ }
 {
@@ -109,8 +118,8 @@ fn put_requirement(out: &mut [u8; 16384], at: usize, code: u64) -> usize
     put_signed(out, q, number_of(code))
 }
 
-fn put_requirements(out: &mut [u8; 16384], at: usize, slot: Slot) -> usize
-    requires { ⌜ (slot .len ≤ 32) × Space at (requirementsText (slotOf slot .requirements)) ⌝ }
+fn put_requirements(out: &mut Text, at: usize, slot: Slot) -> usize
+    requires { ⌜ (slot .len ≤ entryLimit) × Space at (requirementsText (slotOf slot .requirements)) ⌝ }
     ensures { λ r. ⌜ Stored (now (out .entry)) at (requirementsText (slotOf slot .requirements)) (now (out .exit)) r ⌝ }
 {
     let n = slot.len as usize;
@@ -125,7 +134,7 @@ fn put_requirements(out: &mut [u8; 16384], at: usize, slot: Slot) -> usize
 
 // ---- slots
 
-fn put_item(out: &mut [u8; 16384], at: usize, item: SlotItem) -> usize
+fn put_item(out: &mut Text, at: usize, item: SlotItem) -> usize
     requires { ⌜ Space at (itemText (itemOf item)) ⌝ }
     ensures { λ r. ⌜ Stored (now (out .entry)) at (itemText (itemOf item)) (now (out .exit)) r ⌝ }
 {
@@ -136,8 +145,8 @@ fn put_item(out: &mut [u8; 16384], at: usize, item: SlotItem) -> usize
 }
 
 // The line of slot i.
-fn put_slot(out: &mut [u8; 16384], at: usize, i: u32, slot: Slot) -> usize
-    requires { ⌜ (slot .len ≤ 32) × Space at (slotLine i (slotOf slot)) ⌝ }
+fn put_slot(out: &mut Text, at: usize, i: u32, slot: Slot) -> usize
+    requires { ⌜ (slot .len ≤ entryLimit) × Space at (slotLine i (slotOf slot)) ⌝ }
     ensures { λ r. ⌜ Stored (now (out .entry)) at (slotLine i (slotOf slot)) (now (out .exit)) r ⌝ }
 {
     let item = slot.item;
@@ -152,13 +161,13 @@ fn put_slot(out: &mut [u8; 16384], at: usize, i: u32, slot: Slot) -> usize
 }
 
 // The answer of slots: twenty lines.
-pub fn put_slots(out: &mut [u8; 16384], shop: Shop) -> usize
+pub fn put_slots(out: &mut Text, shop: Shop) -> usize
     requires { ⌜ FewEach shop ⌝ }
     ensures { λ r. ⌜ Wrote (now (out .entry)) (slotLines 0 (slotsOf shop)) (now (out .exit)) r ⌝ }
 {
     let mut p = 0;
     let mut i = 0;
-    while i < 20 {
+    while i < SLOTS {
         let slot = shop.slots[i];
         p = put_slot(out, p, i as u32, slot);
         i += 1;
@@ -167,7 +176,7 @@ pub fn put_slots(out: &mut [u8; 16384], shop: Shop) -> usize
 }
 
 // .. or a refusal's number.
-pub fn put_refused(out: &mut [u8; 16384], n: u8) -> usize
+pub fn put_refused(out: &mut Text, n: u8) -> usize
     ensures { λ r. ⌜ Wrote (now (out .entry)) (refusedText n) (now (out .exit)) r ⌝ }
 {
     let p = put_bytes(out, 0, b"refused ");

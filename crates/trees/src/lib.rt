@@ -4,21 +4,25 @@ ghost use mathlib.Core.Bool.{true};
 ghost use Prim.Native.Nat.{_≤_, _<_};
 ghost use lib.IntN.{pos};
 ghost use lib.ListN.{length, getD};
-ghost use Rattle.model.specs.Limits.{wide};
+ghost use Rattle.model.specs.Limits.{wide, nodeLimit, wide16};
 ghost use Rattle.trees.specs.Trees.{Number, Tree, Trees, Shallow};
 ghost use Rattle.trees.specs.Codes.{Before, Next, Joined, High};
+use memory::NODES;
+use memory::NodeWords;
+use memory::Values;
 use memory::index_of;
 use memory::kind_of;
 use model::Kind;
+use model::LEAST16;
 
 // More nodes than a tree can have: the node is not fine, or its tree does not lie in one piece.
 const NO: usize = 65535;
 
 // The number of an Imm16, which has to have 16 bits.
 fn imm16_size(z: i32) -> usize
-    ensures { λ r. ⌜ (r < 65535 → Number z 65536 r) ⌝ }
+    ensures { λ r. ⌜ (r < 65535 → Number z wide16 r) ⌝ }
 {
-    if z < -32768 {
+    if z < LEAST16 {
         return NO;
     }
     if 32767 < z {
@@ -36,7 +40,7 @@ fn imm32_size(z: i32) -> usize
 
 // Node i above node a, which has to be the one before it, of s nodes.
 fn above_one(i: usize, s: usize, a: u16) -> usize
-    requires { ⌜ (i < 32768) × (s ≤ i) ⌝ }
+    requires { ⌜ (i < nodeLimit) × (s ≤ i) ⌝ }
     ensures { λ r. ⌜ (r < 65535 → Next i s a r) ⌝ }
 {
     if index_of(a) + 1 == i {
@@ -47,7 +51,7 @@ fn above_one(i: usize, s: usize, a: u16) -> usize
 
 // Node i above node b, which has to be the one before it, of s nodes, and node a, which has to be the one before b's tree.
 fn above_two(sizes: &[u16], i: usize, s: usize, a: u16, b: u16) -> usize
-    requires { ⌜ (i < 32768) × Before (now sizes) i s ⌝ }
+    requires { ⌜ (i < nodeLimit) × Before (now sizes) i s ⌝ }
     ensures { λ r. ⌜ (r < 65535 → Joined (now (sizes .entry)) i s a b r) ⌝ }
 {
     if index_of(b) + 1 != i {
@@ -61,8 +65,8 @@ fn above_two(sizes: &[u16], i: usize, s: usize, a: u16, b: u16) -> usize
 }
 
 // A node whose code is above 11: Imm32, what has one operand, Other, or no code.
-fn high_size(val: &[i32; 32768], i: usize, s: usize, code: u16, a: u16) -> usize
-    requires { ⌜ (i < 32768) × ((11 < code) × (s ≤ i)) ⌝ }
+fn high_size(val: &Values, i: usize, s: usize, code: u16, a: u16) -> usize
+    requires { ⌜ (i < nodeLimit) × ((11 < code) × (s ≤ i)) ⌝ }
     ensures { λ r. ⌜ (r < 65535 → High (getD (now (val .entry)) i (pos 0)) i s code a r) ⌝ }
 {
     if code > 17 {
@@ -78,8 +82,8 @@ fn high_size(val: &[i32; 32768], i: usize, s: usize, code: u16, a: u16) -> usize
 }
 
 // How many nodes the tree of node i has, s being the size of the node before it. The code 11, which most nodes have, is asked first.
-fn size_of(ws: &[u16; 98304], val: &[i32; 32768], sizes: &[u16], i: usize, s: usize) -> usize
-    requires { ⌜ (i < 32768) × Before (now sizes) i s ⌝ }
+fn size_of(ws: &NodeWords, val: &Values, sizes: &[u16], i: usize, s: usize) -> usize
+    requires { ⌜ (i < nodeLimit) × Before (now sizes) i s ⌝ }
     ensures { λ r. ⌜ (r < 65535 → Tree (now (ws .entry)) (now (val .entry)) (now (sizes .entry)) i r) ⌝ }
 {
     let code = ws[3 * i];
@@ -96,8 +100,8 @@ fn size_of(ws: &[u16; 98304], val: &[i32; 32768], sizes: &[u16], i: usize, s: us
 }
 
 // The trees of the first n nodes, from the lowest on, since operands lie below; false where one is not fine by itself or not in one piece.
-pub fn measure_trees(ws: &[u16; 98304], val: &[i32; 32768], sizes: &mut [u16], n: usize) -> bool
-    requires { ⌜ (n ≤ 32768) × (n ≤ length (now sizes)) ⌝ }
+pub fn measure_trees(ws: &NodeWords, val: &Values, sizes: &mut [u16], n: usize) -> bool
+    requires { ⌜ (n ≤ nodeLimit) × (n ≤ length (now sizes)) ⌝ }
     ensures { λ r. ⌜ (r ≡ true → Trees (now (ws .entry)) (now (val .entry)) (now (sizes .exit)) n) ⌝ }
 {
     let mut s: usize = 0;
@@ -114,13 +118,13 @@ pub fn measure_trees(ws: &[u16; 98304], val: &[i32; 32768], sizes: &mut [u16], n
 }
 
 // Whether the tree of node i has at most so many levels. It goes over the whole tree: only for those that may be too deep.
-pub fn is_shallow(ws: &[u16; 98304], i: usize, levels: usize) -> bool
+pub fn is_shallow(ws: &NodeWords, i: usize, levels: usize) -> bool
     ensures { λ r. ⌜ (r ≡ true → Shallow (now (ws .entry)) levels i) ⌝ }
 {
     if levels == 0 {
         return false;
     }
-    if i >= 32768 {
+    if i >= NODES {
         return false;
     }
     let kind = kind_of(ws[3 * i]);

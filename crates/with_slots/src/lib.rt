@@ -6,6 +6,10 @@ ghost use lib.ListN.{take};
 ghost use Rattle.model.specs.Limits.{entryLimit, slotCount};
 ghost use Rattle.shop_arrays.specs.Arrays.{arraysIn};
 ghost use Rattle.with_slots.specs.Twenty.{filled, twenty};
+use shop::CODES;
+use shop::Codes;
+use shop::ENTRIES;
+use shop::SLOTS;
 
 fn least(a: usize, b: usize) -> usize
     ensures { λ r. ⌜ r ≡ min a b ⌝ }
@@ -17,11 +21,11 @@ fn least(a: usize, b: usize) -> usize
 }
 
 // The first n items into twenty; what is missing is -1, no item.
-fn put_items(from: &[i32], n: usize, to: &mut [i32; 20])
+fn put_items(from: &[i32], n: usize, to: &mut [i32; SLOTS])
     requires { ⌜ n ≤ slotCount ⌝ }
     ensures { λ _. ⌜ now (to .exit) ≡ filled (negsuc 0) slotCount (take n (now (from .entry))) ⌝ }
 {
-    *to = [-1; 20];
+    *to = [-1; SLOTS];
     let m = least(n, from.len());
     let mut i = 0;
     while i < m {
@@ -30,11 +34,11 @@ fn put_items(from: &[i32], n: usize, to: &mut [i32; 20])
     }
 }
 
-fn put_limits(from: &[i16], n: usize, to: &mut [i16; 20])
+fn put_limits(from: &[i16], n: usize, to: &mut [i16; SLOTS])
     requires { ⌜ n ≤ slotCount ⌝ }
     ensures { λ _. ⌜ now (to .exit) ≡ filled (pos 0) slotCount (take n (now (from .entry))) ⌝ }
 {
-    *to = [0; 20];
+    *to = [0; SLOTS];
     let m = least(n, from.len());
     let mut i = 0;
     while i < m {
@@ -43,11 +47,11 @@ fn put_limits(from: &[i16], n: usize, to: &mut [i16; 20])
     }
 }
 
-fn put_codes(from: &[u64], n: usize, to: &mut [u64; 640])
+fn put_codes(from: &[u64], n: usize, to: &mut Codes)
     requires { ⌜ n ≤ entryLimit * slotCount ⌝ }
     ensures { λ _. ⌜ now (to .exit) ≡ filled 0 (entryLimit * slotCount) (take n (now (from .entry))) ⌝ }
 {
-    *to = [0; 640];
+    *to = [0; CODES];
     let m = least(n, from.len());
     let mut i = 0;
     while i < m {
@@ -56,11 +60,11 @@ fn put_codes(from: &[u64], n: usize, to: &mut [u64; 640])
     }
 }
 
-fn put_lens(from: &[u8], n: usize, to: &mut [u8; 20])
+fn put_lens(from: &[u8], n: usize, to: &mut [u8; SLOTS])
     requires { ⌜ n ≤ slotCount ⌝ }
     ensures { λ _. ⌜ now (to .exit) ≡ filled 0 slotCount (take n (now (from .entry))) ⌝ }
 {
-    *to = [0; 20];
+    *to = [0; SLOTS];
     let m = least(n, from.len());
     let mut i = 0;
     while i < m {
@@ -76,16 +80,16 @@ pub fn with_slots(
     limits: &[i16],
     codes: &[u64],
     lens: &[u8],
-    to_items: &mut [i32; 20],
-    to_limits: &mut [i16; 20],
-    to_codes: &mut [u64; 640],
-    to_lens: &mut [u8; 20],
+    to_items: &mut [i32; SLOTS],
+    to_limits: &mut [i16; SLOTS],
+    to_codes: &mut Codes,
+    to_lens: &mut [u8; SLOTS],
 )
     ensures { λ _. ⌜ arraysIn (now («to_items» .exit)) (now («to_limits» .exit)) (now («to_codes» .exit)) (now («to_lens» .exit)) ≡ twenty (arraysIn (now (items .entry)) (now (limits .entry)) (now (codes .entry)) (now (lens .entry))) ⌝ }
 {
-    let n = least(items.len(), 20);
+    let n = least(items.len(), SLOTS);
     put_items(items, n, to_items);
     put_limits(limits, n, to_limits);
-    put_codes(codes, 32 * n, to_codes);
+    put_codes(codes, ENTRIES * n, to_codes);
     put_lens(lens, n, to_lens);
 }

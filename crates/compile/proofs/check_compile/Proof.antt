@@ -6,9 +6,9 @@ use borrow.Author.Tests.{not-true, not-false}
 use Rattle.model.specs.Limits.{slotCount}
 use Rattle.shop_arrays.specs.Arrays.{arraysIn, shopFrom}
 use Rattle.shop_arrays.specs.Slots.{slots-long}
-use Rattle.emit.specs.Put.{memoryOf}
 use Rattle.memory.specs.Transfer.{blocks-counted}
 use Rattle.model.specs.Memory.{scriptOf}
+use Rattle.memory.specs.View.{memoryOf}
 use Rattle.compile.specs.Checked.{refused-call, refused-shop, refused-room, accepted, exact-slots, commands-kept, nodes-kept}
 use Rattle.compile.proofs.check_compile.Statement.{statement}
 use Rattle.compile.proofs.check_compile.Tie as tie

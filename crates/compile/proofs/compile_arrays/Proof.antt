@@ -4,11 +4,11 @@ use lib.ListN.{length}
 use native.Mathlib.Omega.{arith}
 use borrow.Author.Needs.{needs}
 use Rattle.model.specs.Limits.{slotCount}
+use Rattle.memory.specs.View.{memoryOf}
 use Rattle.shop.specs.declared.Shop.{Shop}
 use Rattle.shop_arrays.specs.Arrays.{arraysIn, shopFrom}
 use Rattle.shop_arrays.specs.Slots.{slots-long}
 use Rattle.shop.specs.Shapes.{sheetOf}
-use Rattle.emit.specs.Put.{memoryOf}
 use Rattle.compile.specs.Checked.{Granted, granted, compiled-refused, compiled-accepted}
 use Rattle.compile.proofs.compile_arrays.Statement.{statement}
 use Rattle.compile.proofs.compile_arrays.Tie as tie

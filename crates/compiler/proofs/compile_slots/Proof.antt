@@ -3,10 +3,11 @@ use mathlib.Core.Path.{_≡_}
 use Prim.Native.Nat.{_-_, _≤_}
 use native.Mathlib.Omega.{arith}
 use Rattle.model.specs.Memory.{Memory}
+use Rattle.memory.specs.View.{memoryOf}
 use Rattle.shop.specs.Shapes.{sheetOf, slotsOf}
 use Rattle.shop_arrays.specs.Arrays.{Arrays, arraysIn, shopFrom}
 use Rattle.shop_arrays.specs.Slots.{exact-at}
-use Rattle.emit.specs.Put.{PutBlocks, memoryOf}
+use Rattle.emit.specs.Put.{PutBlocks}
 use Rattle.compiler.specs.Slots.{from, none-yet, next-room, next-put}
 use Rattle.compiler.proofs.compile_slots.Statement.{statement}
 use Rattle.compiler.proofs.compile_slots.Tie as tie

@@ -2,6 +2,7 @@
 use Prim.Native.Nat.{_-_, _≤_}
 use Rattle.model.specs.Memory.{Memory, memoryIn}
 use Rattle.model.specs.Record.{blocksImageIn}
+use Rattle.memory.specs.View.{memoryOf}
 use Rattle.image_numbers.specs.Stored.{stored-length}
 use Rattle.image_write.specs.Loop.{Going, blocks-pieces, go-start, go-room, go-next, go-end}
 use native.Mathlib.Omega.{arith}
@@ -10,7 +11,7 @@ use Rattle.image_write.proofs.write_blocks.Statement.{statement}
 use Rattle.image_write.proofs.write_blocks.Tie as tie
 
 abbrev Inv-loop : tie.InvT-loop
-Inv-loop ws val cw bw counts out₀ at end p₀ i₀ out p i = (i ≤ counts .blocks) × Going (blocksImageIn (memoryIn ws val cw bw (counts .nodes) (counts .commands) (counts .blocks))) (counts .blocks) 0 out₀ at i out p
+Inv-loop ws val cw bw counts out₀ at end p₀ i₀ out p i = (i ≤ counts .blocks) × Going (blocksImageIn (memoryOf ws val cw bw counts)) (counts .blocks) 0 out₀ at i out p
 
 abbrev μ-loop : tie.MeasureT-loop
 μ-loop ws val cw bw counts out₀ at end p₀ i₀ out p i = counts .blocks - i

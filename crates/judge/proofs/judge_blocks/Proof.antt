@@ -1,5 +1,6 @@
 -- `judge::judge_blocks` meets its contract. The invariant says which blocks were seen; the measure is how many are left. Assumes nothing.
 use Rattle.model.specs.Memory.{memoryIn}
+use Rattle.memory.specs.View.{memoryOf}
 use Rattle.judge.specs.Whole.{Passing, pass-start, pass-next, pass-no, pass-done, walked-done}
 use Prim.Native.Nat.{_-_, _≤_}
 use borrow.Author.Needs.{needs}
@@ -8,7 +9,7 @@ use Rattle.judge.proofs.judge_blocks.Statement.{statement}
 use Rattle.judge.proofs.judge_blocks.Tie as tie
 
 abbrev Inv-loop : tie.InvT-loop
-Inv-loop ws val cw bw counts end n₀ m₀ p₀ i₀ n m p i = (i ≤ counts .blocks) × Passing (memoryIn ws val cw bw (counts .nodes) (counts .commands) (counts .blocks)) i m n p
+Inv-loop ws val cw bw counts end n₀ m₀ p₀ i₀ n m p i = (i ≤ counts .blocks) × Passing (memoryOf ws val cw bw counts) i m n p
 
 abbrev μ-loop : tie.MeasureT-loop
 μ-loop ws val cw bw counts end n₀ m₀ p₀ i₀ n m p i = counts .blocks - i

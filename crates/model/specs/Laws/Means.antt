@@ -10,6 +10,7 @@ use native.Mathlib.Decide.{decLe}
 use lib.ListN.{getD, set, length, length-set}
 use lib.Seq.{getD-set-same, getD-set-other}
 use lib.IntN.{ℤ, pos, negsuc}
+use Rattle.model.specs.Limits.{countFirst, itemFirst}
 use Rattle.model.specs.Save.{Save}
 use Rattle.model.specs.Sheet.{Sheet}
 use Rattle.model.specs.Shop.{Slot, emptySlot}
@@ -20,9 +21,9 @@ use Rattle.model.specs.Laws.SlotRuns.{here}
 use Rattle.model.specs.Laws.Writes.{setTemp, write, writes}
 
 module _ (i : ℕ) (f : Meaning) (v : List ℤ) where
-  write-other : (j : ℕ) → j ≢ 0 → j ≢ 600 + i → j ≢ 620 + i → getD (write i f v) j (pos 0) ≡ getD v j (pos 0)
+  write-other : (j : ℕ) → j ≢ 0 → j ≢ itemFirst + i → j ≢ countFirst + i → getD (write i f v) j (pos 0) ≡ getD v j (pos 0)
   unfolding write
-  write-other j a b c = getD-set-other (set (setTemp (f .temp) v) (600 + i) (f .item)) (620 + i) j (f .count) (pos 0) c ∙ getD-set-other (setTemp (f .temp) v) (600 + i) j (f .item) (pos 0) b ∙ by (f .temp)
+  write-other j a b c = getD-set-other (set (setTemp (f .temp) v) (itemFirst + i) (f .item)) (countFirst + i) j (f .count) (pos 0) c ∙ getD-set-other (setTemp (f .temp) v) (itemFirst + i) j (f .item) (pos 0) b ∙ by (f .temp)
     where
       by : (o : Option ℤ) → getD (setTemp o v) j (pos 0) ≡ getD v j (pos 0)
       by none = refl
@@ -30,7 +31,7 @@ module _ (i : ℕ) (f : Meaning) (v : List ℤ) where
 
   write-first : 0 < length v → getD (write i f v) 0 (pos 0) ≡ orOld (f .temp) (getD v 0 (pos 0))
   unfolding write
-  write-first l = getD-set-other (set (setTemp (f .temp) v) (600 + i) (f .item)) (620 + i) 0 (f .count) (pos 0) (omega arith) ∙ getD-set-other (setTemp (f .temp) v) (600 + i) 0 (f .item) (pos 0) (omega arith) ∙ by (f .temp)
+  write-first l = getD-set-other (set (setTemp (f .temp) v) (itemFirst + i) (f .item)) (countFirst + i) 0 (f .count) (pos 0) (omega arith) ∙ getD-set-other (setTemp (f .temp) v) (itemFirst + i) 0 (f .item) (pos 0) (omega arith) ∙ by (f .temp)
     where
       by : (o : Option ℤ) → getD (setTemp o v) 0 (pos 0) ≡ orOld o (getD v 0 (pos 0))
       by none = refl
@@ -40,13 +41,13 @@ module _ (i : ℕ) (f : Meaning) (v : List ℤ) where
   length-temp none = refl
   length-temp (some z) = length-set v 0 z
 
-  write-item : i < 20 → length v ≡ 1024 → getD (write i f v) (600 + i) (pos 0) ≡ f .item
+  write-item : i < 20 → length v ≡ 1024 → getD (write i f v) (itemFirst + i) (pos 0) ≡ f .item
   unfolding write
-  write-item p q = getD-set-other (set (setTemp (f .temp) v) (600 + i) (f .item)) (620 + i) (600 + i) (f .count) (pos 0) (omega arith) ∙ getD-set-same (setTemp (f .temp) v) (600 + i) (f .item) (pos 0) (omega (arith, length-temp (f .temp)))
+  write-item p q = getD-set-other (set (setTemp (f .temp) v) (itemFirst + i) (f .item)) (countFirst + i) (itemFirst + i) (f .count) (pos 0) (omega arith) ∙ getD-set-same (setTemp (f .temp) v) (itemFirst + i) (f .item) (pos 0) (omega (arith, length-temp (f .temp)))
 
-  write-count : i < 20 → length v ≡ 1024 → getD (write i f v) (620 + i) (pos 0) ≡ f .count
+  write-count : i < 20 → length v ≡ 1024 → getD (write i f v) (countFirst + i) (pos 0) ≡ f .count
   unfolding write
-  write-count p q = getD-set-same (set (setTemp (f .temp) v) (600 + i) (f .item)) (620 + i) (f .count) (pos 0) (omega (arith, length-temp (f .temp), length-set (setTemp (f .temp) v) (600 + i) (f .item)))
+  write-count p q = getD-set-same (set (setTemp (f .temp) v) (itemFirst + i) (f .item)) (countFirst + i) (f .count) (pos 0) (omega (arith, length-temp (f .temp), length-set (setTemp (f .temp) v) (itemFirst + i) (f .item)))
 
 module _ (h : Sheet) (s : Save) where
   length-writes : (i : ℕ) (xs : List Slot) (v : List ℤ) → length (writes h s i xs v) ≡ length v
@@ -55,7 +56,7 @@ module _ (h : Sheet) (s : Save) where
   length-writes i (x ∷ xs) v = length-writes (suc i) xs (write i (meaningOf h s x) v) ∙ length-write i (meaningOf h s x) v
 
   -- j is below both ranges, or between them, or above: no slot from i on writes it
-  writes-other : (i : ℕ) (xs : List Slot) (v : List ℤ) (j : ℕ) → j ≢ 0 → ((k : ℕ) → k < length xs → (j ≢ 600 + (i + k)) × (j ≢ 620 + (i + k))) → getD (writes h s i xs v) j (pos 0) ≡ getD v j (pos 0)
+  writes-other : (i : ℕ) (xs : List Slot) (v : List ℤ) (j : ℕ) → j ≢ 0 → ((k : ℕ) → k < length xs → (j ≢ itemFirst + (i + k)) × (j ≢ countFirst + (i + k))) → getD (writes h s i xs v) j (pos 0) ≡ getD v j (pos 0)
   unfolding writes
   writes-other i [] v j a out = refl
   writes-other i (x ∷ xs) v j a out =
@@ -68,26 +69,26 @@ module _ (h : Sheet) (s : Save) where
   writes-first i [] v l = refl
   writes-first i (x ∷ xs) v l = writes-first (suc i) xs (write i (meaningOf h s x) v) (omega (arith, length-write i (meaningOf h s x) v)) ∙ ap (tempAfter h s xs) (write-first i (meaningOf h s x) v l)
 
-  writes-item : (i : ℕ) (xs : List Slot) (v : List ℤ) (k : ℕ) → k < length xs → i + length xs ≤ 20 → length v ≡ 1024 → getD (writes h s i xs v) (600 + (i + k)) (pos 0) ≡ meaningOf h s (getD xs k emptySlot) .item
+  writes-item : (i : ℕ) (xs : List Slot) (v : List ℤ) (k : ℕ) → k < length xs → i + length xs ≤ 20 → length v ≡ 1024 → getD (writes h s i xs v) (itemFirst + (i + k)) (pos 0) ≡ meaningOf h s (getD xs k emptySlot) .item
   unfolding writes
   writes-item i [] v k p q l = absurd (omega arith)
   writes-item i (x ∷ xs) v zero p q l =
-      rw (add-zero i) (writes-other (suc i) xs (write i (meaningOf h s x) v) (600 + i) (omega arith) (λ k r. (omega arith, omega arith)) ∙ write-item i (meaningOf h s x) v (omega arith) l)
+      rw (add-zero i) (writes-other (suc i) xs (write i (meaningOf h s x) v) (itemFirst + i) (omega arith) (λ k r. (omega arith, omega arith)) ∙ write-item i (meaningOf h s x) v (omega arith) l)
   writes-item i (x ∷ xs) v (suc k) p q l =
-      let z : 600 + (i + suc k) ≡ 600 + (suc i + k) = omega arith in rw z (writes-item (suc i) xs (write i (meaningOf h s x) v) k (omega arith) (omega arith) (length-write i (meaningOf h s x) v ∙ l))
+      let z : itemFirst + (i + suc k) ≡ itemFirst + (suc i + k) = omega arith in rw z (writes-item (suc i) xs (write i (meaningOf h s x) v) k (omega arith) (omega arith) (length-write i (meaningOf h s x) v ∙ l))
 
-  writes-count : (i : ℕ) (xs : List Slot) (v : List ℤ) (k : ℕ) → k < length xs → i + length xs ≤ 20 → length v ≡ 1024 → getD (writes h s i xs v) (620 + (i + k)) (pos 0) ≡ meaningOf h s (getD xs k emptySlot) .count
+  writes-count : (i : ℕ) (xs : List Slot) (v : List ℤ) (k : ℕ) → k < length xs → i + length xs ≤ 20 → length v ≡ 1024 → getD (writes h s i xs v) (countFirst + (i + k)) (pos 0) ≡ meaningOf h s (getD xs k emptySlot) .count
   unfolding writes
   writes-count i [] v k p q l = absurd (omega arith)
   writes-count i (x ∷ xs) v zero p q l =
-      rw (add-zero i) (writes-other (suc i) xs (write i (meaningOf h s x) v) (620 + i) (omega arith) (λ k r. (omega arith, omega arith)) ∙ write-count i (meaningOf h s x) v (omega arith) l)
+      rw (add-zero i) (writes-other (suc i) xs (write i (meaningOf h s x) v) (countFirst + i) (omega arith) (λ k r. (omega arith, omega arith)) ∙ write-count i (meaningOf h s x) v (omega arith) l)
   writes-count i (x ∷ xs) v (suc k) p q l =
-      let z : 620 + (i + suc k) ≡ 620 + (suc i + k) = omega arith in rw z (writes-count (suc i) xs (write i (meaningOf h s x) v) k (omega arith) (omega arith) (length-write i (meaningOf h s x) v ∙ l))
+      let z : countFirst + (i + suc k) ≡ countFirst + (suc i + k) = omega arith in rw z (writes-count (suc i) xs (write i (meaningOf h s x) v) k (omega arith) (omega arith) (length-write i (meaningOf h s x) v ∙ l))
 
   pub writes-means : (xs : List Slot) (v : List ℤ) → length xs ≡ 20 → length v ≡ 1024 → Means h s xs v (writes h s 0 xs v)
   writes-means xs v p l = record {
-    items = λ i q. let z : 600 + i ≡ 600 + (0 + i) = omega arith in rw z (writes-item 0 xs v i q (omega arith) l);
-    counts = λ i q. let z : 620 + i ≡ 620 + (0 + i) = omega arith in rw z (writes-count 0 xs v i q (omega arith) l);
+    items = λ i q. let z : itemFirst + i ≡ itemFirst + (0 + i) = omega arith in rw z (writes-item 0 xs v i q (omega arith) l);
+    counts = λ i q. let z : countFirst + i ≡ countFirst + (0 + i) = omega arith in rw z (writes-count 0 xs v i q (omega arith) l);
     first = writes-first 0 xs v (omega arith);
     others = λ j a out. writes-other 0 xs v j a (λ k q. let o = out k q in ((λ r. o .0 (omega arith)), (λ r. o .1 (omega arith))));
     long = length-writes 0 xs v;

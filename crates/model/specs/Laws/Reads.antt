@@ -12,7 +12,7 @@ use lib.Dec.{T, ltb, leb, eqb}
 use borrow.Author.Tests.{lt-ltb, ne-eqb, leb-false}
 use lib.IntN.{ℤ, pos, negsuc}
 use mir.Syntax.{w16}
-use Rattle.model.specs.Limits.{mostStock}
+use Rattle.model.specs.Limits.{mostStock, half16}
 use Rattle.model.specs.Signed.{cut16}
 use Rattle.model.specs.Expr.{imm, imm16, negate, two}
 use Rattle.model.specs.declared.Op2.the-variants.{BitAnd}
@@ -54,7 +54,7 @@ readBack h x = readFor h (x .item) (x .limit) (sorted (x .requirements))
 -- what compileRefusal 8 leaves of an item, and that the slot read is fewEntries
 abbrev pub ItemOk : Sheet → Option ℕ → Type 0
 ItemOk h none = Unit {0}
-ItemOk h (some w) = (ltb w (length (h .atcOf)) ≡ true) × (w < 32768)
+ItemOk h (some w) = (ltb w (length (h .atcOf)) ≡ true) × (w < half16)
 
 pub record SlotOk (h : Sheet) (x : Slot) : Type 0 where
   pub item-ok : ItemOk h (x .item)
@@ -64,16 +64,16 @@ abbrev pub AllOk : Sheet → List Slot → Type 0
 AllOk h [] = Unit {0}
 AllOk h (x ∷ xs) = SlotOk h x × AllOk h xs
 
-imm-small : (w : ℕ) → w < 32768 → itemExpr w ≡ imm16 (pos w)
+imm-small : (w : ℕ) → w < half16 → itemExpr w ≡ imm16 (pos w)
 unfolding imm
-imm-small w p = rw (lt-ltb w 32768 p)
+imm-small w p = rw (lt-ltb w half16 p)
 
 cut-small : (q : ℕ) → q ≤ mostStock → cut16 (pos q) ≡ pos q
 cut-small q p = wrap-id w16 (pos q) (omega arith)
 
 module _ (h : Sheet) (bs : List Block) (home i e : ℕ) (ys : List Slot) (i-in : i < 20)
     (rest : (hi : ℕ) (x : Slot) (S : List Slot) (M : List Bool) (l : ℤ) → e ≤ hi → Before home i e ys hi x S M → Rested h bs home i e ys hi x S M l) where
-  module _ (w : ℕ) (known : ltb w (length (h .atcOf)) ≡ true) (w-in : w < 32768) (S : List Slot) (M : List Bool) (l : ℤ) where
+  module _ (w : ℕ) (known : ltb w (length (h .atcOf)) ≡ true) (w-in : w < half16) (S : List Slot) (M : List Bool) (l : ℤ) where
     unique-reads : (qs : List Requirement) → fewEntries (filledSlot w 1 (uniqueReqs h w qs)) ≡ true → After bs e (uniqueBlocks h i e w qs)
         → Before home i e ys (lastOf e (uniqueBlocks h i e w qs)) emptySlot S M → Got h bs home i e ys (lastOf e (uniqueBlocks h i e w qs)) none e (filledSlot w 1 (uniqueReqs h w qs)) S M l
     unfolding uniqueBlocks uniqueReqs

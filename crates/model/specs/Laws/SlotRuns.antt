@@ -12,7 +12,7 @@ use lib.Dec.{T, ltb, leb, eqb}
 use borrow.Author.Tests.{le-ltb, lt-ltb}
 use lib.IntN.{ℤ, pos, negsuc, _-ℤ_}
 use lib.Signed.{ltZ, mag}
-use Rattle.model.specs.Limits.{mostHeld, mostStock}
+use Rattle.model.specs.Limits.{mostHeld, mostStock, countFirst, itemFirst}
 use Rattle.model.specs.Signed.{b2z, clamp, isZero}
 use Rattle.model.specs.Save.{Save}
 use Rattle.model.specs.Expr.{Expr, eval, imm16, ok}
@@ -69,12 +69,12 @@ module _ {bs : List Block} {s : Save} where
 -- ---- what one block does
 
 module _ {s : Save} {v : List ℤ} (i : ℕ) where
-  pub does-pair : {last : ℕ} (a b : Expr) {x y : ℤ} → eval s v a ≡ ok x → eval s (set v (600 + i) x) b ≡ ok y
-      → Does s (setSlot last i a b) v (next last (set (set v (600 + i) x) (620 + i) y))
+  pub does-pair : {last : ℕ} (a b : Expr) {x y : ℤ} → eval s v a ≡ ok x → eval s (set v (itemFirst + i) x) b ≡ ok y
+      → Does s (setSlot last i a b) v (next last (set (set v (itemFirst + i) x) (countFirst + i) y))
   does-pair a b p q = record { eq = rw (p, q) }
 
-  pub does-pairEnd : {e : ℕ} (a b : Expr) {x y : ℤ} → eval s v a ≡ ok x → eval s (set v (600 + i) x) b ≡ ok y
-      → Does s (setSlotEnd e i a b) v (next e (set (set v (600 + i) x) (620 + i) y))
+  pub does-pairEnd : {e : ℕ} (a b : Expr) {x y : ℤ} → eval s v a ≡ ok x → eval s (set v (itemFirst + i) x) b ≡ ok y
+      → Does s (setSlotEnd e i a b) v (next e (set (set v (itemFirst + i) x) (countFirst + i) y))
   does-pairEnd a b p q = record { eq = rw (p, q) }
 
 module _ {s : Save} {v : List ℤ} {last k : ℕ} {c : Expr} where
@@ -144,8 +144,8 @@ not-negative : (n : ℕ) → ltb n 0 ≡ false
 not-negative n = le-ltb n 0 (omega arith)
 
 module _ (bs : List Block) (s : Save) (i e w l k : ℕ) (v : List ℤ) (some-var : 0 < length v) (x : ℤ) (rest : eval s v (remainingExpr l w) ≡ ok x) where
-  var0-kept : (z : ℤ) → eval s (set (set v 0 z) (600 + i) (pos w)) tempVar ≡ ok z
-  var0-kept z = ap ok (getD-set-other (set v 0 z) (600 + i) 0 (pos w) (pos 0) (omega arith) ∙ getD-set-same v 0 z (pos 0) some-var)
+  var0-kept : (z : ℤ) → eval s (set (set v 0 z) (itemFirst + i) (pos w)) tempVar ≡ ok z
+  var0-kept z = ap ok (getD-set-other (set v 0 z) (itemFirst + i) 0 (pos w) (pos 0) (omega arith) ∙ getD-set-same v 0 z (pos 0) some-var)
 
   does-left : Does s (remainingBlock l w k) v (cond (isZero (b2z (ltZ x (pos 0)))) (next k (set v 0 x)) (next (suc k) (set v 0 x)))
   does-left = record { eq = rw (rest, getD-set-same v 0 x (pos 0) some-var) }

@@ -11,6 +11,7 @@ use lib.Seq.{getD-set-same, getD-set-other, set-set, set-getD}
 use lib.Dec.{T, ltb, leb, eqb}
 use borrow.Author.Tests.{le-ltb, lt-ltb, ne-eqb, eq-eqb}
 use lib.IntN.{ℤ, pos, negsuc}
+use Rattle.model.specs.Limits.{countFirst, itemFirst}
 use Rattle.model.specs.Signed.{cut16}
 use Rattle.model.specs.Expr.{Expr, imm16, one, two}
 use Rattle.model.specs.declared.Op2.the-variants.{Less, Subtract}
@@ -25,14 +26,14 @@ use Rattle.model.specs.Printer.{slots}
 use Rattle.model.specs.Laws.Checks.{and-left, and-right}
 use Rattle.model.specs.Laws.SlotRuns.{Stands}
 
-pub place-item : (i : ℕ) → i < 20 → placeOf (600 + i) ≡ itemVar i
+pub place-item : (i : ℕ) → i < 20 → placeOf (itemFirst + i) ≡ itemVar i
 unfolding placeOf
-place-item i h = rw (ne-eqb (600 + i) 0 (λ q. omega arith), le-ltb (600 + i) 600 (omega arith), lt-ltb (600 + i) 620 (omega arith)) (ap itemVar (omega arith))
+place-item i h = rw (ne-eqb (itemFirst + i) 0 (λ q. omega arith), le-ltb (itemFirst + i) itemFirst (omega arith), lt-ltb (itemFirst + i) countFirst (omega arith)) (ap itemVar (omega arith))
 
-pub place-count : (i : ℕ) → i < 20 → placeOf (620 + i) ≡ countVar i
+pub place-count : (i : ℕ) → i < 20 → placeOf (countFirst + i) ≡ countVar i
 unfolding placeOf
 place-count i h =
-    rw (ne-eqb (620 + i) 0 (λ q. omega arith), le-ltb (620 + i) 600 (omega arith), le-ltb (620 + i) 620 (omega arith), lt-ltb (620 + i) 640 (omega arith))
+    rw (ne-eqb (countFirst + i) 0 (λ q. omega arith), le-ltb (countFirst + i) itemFirst (omega arith), le-ltb (countFirst + i) countFirst (omega arith), lt-ltb (countFirst + i) 640 (omega arith))
     (ap countVar (omega arith))
 
 -- ---- updateSlots
@@ -123,10 +124,10 @@ module _ (h : Sheet) (b : ℕ) (c : Option Expr) (S : List Slot) (M : List Bool)
     pair-slots : updateSlots h (parseRequirements h c) (set blank i (some x)) (set blank i (some y)) S ≡ set S i s₁
     pair-slots = updates-one h (parseRequirements h c) 20 i (some x) (some y) S i-in ∙ rw (mine, upd)
 
-    pub entered-pair : visited h b c (emitSet (600 + i) a ∷ emitSet (620 + i) z ∷ []) (mk S M l) ≡ mk (set S i s₁) (set M b true) l
+    pub entered-pair : visited h b c (emitSet (itemFirst + i) a ∷ emitSet (countFirst + i) z ∷ []) (mk S M l) ≡ mk (set S i s₁) (set M b true) l
     unfolding visited
     entered-pair = rw (place-item i i-in, place-count i i-in, wa, wz, pair-slots, all-set fewEntries S i s₁ tiny fits)
 
-    pub entered-pairEnd : (e : ℕ) → visited h b c (emitSet (600 + i) a ∷ emitSet (620 + i) z ∷ endIf e ∷ []) (mk S M l) ≡ mk (set S i s₁) (set M b true) l
+    pub entered-pairEnd : (e : ℕ) → visited h b c (emitSet (itemFirst + i) a ∷ emitSet (countFirst + i) z ∷ endIf e ∷ []) (mk S M l) ≡ mk (set S i s₁) (set M b true) l
     unfolding visited
     entered-pairEnd e = rw (place-item i i-in, place-count i i-in, wa, wz, pair-slots, all-set fewEntries S i s₁ tiny fits)

@@ -4,7 +4,6 @@ use Prim.Native.Nat.{_*_, _-_}
 use native.Mathlib.Omega.{arith}
 use lib.ListN.{getD, take}
 use borrow.Author.Tests.{not-true, not-false}
-use Rattle.model.specs.Memory.{memoryIn}
 use Rattle.shop_arrays.specs.Arrays.{arraysIn, shopFrom}
 use Rattle.reach.specs.Marks.{unmarked}
 use Rattle.reach.specs.Stacks.{top-most}
@@ -16,10 +15,11 @@ use Rattle.parse_walk.proofs.Starts.{turning-start}
 use borrow.Author.Needs.{needs}
 use Rattle.parse_walk.proofs.walk_all.Statement.{statement}
 use Rattle.parse_walk.proofs.walk_all.Tie as tie
+use Rattle.memory.specs.View.{memoryOf}
 
 abbrev Inv-loop : tie.InvT-loop
 Inv-loop ws val cw bw keys₀ kids₀ companions₀ list₀ seen₀ alive₀ cells₀ stack₀ marks₀ items₀ limits₀ codes₀ lens₀ k known ids₀ counts₀ w₀ depth₀ keys kids companions list seen alive cells stack marks items limits codes lens ids counts w depth =
-    Turning known (memoryIn ws val cw bw (k .nodes) (k .commands) (k .blocks)) (getD stack₀ 0 0) (storedIn keys kids companions list seen alive cells)
+    Turning known (memoryOf ws val cw bw k) (getD stack₀ 0 0) (storedIn keys kids companions list seen alive cells)
     marks stack (shopFrom (arraysIn items limits codes lens)) w depth
     × Lengths (storedIn keys kids companions list seen alive cells) stack (storedIn keys₀ kids₀ companions₀ list₀ seen₀ alive₀ cells₀) stack₀
 

@@ -2,14 +2,15 @@
 use native.Mathlib.Omega.{arith}
 use Rattle.runner.proofs.Rest.{Entered, none-entered, all-spent, one-entered, done-entered, halt-entered}
 use Rattle.expr.specs.Value.{reads}
-use Rattle.model.specs.Memory.{memoryIn, scriptOf}
+use Rattle.model.specs.Memory.{scriptOf}
+use Rattle.memory.specs.View.{memoryOf}
 use Prim.Native.Nat.{_-_}
 use borrow.Author.Needs.{needs}
 use Rattle.runner.proofs.run_blocks.Statement.{statement}
 use Rattle.runner.proofs.run_blocks.Tie as tie
 
 abbrev Inv-loop : tie.InvT-loop
-Inv-loop ws val cw bw counts items atcs flags times vars₀ budget b₀ entered₀ vars b entered = Entered (scriptOf (memoryIn ws val cw bw (counts .nodes) (counts .commands) (counts .blocks)) .blocks) (reads items atcs flags times) budget (b₀ .0) vars₀ entered (b .0) vars
+Inv-loop ws val cw bw counts items atcs flags times vars₀ budget b₀ entered₀ vars b entered = Entered (scriptOf (memoryOf ws val cw bw counts) .blocks) (reads items atcs flags times) budget (b₀ .0) vars₀ entered (b .0) vars
 
 abbrev μ-loop : tie.MeasureT-loop
 μ-loop ws val cw bw counts items atcs flags times vars₀ budget b₀ entered₀ vars b entered = budget - entered
