@@ -1,13 +1,13 @@
 // Each call with the numbers of a line, and what it answered as numbers: compile, parse, run beside preview, judge, and an image read or written.
+use crate::changes::low8;
 use compile::Compiled;
 use compile::compile;
-use crate::changes::low8;
 use image_read::Image;
 use image_read::read_script;
 use image_write::Written;
 use image_write::write_script;
-use judge::Judged;
-use judge::judge_record;
+use judge_record::Judged;
+use judge_record::judge_record;
 use memory::BlockWords;
 use memory::CommandWords;
 use memory::Counts;
@@ -170,13 +170,7 @@ fn block_of(link: u16) -> u32 {
 
 // ---- a sum over the whole script, with the place of each word
 
-fn sum(
-    ws: &NodeWords,
-    val: &Values,
-    cw: &CommandWords,
-    bw: &BlockWords,
-    k: Counts,
-) -> u64 {
+fn sum(ws: &NodeWords, val: &Values, cw: &CommandWords, bw: &BlockWords, k: Counts) -> u64 {
     let a = mixed(
         mixed(mixed(0, k.nodes as u32), k.commands as u32),
         k.blocks as u32,

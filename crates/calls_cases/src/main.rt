@@ -22,8 +22,8 @@ use memory::BlockWords;
 use memory::COMMAND_WORDS;
 use memory::CommandWords;
 use memory::Counts;
-use memory::NODES;
 use memory::NODE_WORDS;
+use memory::NODES;
 use memory::NodeWords;
 use memory::Values;
 

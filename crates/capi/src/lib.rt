@@ -14,7 +14,7 @@ ghost use Rattle.shop_arrays.specs.Arrays.{arraysIn, shopFrom};
 ghost use Rattle.compile.specs.Answer.{callOf, CompiledAs};
 ghost use Rattle.parse.specs.Answer.{ParsedInto};
 ghost use Rattle.preview.specs.Shown.{previewedOf};
-ghost use Rattle.with_slots.specs.Twenty.{twenty};
+ghost use Rattle.shop_with_slots.specs.Twenty.{twenty};
 ghost use Rattle.capi.specs.Answers.{countsBy, countsIn, sheetBy, readAs, ranAs, previewedAs};
 use compile::compile_arrays;
 use image_read::Image;
@@ -33,7 +33,7 @@ use runner::run;
 use shop::Codes;
 use shop::SLOTS;
 use shop::Sheet;
-use with_slots::with_slots;
+use shop_with_slots::with_slots;
 
 // The refusal or 0, and the kept counts of the script; all are 0 where a read is refused.
 #[repr(C)]

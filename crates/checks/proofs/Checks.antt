@@ -25,9 +25,9 @@ use Rattle.checks.specs.Calls.{saveOf}
 use Rattle.checks.specs.Passed.{refused-above}
 use Rattle.shop.specs.Shapes.{sheetOf}
 use Rattle.shop.specs.declared.Sheet as code
-use Rattle.judge.specs.Stages.{Accepted, JudgedAs}
-use Rattle.judge.specs.declared.Judged.{Judged}
-use Rattle.judge.specs.declared.Judged.the-variants.{Fine, No}
+use Rattle.judge_record.specs.Stages.{Accepted, JudgedAs}
+use Rattle.judge_record.specs.declared.Judged.{Judged}
+use Rattle.judge_record.specs.declared.Judged.the-variants.{Fine, No}
 
 -- ---- check 12
 

@@ -12,15 +12,15 @@ ghost use Rattle.shop.specs.Shapes.{sheetOf};
 ghost use Rattle.model.specs.RecordCalls.{callIn};
 ghost use Rattle.memory.specs.View.{memoryOf};
 ghost use Rattle.checks.specs.Calls.{saveOf, blocksOver};
-use judge::Judged;
-use judge::judge_record;
+use judge_plain::is_plain;
+use judge_record::Judged;
+use judge_record::judge_record;
 use memory::BlockWords;
 use memory::CommandWords;
 use memory::Counts;
 use memory::NodeWords;
 use memory::Values;
 use model::BlockNo;
-use plain::is_plain;
 use shop::Sheet;
 use shop::check_sheet;
 

@@ -23,8 +23,8 @@ use Rattle.shop.specs.Shapes.{slotsOf}
 use Rattle.shop.specs.Sets.{AllExact}
 use Rattle.shop.specs.Slots.{shop-exact, with-all}
 use Rattle.shop.specs.declared.Shop.{Shop}
-use Rattle.emit.specs.Put.{PutBlocks}
-use Rattle.compiler.specs.Slots.{last-of}
+use Rattle.compile_emit.specs.Put.{PutBlocks}
+use Rattle.compile_slots.specs.Slots.{last-of}
 use Rattle.checks.specs.Passed.{call-passed}
 use Rattle.compile.specs.Answer.{callOf, CompiledAs}
 

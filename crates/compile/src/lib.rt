@@ -6,7 +6,8 @@ ghost use Rattle.shop.specs.Shapes.{sheetOf};
 ghost use Rattle.shop_arrays.specs.Arrays.{arraysIn, shopFrom};
 ghost use Rattle.compile.specs.Answer.{callOf, CompiledAs};
 use checks::check_call;
-use compiler::compile_shop;
+use compile_sizes::fits;
+use compile_slots::compile_shop;
 use memory::BlockWords;
 use memory::CommandWords;
 use memory::Counts;
@@ -21,7 +22,6 @@ use shop::Sheet;
 use shop::Shop;
 use shop_arrays::arrays_of;
 use shop_arrays::check_arrays;
-use sizes::fits;
 
 // The refusal or 0, and the counts of the script after the call.
 pub struct Compiled {

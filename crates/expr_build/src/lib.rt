@@ -120,13 +120,7 @@ fn push_test(ws: &mut NodeWords, val: &mut Values, n: u16, code: u64) -> u16
 }
 
 // compile_requirements: the tests of the first len codes joined, leftmost deepest.
-pub fn push_tests(
-    ws: &mut NodeWords,
-    val: &mut Values,
-    n: u16,
-    codes: &Row,
-    len: u8,
-) -> u16
+pub fn push_tests(ws: &mut NodeWords, val: &mut Values, n: u16, codes: &Row, len: u8) -> u16
     requires { ⌜ (0 < len) × (len ≤ entryLimit) ⌝ }
     requires { ⌜ n + size (joinCodes (now codes) len) ≤ nodeLimit ⌝ }
     ensures { λ m. ⌜ PutExpr (nodesIn (now (ws .entry)) (now (val .entry)) n) (joinCodes (now (codes .entry)) len) (nodesIn (now (ws .exit)) (now (val .exit)) m) ⌝ }
@@ -224,13 +218,7 @@ pub fn push_no_timer(
 }
 
 // limit - item[item]
-pub fn push_left(
-    ws: &mut NodeWords,
-    val: &mut Values,
-    n: u16,
-    limit: u8,
-    item: ItemId,
-) -> u16
+pub fn push_left(ws: &mut NodeWords, val: &mut Values, n: u16, limit: u8, item: ItemId) -> u16
     requires { ⌜ n + 4 ≤ nodeLimit ⌝ }
     ensures { λ m. ⌜ PutExpr (nodesIn (now (ws .entry)) (now (val .entry)) n) (remainingExpr limit (item .0)) (nodesIn (now (ws .exit)) (now (val .exit)) m) ⌝ }
 {

@@ -15,16 +15,16 @@ ghost use Rattle.image_read.specs.Whole.{ToldImage};
 use image_numbers::Num;
 use image_numbers::read_number;
 use image_numbers::signed;
-use memory::BLOCKS;
 use memory::BLOCK_WORDS;
+use memory::BLOCKS;
 use memory::BlockWords;
-use memory::COMMANDS;
 use memory::COMMAND_WORDS;
+use memory::COMMANDS;
 use memory::CommandWords;
 use memory::Counts;
-use memory::NODES;
 use memory::NODE_LIMIT;
 use memory::NODE_WORDS;
+use memory::NODES;
 use memory::NodeWords;
 use memory::Values;
 use memory::kind_of;
@@ -36,6 +36,7 @@ use model::WIDE16;
 
 // The limits as a number of the image is compared with them.
 const MOST_BLOCKS: u64 = BLOCKS as u64;
+
 const MOST_COMMANDS: u64 = COMMANDS as u64;
 
 // A number or a count and the place after what was read, or a refusal.
@@ -146,14 +147,7 @@ fn push_two(ws: &mut NodeWords, val: &mut Values, code: u16, left: u16, b: Step)
 }
 
 // An expression whose parents, as many as it is deep, are still to be pushed.
-fn read_expr(
-    s: &[u8],
-    at: usize,
-    ws: &mut NodeWords,
-    val: &mut Values,
-    n: u16,
-    depth: u16,
-) -> Step
+fn read_expr(s: &[u8], at: usize, ws: &mut NodeWords, val: &mut Values, n: u16, depth: u16) -> Step
     requires { ⌜ (n + depth ≤ nodeLimit) × (depth ≤ depthLimit) ⌝ }
     ensures { λ r. ⌜ ToldExpr (now (s .entry)) (nodesIn (now (ws .entry)) (now (val .entry)) n) (readAt (now (s .entry)) at n depth) r (now (ws .exit)) (now (val .exit)) ⌝ }
 {

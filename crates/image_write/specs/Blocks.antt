@@ -6,8 +6,8 @@ use lib.ListN.{getD}
 use Rattle.model.specs.Reading.{word}
 use Rattle.model.specs.Memory.{Memory, blockWord}
 use Rattle.model.specs.Record.{commandsImageIn, blockTail, blocksImageIn, recordImage}
-use Rattle.judge.specs.Commands.{code-word}
-use Rattle.judge.specs.Stages.{blockImageIn}
+use Rattle.judge_record.specs.Commands.{code-word}
+use Rattle.judge_record.specs.Stages.{blockImageIn}
 
 module _ (m : Memory) where
   module _ (b : ℕ) where

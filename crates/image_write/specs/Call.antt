@@ -20,10 +20,10 @@ use Rattle.model.specs.Laws.Reading.{passed}
 use Rattle.model.specs.Laws.Refused.{Proper, proper-cond, proper-within}
 use Rattle.model.specs.Laws.Checks.{and-left, and-right}
 use Rattle.memory.specs.RecordLaws.{judged-sound}
-use Rattle.terms.specs.Told.{Kept}
-use Rattle.judge.specs.Stages.{Accepted, JudgedAs}
-use Rattle.judge.specs.declared.Judged.{Judged}
-use Rattle.judge.specs.declared.Judged.the-variants.{Fine, No}
+use Rattle.judge_terms.specs.Told.{Kept}
+use Rattle.judge_record.specs.Stages.{Accepted, JudgedAs}
+use Rattle.judge_record.specs.declared.Judged.{Judged}
+use Rattle.judge_record.specs.declared.Judged.the-variants.{Fine, No}
 use Rattle.image_numbers.specs.Stored.{Stored, Room}
 
 -- ---- the answer as the contract says it

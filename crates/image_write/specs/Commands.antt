@@ -7,7 +7,7 @@ use lib.ListN.{getD}
 use Rattle.model.specs.Reading.{word}
 use Rattle.model.specs.Memory.{Coded, commandWord}
 use Rattle.model.specs.Record.{rootImage, targetImage, commandTail, commandImageIn}
-use Rattle.judge.specs.Commands.{code-word}
+use Rattle.judge_record.specs.Commands.{code-word}
 
 module _ (co : Coded) (c : ℕ) where
   -- what follows the target's code of a Set

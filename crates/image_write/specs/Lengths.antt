@@ -20,8 +20,8 @@ use Rattle.model.specs.Laws.Judged.{accepted-held}
 use Rattle.memory.specs.RecordLaws.{judged-sound}
 use Rattle.memory.specs.Transfer.{blocks-counted, accepted-script}
 use Rattle.image_numbers.specs.Lengths.{word-short}
-use Rattle.judge.specs.Stages.{Accepted}
-use Rattle.plain.specs.Counted.{Plain}
+use Rattle.judge_record.specs.Stages.{Accepted}
+use Rattle.judge_plain.specs.Counted.{Plain}
 
 -- codes are one byte
 code2-one : (o : Op2) → length (word (code2 o)) ≡ 1

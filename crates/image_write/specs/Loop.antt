@@ -5,7 +5,7 @@ use Prim.Native.Nat.{ℕ, suc, _+_, _-_, _≤_, _<_}
 use native.Mathlib.Omega.{arith}
 use Rattle.model.specs.Memory.{Coded, Memory}
 use Rattle.model.specs.Record.{commandImageIn, commandsImageIn, blocksImageIn}
-use Rattle.judge.specs.Stages.{blockImageIn}
+use Rattle.judge_record.specs.Stages.{blockImageIn}
 use Rattle.image_numbers.specs.Stored.{Stored, Room, stored-none, stored-on, stored-as, room-as, room-first, room-next}
 
 -- many h f is one f and those after it, h in all

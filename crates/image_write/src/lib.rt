@@ -7,13 +7,14 @@ ghost use Rattle.model.specs.Record.{nodeImage, rootImage, commandTail, command
 ghost use Rattle.model.specs.RecordCalls.{writeIn};
 ghost use Rattle.memory.specs.View.{nodesOf, codedOf, memoryOf};
 ghost use Rattle.image_numbers.specs.Stored.{Stored, Room};
-ghost use Rattle.judge.specs.Stages.{KeptBy, blockImageIn};
+ghost use Rattle.judge_record.specs.Stages.{KeptBy, blockImageIn};
 ghost use Rattle.image_write.specs.Call.{wrote, lengthIn};
 ghost use Rattle.image_write.specs.Lengths.{mostBytes};
 use image_numbers::write_short;
 use image_numbers::write_value;
-use judge::Judged;
-use judge::judge_record;
+use judge_plain::is_plain;
+use judge_record::Judged;
+use judge_record::judge_record;
 use memory::BlockWords;
 use memory::CommandWords;
 use memory::Counts;
@@ -22,7 +23,6 @@ use memory::Values;
 use memory::index_of;
 use memory::kind_of;
 use model::Kind;
-use plain::is_plain;
 
 // The refusal's number, or 0 and the length of the image in bytes.
 pub struct Written {
@@ -54,14 +54,7 @@ fn write_expr(ws: &NodeWords, val: &Values, i: u16, out: &mut [u8], at: usize) -
 }
 
 // Node i, which has to be below b: what is not is written as 19, which no image may have. An Imm16, as most operands are, takes no call.
-fn write_operand(
-    ws: &NodeWords,
-    val: &Values,
-    b: u16,
-    i: u16,
-    out: &mut [u8],
-    at: usize,
-) -> usize
+fn write_operand(ws: &NodeWords, val: &Values, b: u16, i: u16, out: &mut [u8], at: usize) -> usize
     requires { ⌜ (b ≤ nodeLimit) × Room (now out) at (nodeImage (nodesIn (now ws) (now val) 0) b i) ⌝ }
     ensures { λ r. ⌜ Stored (now (out .entry)) at (nodeImage (nodesIn (now (ws .entry)) (now (val .entry)) 0) b i) (now (out .exit)) r ⌝ }
 {

@@ -11,6 +11,7 @@ use model::WIDE16;
 
 // The numbers of 16 bits.
 const WIDE: u32 = WIDE16 as u32;
+
 const WIDE_SIGNED: i32 = WIDE16 as i32;
 
 // ---- sums that wrap

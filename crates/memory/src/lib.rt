@@ -11,21 +11,31 @@ use model::Op2;
 
 // The limits of a script: blocks, commands, expression nodes (01, Script).
 pub const BLOCKS: usize = 4096;
+
 pub const COMMANDS: usize = 16384;
+
 pub const NODES: usize = 32768;
 
 // The same as words.
 pub const BLOCK_LIMIT: u16 = BLOCKS as u16;
+
 pub const COMMAND_LIMIT: u16 = COMMANDS as u16;
+
 pub const NODE_LIMIT: u16 = NODES as u16;
 
 // The words of its arrays: five a block, four a command, three a node beside its value.
 pub const BLOCK_WORDS: usize = 5 * BLOCKS;
+
 pub const COMMAND_WORDS: usize = 4 * COMMANDS;
+
 pub const NODE_WORDS: usize = 3 * NODES;
+
 pub type BlockWords = [u16; BLOCK_WORDS];
+
 pub type CommandWords = [u16; COMMAND_WORDS];
+
 pub type NodeWords = [u16; NODE_WORDS];
+
 pub type Values = [i32; NODES];
 
 // The kept counts of a script.

@@ -2,7 +2,9 @@
 
 // The numbers of 16 bits, half of them, and the least signed one.
 pub const WIDE16: u64 = 65536;
+
 pub const HALF16: u16 = 32768;
+
 pub const LEAST16: i32 = -32768;
 
 // Kinds with two operands.

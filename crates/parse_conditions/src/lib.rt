@@ -18,6 +18,7 @@ use parse_keys::read_entry;
 // How far the keys and the list of entries have come is one number, which a call returns in a register: keys * 65536 + entries.
 // This one says that there is no room.
 pub const PLACES: u32 = 65536;
+
 pub const FULL: u32 = 4294967295;
 
 fn is_join(k: Kind) -> bool

@@ -172,14 +172,7 @@ fn signed_code(c: u64, neg: bool) -> u64
 }
 
 // The code of the requirement that node i is, below b and under a sign: comparisons with 0 are gone down through.
-fn code_below(
-    ws: &NodeWords,
-    val: &Values,
-    known: Known,
-    b: usize,
-    i: usize,
-    neg: bool,
-) -> u64
+fn code_below(ws: &NodeWords, val: &Values, known: Known, b: usize, i: usize, neg: bool) -> u64
     requires { ⌜ b ≤ nodeLimit ⌝ }
     ensures { λ r. ⌜ OfNode (now (ws .entry)) (now (val .entry)) known b i (λ h e. Reading r (mapReq (signed neg) (parseRequirement h e))) ⌝ }
 {

@@ -403,13 +403,7 @@ fn hide_part(codes: &mut [u64], start: usize, n: usize, more: &Row, len: usize) 
 }
 
 // len codes of more join slot i's set, in place; false where it would have a 33rd. Where they are too many by themselves, they are too many in a slot.
-fn hide_slot(
-    codes: &mut Codes,
-    lens: &mut [u8; SLOTS],
-    i: usize,
-    more: &Row,
-    len: usize,
-) -> bool
+fn hide_slot(codes: &mut Codes, lens: &mut [u8; SLOTS], i: usize, more: &Row, len: usize) -> bool
     requires { ⌜ ((i < slotCount) × (getD (now lens) i 0 ≤ entryLimit)) × ((length (now codes) ≡ entryLimit * slotCount) × (length (now lens) ≡ slotCount)) ⌝ }
     ensures { λ r. ⌜ HiddenIn (now (codes .entry)) (now (lens .entry)) i (now (more .entry)) len r (now (codes .exit)) (now (lens .exit)) ⌝ }
 {

@@ -16,14 +16,12 @@ use memory::BlockWords;
 use memory::COMMAND_WORDS;
 use memory::CommandWords;
 use memory::Counts;
-use memory::NODES;
 use memory::NODE_WORDS;
+use memory::NODES;
 use memory::NodeWords;
 use memory::Values;
 use model::BlockNo;
 use model::ItemId;
-use sheet_read::Heading;
-use sheet_read::read_heading;
 use shop::ENTRIES;
 use shop::Row;
 use shop::Sheet;
@@ -32,6 +30,8 @@ use shop::Slot;
 use shop::SlotItem;
 use shop::empty_shop;
 use shop::with_slot;
+use slots_sheet::Heading;
+use slots_sheet::read_heading;
 
 // The place after something malformed. Nothing can be read there, so all that follows is malformed too.
 const MALFORMED: usize = 18446744073709551615;
@@ -214,7 +214,7 @@ fn prints(s: &[u8], input: Run, text: Run) -> bool
 
 fn printed(input: &[u8], text: &[u8]) -> bool {
     let mut out = [0u8; 16384];
-    let m = printer::slots(input, &mut out);
+    let m = slots_print::slots(input, &mut out);
     check::same(&out[..m], text)
 }
 

@@ -204,13 +204,30 @@ evaluate-below-packed-requires-7 t c κs = search needs
 
 evaluate-below-returns-2 : (t : ℕ) → evaluate-below-lts.Need-returns-2 (evaluate-below-claims t) (evaluate-below-at t) evaluate-below.Post
 evaluate-below-returns-2 t c =
-    let s = c .before .before .before .before .before .before .before .before .before .before .before .before .before .before .before .before in
-    (λ n. ap valueOf (c .packed2 .ensures .is) ∙ two-done (reads (s .args .items .now) (s .args .atcs .now) (s .args .flags .now) (s .args .times .now)) (s .args .vars .now) (nodesIn (s .args .ws .now) (s .args .val .now) n) (s .args .b) (s .args .i) (c .before .before .before .before .before .before .before .before .before .before .before .before .before .if1 .left) _ (c .before .before .before .before .before .before .before .before .before .before .before .kind-of .ensures) _ _ _ _ (c .before .before .before .before .before .before .before .k .given .1) (c .before .join-two .ensures) (⊎-elim (λ w. let f : SFits w32 (w .1 .given .0 .0) = record { sfits = w .2 .given .0 .1 } in number-worth (reads (s .args .items .now) (s .args .atcs .now) (s .args .flags .now) (s .args .times .now)) (s .args .vars .now) (treeBelow (nodesIn (s .args .ws .now) (s .args .val .now) n) (s .args .i) (leftAt (nodesIn (s .args .ws .now) (s .args .val .now) n) (s .args .i))) (ap valueOf (w .3)) (toZ-ofZ f) (ap numberOf (sym (w .1 .given .1)) ∙ c .before .before .before .before .before .number-below .ensures n)) (λ w. ap valueOf (w .4 ∙ w .3 .ensures) ∙ w .2 .ensures .0 n) (c .before .before .before .before .match2 .came)) (⊎-elim (λ w. let f : SFits w32 (w .1 .given .0 .0) = record { sfits = w .2 .given .0 .1 } in number-worth (reads (s .args .items .now) (s .args .atcs .now) (s .args .flags .now) (s .args .times .now)) (s .args .vars .now) (treeBelow (nodesIn (s .args .ws .now) (s .args .val .now) n) (s .args .i) (rightAt (nodesIn (s .args .ws .now) (s .args .val .now) n) (s .args .i))) (ap valueOf (w .3)) (toZ-ofZ f) (ap numberOf (sym (w .1 .given .1)) ∙ c .before .before .before .number-below2 .ensures n)) (λ w. ap valueOf (w .4 ∙ w .3 .ensures) ∙ w .2 .ensures .0 n) (c .before .before .match3 .came)), c .packed2 .ensures .low)
+    let s = c .before .before .before .before .before .before .before .before .before .before .before .before .before .before .before .before in (
+      λ n. ap valueOf (c .packed2 .ensures .is) ∙ two-done (reads (s .args .items .now) (s .args .atcs .now) (s .args .flags .now) (s .args .times .now)) (s .args .vars .now) (nodesIn (s .args .ws .now) (s .args .val .now) n) (s .args .b)
+          (s .args .i) (c .before .before .before .before .before .before .before .before .before .before .before .before .before .if1 .left) _
+          (c .before .before .before .before .before .before .before .before .before .before .before .kind-of .ensures) _ _ _ _ (c .before .before .before .before .before .before .before .k .given .1) (c .before .join-two .ensures)
+          (⊎-elim (λ w. let f : SFits w32 (w .1 .given .0 .0) = record { sfits = w .2 .given .0 .1 } in number-worth (reads (s .args .items .now) (s .args .atcs .now) (s .args .flags .now) (s .args .times .now)) (s .args .vars .now)
+          (treeBelow (nodesIn (s .args .ws .now) (s .args .val .now) n) (s .args .i) (leftAt (nodesIn (s .args .ws .now) (s .args .val .now) n) (s .args .i))) (ap valueOf (w .3)) (toZ-ofZ f)
+          (ap numberOf (sym (w .1 .given .1)) ∙ c .before .before .before .before .before .number-below .ensures n)) (λ w. ap valueOf (w .4 ∙ w .3 .ensures) ∙ w .2 .ensures .0 n) (c .before .before .before .before .match2 .came))
+          (⊎-elim (λ w. let f : SFits w32 (w .1 .given .0 .0) = record { sfits = w .2 .given .0 .1 } in number-worth (reads (s .args .items .now) (s .args .atcs .now) (s .args .flags .now) (s .args .times .now)) (s .args .vars .now)
+          (treeBelow (nodesIn (s .args .ws .now) (s .args .val .now) n) (s .args .i) (rightAt (nodesIn (s .args .ws .now) (s .args .val .now) n) (s .args .i))) (ap valueOf (w .3)) (toZ-ofZ f)
+          (ap numberOf (sym (w .1 .given .1)) ∙ c .before .before .before .number-below2 .ensures n)) (λ w. ap valueOf (w .4 ∙ w .3 .ensures) ∙ w .2 .ensures .0 n) (c .before .before .match3 .came)),
+      c .packed2 .ensures .low,
+    )
 
 evaluate-below-returns-3 : (t : ℕ) → evaluate-below-lts.Need-returns-3 (evaluate-below-claims t) (evaluate-below-at t) evaluate-below.Post
 evaluate-below-returns-3 t c =
     let s = c .before .before .before .before .before .before .before .before .before .before .before .before .before .before .before .before in
-    let f : SFits w32 (c .before .before .before .v .given .0 .0) = record { sfits = c .before .before .known-told5 .given .0 .1 } in (λ n. ap valueOf (c .packed3 .ensures .is) ∙ number-done (reads (s .args .items .now) (s .args .atcs .now) (s .args .flags .now) (s .args .times .now)) (s .args .vars .now) (nodesIn (s .args .ws .now) (s .args .val .now) n) (s .args .b) (s .args .i) (c .before .before .before .before .before .before .before .before .before .before .before .before .before .if1 .left) _ (c .before .before .before .before .before .before .before .before .before .before .before .kind-of .ensures) _ _ (c .before .before .before .v .given .0 .0) (c .before .before .before .before .before .before .before .k2 .given .1) (toZ-ofZ {w = w32} (record { sfits = c .before .apply-one .ok }) ∙ (rw (toZ-ofZ f) at (c .before .apply-one .ensures))) (ap numberOf (sym (c .before .before .before .v .given .1)) ∙ c .before .before .before .before .before .number-below3 .ensures n), c .packed3 .ensures .low)
+    let f : SFits w32 (c .before .before .before .v .given .0 .0) = record { sfits = c .before .before .known-told5 .given .0 .1 } in (
+      λ n. ap valueOf (c .packed3 .ensures .is) ∙ number-done (reads (s .args .items .now) (s .args .atcs .now) (s .args .flags .now) (s .args .times .now)) (s .args .vars .now) (nodesIn (s .args .ws .now) (s .args .val .now) n) (s .args .b)
+          (s .args .i) (c .before .before .before .before .before .before .before .before .before .before .before .before .before .if1 .left) _
+          (c .before .before .before .before .before .before .before .before .before .before .before .kind-of .ensures) _ _ (c .before .before .before .v .given .0 .0)
+          (c .before .before .before .before .before .before .before .k2 .given .1) (toZ-ofZ {w = w32} (record { sfits = c .before .apply-one .ok }) ∙ (rw (toZ-ofZ f) at (c .before .apply-one .ensures)))
+          (ap numberOf (sym (c .before .before .before .v .given .1)) ∙ c .before .before .before .before .before .number-below3 .ensures n),
+      c .packed3 .ensures .low,
+    )
 
 evaluate-below-returns-4 : (t : ℕ) → evaluate-below-lts.Need-returns-4 (evaluate-below-claims t) (evaluate-below-at t) evaluate-below.Post
 evaluate-below-returns-4 t c =

@@ -29,7 +29,9 @@ unpacked-requires : tie.Need-unpacked-requires
 unpacked-requires c κs = search needs
 
 returns : tie.Need-returns
-returns c = let f : SFits w32 (c .before .v .given .0 .0) = record { sfits = c .known-told .given .0 .1 } in λ n. number-worth (reads (c .before .before .before .before .before .before .args .items .now) (c .before .before .before .before .before .before .args .atcs .now) (c .before .before .before .before .before .before .args .flags .now) (c .before .before .before .before .before .before .args .times .now)) (c .before .before .before .before .before .before .args .vars .now) (treeBelow (nodesIn (c .before .before .before .before .before .before .args .ws .now) (c .before .before .before .before .before .before .args .val .now) n) (c .before .before .before .before .before .before .args .b) (c .before .before .before .before .before .before .args .i)) refl (toZ-ofZ f) (ap numberOf (sym (c .before .v .given .1)) ∙ c .before .before .before .number-below .ensures n)
+returns c =
+    let start = c .before .before .before .before .before .before in
+    let f : SFits w32 (c .before .v .given .0 .0) = record { sfits = c .known-told .given .0 .1 } in λ n. number-worth (reads (start .args .items .now) (start .args .atcs .now) (start .args .flags .now) (start .args .times .now)) (start .args .vars .now) (treeBelow (nodesIn (start .args .ws .now) (start .args .val .now) n) (start .args .b) (start .args .i)) refl (toZ-ofZ f) (ap numberOf (sym (c .before .v .given .1)) ∙ c .before .before .before .number-below .ensures n)
 
 returns-2 : tie.Need-returns-2
 returns-2 c = λ n. ap valueOf (c .unpacked .ensures) ∙ c .before .evaluate-below .ensures .0 n

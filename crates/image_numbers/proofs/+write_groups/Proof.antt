@@ -61,7 +61,17 @@ write-groups-sub-write-groups : (t : ℕ) → write-groups-lts.Need-sub-write-gr
 write-groups-sub-write-groups t c = search needs
 
 write-groups-write-groups-requires : (t : ℕ) → write-groups-lts.Need-write-groups-requires (write-groups-claims t) (write-groups-at t) write-groups.Post
-write-groups-write-groups-requires t c κs = (let p : c .before .before .before .before .args .f ≡ t = c .before .before .before .before .pre .0 in omega (arith, c .before .before .before .before .pre .1 .1), (high-low (c .before .before .before .before .args .f) (c .before .before .before .before .args .v) (c .before .before .before .before .pre .1 .1) (c .before .before .before .before .pre .1 .0), high-some (c .before .before .before .before .args .f) (c .before .before .before .before .args .v) (c .before .before .before .before .pre .1 .1) (c .before .before .if1 .left) (c .before .before .before .before .pre .1 .0), room-high (c .before .before .before .before .args .f) (c .before .before .before .before .args .v) (c .before .before .before .before .pre .1 .1) (c .before .before .before .before .pre .1 .2) (c .before .low-byte2 .result) (c .before .before .if1 .left)))
+write-groups-write-groups-requires t c κs = (
+  let p : c .before .before .before .before .args .f ≡ t = c .before .before .before .before .pre .0 in omega (arith, c .before .before .before .before .pre .1 .1),
+  (
+    high-low (c .before .before .before .before .args .f) (c .before .before .before .before .args .v) (c .before .before .before .before .pre .1 .1) (c .before .before .before .before .pre .1 .0),
+    high-some
+        (c .before .before .before .before .args .f) (c .before .before .before .before .args .v) (c .before .before .before .before .pre .1 .1) (c .before .before .if1 .left) (c .before .before .before .before .pre .1 .0),
+    room-high
+        (c .before .before .before .before .args .f) (c .before .before .before .before .args .v) (c .before .before .before .before .pre .1 .1) (c .before .before .before .before .pre .1 .2) (c .before .low-byte2 .result)
+        (c .before .before .if1 .left),
+  ),
+)
 
 write-groups-same-length-2 : (t : ℕ) → write-groups-lts.Need-same-length-2 (write-groups-claims t) (write-groups-at t) write-groups.Post
 write-groups-same-length-2 t c = stored-length (c .before .before .write-groups .ensures) ∙ simp length-set

@@ -66,7 +66,13 @@ read-expr-add-read-expr-2 t c =
 read-expr-read-expr-requires-2 : (t : ℕ) → read-expr-lts.Need-read-expr-requires-2 (read-expr-claims t) (read-expr-at t) read-expr.Post
 read-expr-read-expr-requires-2 t c κs =
     let args = c .before .before .before .before .before .before .before .before .before .before .before .before .before .before .before .before .args in
-    let p : depthLimit - args .depth ≡ t = c .before .before .before .before .before .before .before .before .before .before .before .before .before .before .before .before .pre .0 in let h = headed (args .s .now) (args .at) (args .n) (args .depth) _ (c .before .before .before .before .before .before .before .before .before .before .before .before .before .before .read-head .ensures) _ _ (c .before .before .before .before .before .before .before .before .before .before .before .before .head .given .1) in omega (arith, grown (args .s .now) (args .ws .now) (args .val .now) (c .before .before .before .before .before .before .before .before .before .before .before .before .head .given .0 .1 .0) _ _ _ _ _ (c .before .before .before .before .before .read-expr .ensures) _ _ (c .before .before .before .a .given .1))
+    let p : depthLimit - args .depth ≡ t = c .before .before .before .before .before .before .before .before .before .before .before .before .before .before .before .before .pre .0 in let h = headed (args .s .now) (args .at) (args .n)
+    (args .depth) _ (c .before .before .before .before .before .before .before .before .before .before .before .before .before .before .read-head .ensures) _ _
+    (c .before .before .before .before .before .before .before .before .before .before .before .before .head .given .1) in omega (
+      arith,
+      grown (args .s .now) (args .ws .now) (args .val .now) (c .before .before .before .before .before .before .before .before .before .before .before .before .head .given .0 .1 .0) _ _ _ _ _
+          (c .before .before .before .before .before .read-expr .ensures) _ _ (c .before .before .before .a .given .1),
+    )
 
 read-expr-sub-push-two : (t : ℕ) → read-expr-lts.Need-sub-push-two (read-expr-claims t) (read-expr-at t) read-expr.Post
 read-expr-sub-push-two t c =

@@ -55,7 +55,11 @@ element-copy-out-write-short : tie.Need-element-copy-out-write-short
 element-copy-out-write-short c = search needs
 
 write-short-requires-2 : tie.Need-write-short-requires-2
-write-short-requires-2 c κs = room-first (word (blockWord (me (c .before .before .before .before .before .before .before .before .before .before .before .before .before)) (c .before .before .before .before .before .before .before .before .before .before .before .before .before .args .i) 4)) (room-next (c .before .before .before .before .write-commands .ensures) (room-next (c .before .before .before .before .before .before .before .before .before .write-short .ensures) (room-as (code-image (me (c .before .before .before .before .before .before .before .before .before .before .before .before .before)) (c .before .before .before .before .before .before .before .before .before .before .before .before .before .args .i)) (c .before .before .before .before .before .before .before .before .before .before .before .before .before .pre .2))))
+write-short-requires-2 c κs = room-first (word (blockWord (me (c .before .before .before .before .before .before .before .before .before .before .before .before .before))
+    (c .before .before .before .before .before .before .before .before .before .before .before .before .before .args .i) 4))
+    (room-next (c .before .before .before .before .write-commands .ensures) (room-next (c .before .before .before .before .before .before .before .before .before .write-short .ensures)
+    (room-as (code-image (me (c .before .before .before .before .before .before .before .before .before .before .before .before .before))
+    (c .before .before .before .before .before .before .before .before .before .before .before .before .before .args .i)) (c .before .before .before .before .before .before .before .before .before .before .before .before .before .pre .2))))
 
 mul-write-short-3 : tie.Need-mul-write-short-3
 mul-write-short-3 c = search needs
@@ -70,13 +74,20 @@ element-copy-out-write-short-2 : tie.Need-element-copy-out-write-short-2
 element-copy-out-write-short-2 c = search needs
 
 write-short-requires-3 : tie.Need-write-short-requires-3
-write-short-requires-3 c κs = room-next (c .before .before .before .before .write-short2 .ensures) (room-next (c .before .before .before .before .before .before .before .before .before .write-commands .ensures) (room-next (c .before .before .before .before .before .before .before .before .before .before .before .before .before .before .write-short .ensures) (room-as (code-image (me (c .before .before .before .before .before .before .before .before .before .before .before .before .before .before .before .before .before .before)) (c .before .before .before .before .before .before .before .before .before .before .before .before .before .before .before .before .before .before .args .i)) (c .before .before .before .before .before .before .before .before .before .before .before .before .before .before .before .before .before .before .pre .2))))
+write-short-requires-3 c κs = room-next (c .before .before .before .before .write-short2 .ensures)
+    (room-next (c .before .before .before .before .before .before .before .before .before .write-commands .ensures)
+    (room-next (c .before .before .before .before .before .before .before .before .before .before .before .before .before .before .write-short .ensures)
+    (room-as (code-image (me (c .before .before .before .before .before .before .before .before .before .before .before .before .before .before .before .before .before .before))
+    (c .before .before .before .before .before .before .before .before .before .before .before .before .before .before .before .before .before .before .args .i))
+    (c .before .before .before .before .before .before .before .before .before .before .before .before .before .before .before .before .before .before .pre .2))))
 
 same-length : tie.Need-same-length
 same-length c = search needs
 
 returns : tie.Need-returns
-returns c = stored-as (code-image (me (c .before .before .before .before .before .before .before .before .before .before .before .before .before .before .before .before .before .before .before .before .before)) (c .before .before .before .before .before .before .before .before .before .before .before .before .before .before .before .before .before .before .before .before .before .args .i)) (stored-on (c .before .before .before .before .before .before .before .before .before .before .before .before .before .before .before .before .before .write-short .ensures) (stored-on (c .before .before .before .before .before .before .before .before .before .before .before .before .write-commands .ensures) (stored-on (c .before .before .before .before .before .before .before .write-short2 .ensures) (c .before .before .write-short3 .ensures))))
+returns c =
+    let start = c .before .before .before .before .before .before .before .before .before .before .before .before .before .before .before .before .before .before .before .before .before in
+    stored-as (code-image (me (start)) (start .args .i)) (stored-on (c .before .before .before .before .before .before .before .before .before .before .before .before .before .before .before .before .before .write-short .ensures) (stored-on (c .before .before .before .before .before .before .before .before .before .before .before .before .write-commands .ensures) (stored-on (c .before .before .before .before .before .before .before .write-short2 .ensures) (c .before .before .write-short3 .ensures))))
 
 pub write-code-spec : {M : Type 1} → statement M
 write-code-spec = tie.close (tie.spec mul-held add-held mul-held-2 element-copy-out-held write-short-requires mul-write-commands add-write-commands mul-write-commands-2 element-copy-out-write-commands write-commands-requires mul-write-short add-write-short mul-write-short-2 element-copy-out-write-short write-short-requires-2 mul-write-short-3 add-write-short-2 mul-write-short-4 element-copy-out-write-short-2 write-short-requires-3 same-length returns)

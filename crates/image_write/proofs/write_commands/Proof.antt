@@ -41,7 +41,9 @@ loop-less : tie.Need-loop-less Inv-loop μ-loop
 loop-less c = omega (arith, c .before .before .before .before .loop-test .taken, c .before .before .before .before .before .before .index-of2 .ensures)
 
 loop-again : tie.Need-loop-again Inv-loop μ-loop
-loop-again c = ((omega (arith, c .before .before .before .before .loop-test .taken, c .before .before .before .before .before .before .index-of2 .ensures)), go-next (commands-pieces (co (c .before .before .before .before .before .before .before .before .before))) (c .before .before .before .before .before .before .before .before .before .args .held) (c .before .before .before .before .before .before .before .before .before .args .first) (c .before .before .before .before .before .loop .inv .1) (omega (arith, c .before .before .before .before .loop-test .taken, c .before .before .before .before .before .before .index-of2 .ensures)) (ap (λ (x : ℕ). x + c .before .before .before .before .before .loop .i) (c .before .before .before .before .before .before .before .index-of .ensures)) (c .before .before .write-command .ensures))
+loop-again c =
+    let start = c .before .before .before .before .before .before .before .before .before in
+    ((omega (arith, c .before .before .before .before .loop-test .taken, c .before .before .before .before .before .before .index-of2 .ensures)), go-next (commands-pieces (co (start))) (start .args .held) (start .args .first) (c .before .before .before .before .before .loop .inv .1) (omega (arith, c .before .before .before .before .loop-test .taken, c .before .before .before .before .before .before .index-of2 .ensures)) (ap (λ (x : ℕ). x + c .before .before .before .before .before .loop .i) (c .before .before .before .before .before .before .before .index-of .ensures)) (c .before .before .write-command .ensures))
 
 same-length : tie.Need-same-length Inv-loop μ-loop
 same-length c = stored-length (go-end (commands-pieces (co (c .before .before .before .before .before))) (c .before .before .before .before .before .args .held) (c .before .before .before .before .before .args .first) (c .before .loop .inv .1) (omega (arith, c .loop-test .left, c .before .before .index-of2 .ensures)))

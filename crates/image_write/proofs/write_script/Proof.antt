@@ -4,7 +4,7 @@ use native.Mathlib.Omega.{arith}
 use lib.ListN.{length}
 use Rattle.model.specs.Image.{image}
 use Rattle.model.specs.Memory.{Memory, memoryIn}
-use Rattle.plain.specs.Counted.{Plain}
+use Rattle.judge_plain.specs.Counted.{Plain}
 use Rattle.image_numbers.specs.Stored.{stored-length}
 use Rattle.image_write.specs.Call.{fine-kept, fine-room, call-fine}
 use Rattle.image_write.specs.Lengths.{mostBytes, plain-accepted, plain-short}

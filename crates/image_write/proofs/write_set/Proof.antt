@@ -38,7 +38,17 @@ element-copy-out-write-term : tie.Need-element-copy-out-write-term
 element-copy-out-write-term c = search needs
 
 write-term-requires : tie.Need-write-term-requires
-write-term-requires c κs = (c .before .before .before .before .before .before .before .before .before .pre .1, room-first (rootImage ((co (c .before .before .before .before .before .before .before .before .before)) .nodes) (commandWord (co (c .before .before .before .before .before .before .before .before .before)) (c .before .before .before .before .before .before .before .before .before .args .i) 2)) (room-as (rest-variable (co (c .before .before .before .before .before .before .before .before .before)) (c .before .before .before .before .before .before .before .before .before .args .i) (commandWord (co (c .before .before .before .before .before .before .before .before .before)) (c .before .before .before .before .before .before .before .before .before .args .i) 3) (c .before .before .if1 .taken)) (room-next (c .before .before .before .before .before .write-short .ensures) (room-as (set-image (co (c .before .before .before .before .before .before .before .before .before)) (c .before .before .before .before .before .before .before .before .before .args .i)) (c .before .before .before .before .before .before .before .before .before .pre .2)))))
+write-term-requires c κs = (
+  c .before .before .before .before .before .before .before .before .before .pre .1,
+  room-first
+      (rootImage ((co (c .before .before .before .before .before .before .before .before .before)) .nodes)
+      (commandWord (co (c .before .before .before .before .before .before .before .before .before)) (c .before .before .before .before .before .before .before .before .before .args .i) 2))
+      (room-as (rest-variable (co (c .before .before .before .before .before .before .before .before .before)) (c .before .before .before .before .before .before .before .before .before .args .i)
+      (commandWord (co (c .before .before .before .before .before .before .before .before .before)) (c .before .before .before .before .before .before .before .before .before .args .i) 3) (c .before .before .if1 .taken))
+      (room-next (c .before .before .before .before .before .write-short .ensures) (room-as
+      (set-image (co (c .before .before .before .before .before .before .before .before .before)) (c .before .before .before .before .before .before .before .before .before .args .i))
+      (c .before .before .before .before .before .before .before .before .before .pre .2)))),
+)
 
 mul-write-term-3 : tie.Need-mul-write-term-3
 mul-write-term-3 c = search needs
@@ -53,13 +63,26 @@ element-copy-out-write-term-2 : tie.Need-element-copy-out-write-term-2
 element-copy-out-write-term-2 c = search needs
 
 write-term-requires-2 : tie.Need-write-term-requires-2
-write-term-requires-2 c κs = (c .before .before .before .before .before .before .before .before .before .before .before .before .before .before .pre .1, room-next (c .before .before .before .before .write-term .ensures) (room-as (rest-variable (co (c .before .before .before .before .before .before .before .before .before .before .before .before .before .before)) (c .before .before .before .before .before .before .before .before .before .before .before .before .before .before .args .i) (commandWord (co (c .before .before .before .before .before .before .before .before .before .before .before .before .before .before)) (c .before .before .before .before .before .before .before .before .before .before .before .before .before .before .args .i) 3) (c .before .before .before .before .before .before .before .if1 .taken)) (room-next (c .before .before .before .before .before .before .before .before .before .before .write-short .ensures) (room-as (set-image (co (c .before .before .before .before .before .before .before .before .before .before .before .before .before .before)) (c .before .before .before .before .before .before .before .before .before .before .before .before .before .before .args .i)) (c .before .before .before .before .before .before .before .before .before .before .before .before .before .before .pre .2)))))
+write-term-requires-2 c κs = (
+  c .before .before .before .before .before .before .before .before .before .before .before .before .before .before .pre .1,
+  room-next (c .before .before .before .before .write-term .ensures)
+      (room-as (rest-variable (co (c .before .before .before .before .before .before .before .before .before .before .before .before .before .before))
+      (c .before .before .before .before .before .before .before .before .before .before .before .before .before .before .args .i)
+      (commandWord (co (c .before .before .before .before .before .before .before .before .before .before .before .before .before .before))
+      (c .before .before .before .before .before .before .before .before .before .before .before .before .before .before .args .i) 3) (c .before .before .before .before .before .before .before .if1 .taken))
+      (room-next (c .before .before .before .before .before .before .before .before .before .before .write-short .ensures)
+      (room-as (set-image (co (c .before .before .before .before .before .before .before .before .before .before .before .before .before .before))
+      (c .before .before .before .before .before .before .before .before .before .before .before .before .before .before .args .i))
+      (c .before .before .before .before .before .before .before .before .before .before .before .before .before .before .pre .2)))),
+)
 
 same-length : tie.Need-same-length
 same-length c = search needs
 
 returns : tie.Need-returns
-returns c = stored-as (set-image (co (c .before .before .before .before .before .before .before .before .before .before .before .before .before .before .before .before .before)) (c .before .before .before .before .before .before .before .before .before .before .before .before .before .before .before .before .before .args .i)) (stored-on (c .before .before .before .before .before .before .before .before .before .before .before .before .before .write-short .ensures) (stored-as (rest-variable (co (c .before .before .before .before .before .before .before .before .before .before .before .before .before .before .before .before .before)) (c .before .before .before .before .before .before .before .before .before .before .before .before .before .before .before .before .before .args .i) (commandWord (co (c .before .before .before .before .before .before .before .before .before .before .before .before .before .before .before .before .before)) (c .before .before .before .before .before .before .before .before .before .before .before .before .before .before .before .before .before .args .i) 3) (c .before .before .before .before .before .before .before .before .before .before .if1 .taken)) (stored-on (c .before .before .before .before .before .before .before .write-term .ensures) (c .before .before .write-term2 .ensures))))
+returns c =
+    let start = c .before .before .before .before .before .before .before .before .before .before .before .before .before .before .before .before .before in
+    stored-as (set-image (co (start)) (start .args .i)) (stored-on (c .before .before .before .before .before .before .before .before .before .before .before .before .before .write-short .ensures) (stored-as (rest-variable (co (start)) (start .args .i) (commandWord (co (start)) (start .args .i) 3) (c .before .before .before .before .before .before .before .before .before .before .if1 .taken)) (stored-on (c .before .before .before .before .before .before .before .write-term .ensures) (c .before .before .write-term2 .ensures))))
 
 mul-write-term-5 : tie.Need-mul-write-term-5
 mul-write-term-5 c = search needs
@@ -74,13 +97,23 @@ element-copy-out-write-term-3 : tie.Need-element-copy-out-write-term-3
 element-copy-out-write-term-3 c = search needs
 
 write-term-requires-3 : tie.Need-write-term-requires-3
-write-term-requires-3 c κs = (c .before .before .before .before .before .before .before .before .before .pre .1, room-as (rest-other (co (c .before .before .before .before .before .before .before .before .before)) (c .before .before .before .before .before .before .before .before .before .args .i) (commandWord (co (c .before .before .before .before .before .before .before .before .before)) (c .before .before .before .before .before .before .before .before .before .args .i) 3) (c .before .before .if1 .left)) (room-next (c .before .before .before .before .before .write-short .ensures) (room-as (set-image (co (c .before .before .before .before .before .before .before .before .before)) (c .before .before .before .before .before .before .before .before .before .args .i)) (c .before .before .before .before .before .before .before .before .before .pre .2))))
+write-term-requires-3 c κs = (
+  c .before .before .before .before .before .before .before .before .before .pre .1,
+  room-as
+      (rest-other (co (c .before .before .before .before .before .before .before .before .before)) (c .before .before .before .before .before .before .before .before .before .args .i)
+      (commandWord (co (c .before .before .before .before .before .before .before .before .before)) (c .before .before .before .before .before .before .before .before .before .args .i) 3) (c .before .before .if1 .left))
+      (room-next (c .before .before .before .before .before .write-short .ensures) (room-as
+      (set-image (co (c .before .before .before .before .before .before .before .before .before)) (c .before .before .before .before .before .before .before .before .before .args .i))
+      (c .before .before .before .before .before .before .before .before .before .pre .2))),
+)
 
 same-length-2 : tie.Need-same-length-2
 same-length-2 c = search needs
 
 returns-2 : tie.Need-returns-2
-returns-2 c = stored-as (set-image (co (c .before .before .before .before .before .before .before .before .before .before .before .before)) (c .before .before .before .before .before .before .before .before .before .before .before .before .args .i)) (stored-on (c .before .before .before .before .before .before .before .before .write-short .ensures) (stored-as (rest-other (co (c .before .before .before .before .before .before .before .before .before .before .before .before)) (c .before .before .before .before .before .before .before .before .before .before .before .before .args .i) (commandWord (co (c .before .before .before .before .before .before .before .before .before .before .before .before)) (c .before .before .before .before .before .before .before .before .before .before .before .before .args .i) 3) (c .before .before .before .before .before .if1 .left)) (c .before .before .write-term3 .ensures)))
+returns-2 c =
+    let start = c .before .before .before .before .before .before .before .before .before .before .before .before in
+    stored-as (set-image (co (start)) (start .args .i)) (stored-on (c .before .before .before .before .before .before .before .before .write-short .ensures) (stored-as (rest-other (co (start)) (start .args .i) (commandWord (co (start)) (start .args .i) 3) (c .before .before .before .before .before .if1 .left)) (c .before .before .write-term3 .ensures)))
 
 pub write-set-spec : {M : Type 1} → statement M
 write-set-spec = tie.close (tie.spec mul-target add-target mul-target-2 element-copy-out-target write-short-requires mul-write-term add-write-term mul-write-term-2 element-copy-out-write-term write-term-requires mul-write-term-3 add-write-term-2 mul-write-term-4 element-copy-out-write-term-2 write-term-requires-2 same-length returns mul-write-term-5 add-write-term-3 mul-write-term-6 element-copy-out-write-term-3 write-term-requires-3 same-length-2 returns-2)

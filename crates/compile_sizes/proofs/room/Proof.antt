@@ -1,0 +1,38 @@
+-- `room` meets its contract: the limits one after the other. Assumes nothing.
+use mathlib.Core.Path.{sym}
+use Rattle.compile_sizes.specs.Blocks.{blocks-over, commands-over, nodes-decide}
+use borrow.Author.Needs.{needs}
+use Rattle.compile_sizes.proofs.room.Statement.{statement}
+use Rattle.compile_sizes.proofs.room.Tie as tie
+
+cast-if1 : tie.Need-cast-if1
+cast-if1 c = search needs
+
+add-if1 : tie.Need-add-if1
+add-if1 c = search needs
+
+returns : tie.Need-returns
+returns c = sym (blocks-over (c .before .before .before .args .k) (c .before .before .before .args .s) (c .if1 .taken))
+
+cast-if2 : tie.Need-cast-if2
+cast-if2 c = search needs
+
+add-if2 : tie.Need-add-if2
+add-if2 c = search needs
+
+returns-2 : tie.Need-returns-2
+returns-2 c = sym (commands-over (c .before .before .before .before .before .before .args .k) (c .before .before .before .before .before .before .args .s) (c .before .before .before .if1 .left) (c .if2 .taken))
+
+cast-result : tie.Need-cast-result
+cast-result c = search needs
+
+add-result : tie.Need-add-result
+add-result c = search needs
+
+returns-3 : tie.Need-returns-3
+returns-3 c = sym (nodes-decide (c .before .before .before .before .before .before .before .before .args .k) (c .before .before .before .before .before .before .before .before .args .s) (c .before .before .before .before .before .if1 .left) (c .before .before .if2 .left))
+
+pub room-spec : {M : Type 1} → statement M
+room-spec =
+    tie.close
+    (tie.spec cast-if1 add-if1 returns cast-if2 add-if2 returns-2 cast-result add-result returns-3)

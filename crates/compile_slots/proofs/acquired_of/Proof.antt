@@ -1,0 +1,29 @@
+-- `acquired_of` meets its contract: by the item's atc, if it has one. Assumes nothing.
+use mathlib.Core.Path.{_≡_, sym, ap, _∙_}
+use Rattle.shop.specs.Shapes.{atcAt, atcIs}
+use Rattle.compile_slots.specs.Context.{acquired-item, acquired-atc}
+use borrow.Author.Needs.{needs}
+use Rattle.compile_slots.proofs.acquired_of.Statement.{statement}
+use Rattle.compile_slots.proofs.acquired_of.Tie as tie
+
+atc-for-requires : tie.Need-atc-for-requires
+atc-for-requires c κs = search needs
+
+enum-told : tie.Need-enum-told
+enum-told c = search needs
+
+enum-known-atc : tie.Need-enum-known-atc
+enum-known-atc c = search needs
+
+returns : tie.Need-returns
+returns c =
+    let s = c .before .before .before .before in
+    acquired-item (atcAt (s .args .attached .now) (s .args .item .0)) _ _ (sym (ap atcIs (c .enum-told .given .1)) ∙ c .before .before .atc-for .ensures)
+
+returns-2 : tie.Need-returns-2
+returns-2 c =
+    let s = c .before .before .before .before .before in
+    acquired-atc (atcAt (s .args .attached .now) (s .args .item .0)) _ _ _ (sym (ap atcIs (c .before .atc .given .1)) ∙ c .before .before .before .atc-for .ensures)
+
+pub acquired-of-spec : {M : Type 1} → statement M
+acquired-of-spec = tie.close (tie.spec atc-for-requires enum-told enum-known-atc returns returns-2)

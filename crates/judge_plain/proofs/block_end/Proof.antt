@@ -1,0 +1,44 @@
+-- `plain::block_end` meets its contract, by the kind of the block. Assumes nothing.
+use Rattle.judge_plain.specs.Counted.{placeholder, dataBlock}
+use mathlib.Core.Path.{refl}
+use native.Mathlib.Omega.{arith}
+use borrow.Author.Needs.{needs}
+use Rattle.judge_plain.proofs.block_end.Statement.{statement}
+use Rattle.judge_plain.proofs.block_end.Tie as tie
+
+mul-kind : tie.Need-mul-kind
+mul-kind c = search needs
+
+mul-kind-2 : tie.Need-mul-kind-2
+mul-kind-2 c = search needs
+
+element-copy-out-kind : tie.Need-element-copy-out-kind
+element-copy-out-kind c = search needs
+
+code-end-requires : tie.Need-code-end-requires
+code-end-requires c κs = search needs
+
+returns : tie.Need-returns
+returns c = c .code-end .ensures
+
+returns-2 : tie.Need-returns-2
+returns-2 c = λ q. placeholder (c .if2 .taken) refl
+
+returns-3 : tie.Need-returns-3
+returns-3 c = λ q. dataBlock (c .if3 .taken) refl
+
+returns-4 : tie.Need-returns-4
+returns-4 c = λ q. absurd (omega (arith, q, c .before .before .before .before .pre .1 .commands))
+
+pub block-end-spec : {M : Type 1} → statement M
+block-end-spec =
+    tie.close
+    (tie.spec
+    mul-kind
+    mul-kind-2
+    element-copy-out-kind
+    code-end-requires
+    returns
+    returns-2
+    returns-3
+    returns-4)
