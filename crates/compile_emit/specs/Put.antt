@@ -2,11 +2,9 @@
 use mathlib.Core.Path.{_≡_}
 use mathlib.Core.List.{List}
 use Prim.Native.Nat.{ℕ, _+_}
-use lib.IntN.{ℤ}
 use lib.ListN.{length}
 use Rattle.model.specs.Script.{Command, Block, commandsNodes, blockCommands, blockNodes, sumOf}
-use Rattle.model.specs.Memory.{Coded, Memory, codedIn, memoryIn, putCommands, putBlocks}
-use Rattle.memory.specs.declared.Counts.{Counts}
+use Rattle.model.specs.Memory.{Coded, Memory, putCommands, putBlocks}
 
 pub record PutCommands (s : Coded) (cs : List Command) (t : Coded) : Type 0 where
   pub is : t ≡ putCommands s cs

@@ -111,11 +111,6 @@ tree-frame : (n : ℕ) (s t : Nodes) → Agree n s t → (j : ℕ) → j < n →
 unfolding tree
 tree-frame n s t f j h = frame-to n s t f (suc j) j h
 
--- the kept count has no part in it
-pub tree-count : (ws : List ℕ) (vs : List ℤ) (n m i : ℕ) → tree (nodesIn ws vs n) i ≡ tree (nodesIn ws vs m) i
-tree-count ws vs n m i =
-    tree-frame (suc i) (nodesIn ws vs n) (nodesIn ws vs m) (λ j h. record { code = refl; left = refl; right = refl; value = refl }) i (le-refl _)
-
 -- ---- how many nodes
 
 pub size-pos : (e : Expr) → 0 < size e

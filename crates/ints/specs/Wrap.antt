@@ -25,17 +25,6 @@ pub wrap-fits : (w : Width) (z : ℤ) → SFits w (wrap w z)
 unfolding wrap
 wrap-fits w z = toZ-fits w (lowBits w z) (lowBits-fit w z)
 
--- its bits are the lowest of what it was made of
-pub wrap-bits : (w : Width) (z : ℤ) → ofZ w (wrap w z) ≡ lowBits w z
-unfolding wrap
-wrap-bits w z = ofZ-toZ w (lowBits w z) (lowBits-fit w z)
-
--- cut to a narrower width, it is what the narrower alone makes
-pub wrap-wrap : (v w : Width) (z : ℤ) → T (leb (bits v) (bits w)) → wrap v (wrap w z) ≡ wrap v z
-unfolding wrap
-wrap-wrap v w z t =
-    ap (toZ v) (lowBits-of v w (wrap w z) t (wrap-fits w z) ∙ ap (λ (n : ℕ). n % 2 ^ bits v) (wrap-bits w z) ∙ lowBits-lower v w z t)
-
 -- above the range: 2 ^ bits less
 pub wrap-above : (w : Width) (z : ℤ) → ltZ (pos (2 ^ hbits w - 1)) z ≡ true → mag z < 2 ^ bits w → z -ℤ pos (2 ^ bits w) ≡ wrap w z
 unfolding wrap

@@ -94,11 +94,6 @@ module _ (s t : Nodes) (g : Grown s t) where
           rw (g .words (3 * i) (omega arith))
           (ap (λ (x : List ℕ). word (codeAt s i) ++ x) (follow-frame (nodeImageTo t d) (nodeImageTo s d) i (omega arith) (λ j. ih j l) (kindOf (codeAt s i))))
 
-  -- the image of a node that was there
-  pub image-frame : (b i : ℕ) → b ≤ s .count → nodeImage t b i ≡ nodeImage s b i
-  unfolding nodeImage
-  image-frame b i h = image-frame-to b b i h
-
 -- ---- one node more
 
 module _ (s : Nodes) (o l r : ℕ) (z : ℤ) where

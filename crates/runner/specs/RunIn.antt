@@ -23,8 +23,3 @@ pub run-by-call : (h : Sheet) (m : Memory) (b : ℕ) (s : Save) (k : ℕ)
     → runIn h m b s k ≡ unlessRefused (firstOf (callIn h m b ∷ saveRefusal h s ∷ [])) (s .variables) (run (scriptOf m .blocks) s k b (s .variables))
 unfolding runIn runChecked callIn
 run-by-call h m b s k = refl
-
--- of an accepted record it is the call of the script that stands in it
-pub run-is-call : (h : Sheet) (m : Memory) (bs : List Block) (r : List ℕ) → judgedRecord m ≡ got bs r → (b : ℕ) (s : Save) (k : ℕ) → runIn h m b s k ≡ runCall h (scriptOf m) b s k
-unfolding runIn
-run-is-call h m bs r p b s k = ap (λ (j : ℕ). runChecked h j (scriptOf m) b s k) (ap refusalOf p ∙ sym (accepted-script m bs r p))

@@ -172,11 +172,6 @@ fill (suc n) i p (x ∷ xs) e =
     rw (set-at p emptySlot (replicate n emptySlot) x i e, ← append-snoc p x (replicate n emptySlot))
     (fill n (suc i) (p ++ x ∷ []) xs (omega (arith, length-append p (x ∷ []))) ∙ append-snoc p x (padded n xs))
 
--- the given slots, put into the empty shop one after the other, are the shop of the definitions
-pub with-slots : (xs : List Slot) → slotsOf (placedFrom 0 xs noShop) ≡ withSlots (map slotOf xs)
-unfolding slotsOf
-with-slots xs = placed-from 0 xs noShop ∙ ap (setFrom 0 (map slotOf xs)) (map-replicate slotCount) ∙ fill slotCount 0 [] (map slotOf xs) refl
-
 -- ---- twenty slots are neither dropped nor filled up
 
 all-slots : (xs : List Shops.Slot) → padded (length xs) xs ≡ xs

@@ -66,10 +66,6 @@ nor-law : (a b : Bool) → not a && not b ≡ not (a || b)
 nor-law true b = refl
 nor-law false b = refl
 
-pub isZero-b2z : (b : Bool) → isZero (b2z b) ≡ not b
-isZero-b2z true = refl
-isZero-b2z false = refl
-
 module _ (s : Save) (v : List ℤ) (bits : Bits (s .flags)) where
   flag-bit : (f : ℤ) → natAt (s .flags) f ≡ b2z (not (isZero (natAt (s .flags) f)))
   flag-bit (pos n) = bit _ (bits n)

@@ -39,9 +39,6 @@ pub record Rel (i top : ℕ) (S : List Slot) (M : List Bool) (S₁ : List Slot) 
   pub above : (j : ℕ) → top < j → getD M₁ j false ≡ getD M j false
   pub long : length M₁ ≡ length M
 
-rel-refl : {i top : ℕ} {S : List Slot} {M : List Bool} → Rel i top S M S M
-rel-refl = record { lower = λ k p. refl; mono = λ j p. p; above = λ j p. refl; long = refl }
-
 pub rel-trans : {i top : ℕ} {S S₁ S₂ : List Slot} {M M₁ M₂ : List Bool} → Rel i top S M S₁ M₁ → Rel i top S₁ M₁ S₂ M₂ → Rel i top S M S₂ M₂
 rel-trans a b = record {
   lower = λ k p. b .lower k p ∙ a .lower k p;
