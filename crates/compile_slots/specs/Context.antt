@@ -40,6 +40,17 @@ abbrev pub acquiredBy : ℕ → ℕ → ℕ → Acquired
 acquiredBy zero w r = record { of = Item; id = w; rate = r }
 acquiredBy (suc a) w r = record { of = Atc; id = a; rate = r }
 
+acquired-word : (t : Timer) (a w : ℕ) → acquiredOf (acquiredBy a w (rateWord t)) ≡ orRate (rateOf t) (test (acquiredReq (atcEntry a) w))
+unfolding test itemTest atcTest
+acquired-word plain zero w = refl
+acquired-word plain (suc a) w = refl
+acquired-word five zero w = refl
+acquired-word five (suc a) w = refl
+acquired-word ten zero w = refl
+acquired-word ten (suc a) w = refl
+acquired-word fifteen zero w = refl
+acquired-word fifteen (suc a) w = refl
+
 pub acquired-same : (ks : List ℕ) (h : Sheet) (w : ℕ) → acquiredOf (acquiredBy (atcAt ks w) w (rateWord (timerOf (sheetOf ks h) w))) ≡ acquiredExpr (sheetOf ks h) w
 unfolding acquiredExpr
 acquired-same ks h w =

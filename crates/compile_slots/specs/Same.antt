@@ -25,8 +25,14 @@ use Rattle.compile_slots.specs.Parts.{isFive, enableOf, enableBy, unique
 plus2 : (n : ℕ) → n + 2 ≡ suc (suc n)
 plus2 n = omega arith
 
+plus3 : (n : ℕ) → n + 3 ≡ suc (suc (suc n))
+plus3 n = omega arith
+
 plus1-1 : (n : ℕ) → n + 1 + 1 ≡ suc (suc n)
 plus1-1 n = omega arith
+
+plus3-1 : (n : ℕ) → n + 3 + 1 ≡ suc (suc (suc (suc n)))
+plus3-1 n = omega arith
 
 plus4 : (n : ℕ) → n + 4 ≡ suc (suc (suc (suc n)))
 plus4 n = omega arith

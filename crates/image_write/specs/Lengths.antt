@@ -76,6 +76,11 @@ unfolding commandsImage commandsNodes
 commands-short [] = omega arith
 commands-short (c ∷ cs) = omega (arith, length-append (commandImage c) (commandsImage cs), command-short c, commands-short cs)
 
+link-short : (o : Option ℕ) → length (linkImage o) ≤ 5
+unfolding linkImage
+link-short none = word-short 0
+link-short (some k) = word-short (suc k)
+
 block-short : (b : Block) → length (blockImage b) ≤ 16 + 6 * blockCommands b + 6 * blockNodes b
 unfolding blockImage blockCommands blockNodes
 block-short placeholder = omega (arith, word-short 0)

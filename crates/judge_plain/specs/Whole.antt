@@ -53,6 +53,12 @@ module _ (t cw bw : List ℕ) (k : Counts) (K : KeptBy k) where
         record { to = q .to; passing = pass-next (memoryOf ws vs cw bw k) K (p .passing) lt (q .staged) refl };
   }
 
+  pass-plain : {i n m : ℕ} → PassCount t cw bw k i n m → k .blocks ≤ i → n ≤ k .nodes → m ≤ k .commands → (ws : List ℕ) (vs : List ℤ) → Given ws vs t cw k → Plain (memoryOf ws vs cw bw k)
+  pass-plain P ge few room ws vs T =
+      let p = P .passes ws vs T few room in
+      let a = accepted (memoryOf ws vs cw bw k) (pass-done (memoryOf ws vs cw bw k) K (p .passing) ge) in
+      record { blocks = a .blocks; judged = a .judged }
+
 -- ---- the commands of a block, out of the sum of all
 
 -- of h commands from the first on i were counted, with what the marks tell of them

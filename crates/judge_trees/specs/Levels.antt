@@ -106,6 +106,8 @@ abbrev ReadsBy : List ℕ → List ℤ → List ℕ → ℕ → ℕ → Type 0
 ReadsBy ws vs t d i = (b : ℕ) → i < b → (n at o l : ℕ) → o + d ≤ 64 → n + getD t i 0 ≤ l → Reads ws vs l b i n at o (getD t i 0)
 
 module _ (ws : List ℕ) (vs : List ℤ) (t : List ℕ) where
+  reads-as : {l b i n at o k m to : ℕ} → n + k ≡ m → Told (readExpr l (64 - o) n) size (nodeImage (nodesIn ws vs l) b i) l 0 n at (Fine m to) → Reads ws vs l b i n at o k
+  reads-as {to = to} e p = record { to = to; told = rw e p }
 
   module _ (d i : ℕ) (k : Kind) (low : getD ws (3 * i) 0 < 19) (kd : k ≡ kindOf (getD ws (3 * i) 0)) where
     within : (b l n o : ℕ) → i < b → n < l → o < 64 → Within (nodesIn ws vs l) b i l n o k

@@ -131,6 +131,11 @@ pub record ReadNode (ns : Nodes) (b i : ℕ) (s : List ℕ) (e : Expr) (t : List
   pub is : e ≡ tree ns i
   pub rest : t ≡ s
 
+read-well : (l d n : ℕ) (ns : Nodes) (b i : ℕ) (s : List ℕ) (e : Expr) (t : List ℕ) → i < b → Well ns i → readExpr l d n (nodeImage ns b i ++ s) ≡ got e t → ReadNode ns b i s e t
+read-well l d n ns b i s e t h w p =
+    let q = same-expr l d n (tree ns i) s e t (subst (λ (u : List ℕ). readExpr l d n (u ++ s) ≡ got e t) (well-image ns b h w) p) in
+    record { low = h; well = w; is = q .0; rest = q .1 }
+
 -- the operands, where f reads them
 operands-well : (ns : Nodes) (f : ℕ → List ℕ → Answer Expr) → ((n b i : ℕ) (s : List ℕ) (e : Expr) (t : List ℕ) → f n (nodeImage ns b i ++ s) ≡ got e t → ReadNode ns b i s e t)
     → (n i : ℕ) (k : Kind) (s : List ℕ) (e : Expr) (t : List ℕ) → codeAt ns i ≡ codeOf k → readOperands f n k (followImage (nodeImage ns) ns i k ++ s) ≡ got e t → Well ns i

@@ -148,6 +148,26 @@ pub record PutOneBlock (s : Memory) (x : Block) (t : Memory) : Type 0 where
   pub sound : SoundBlock t (s .count)
   pub is : blockIn t (s .count) ≡ x
 
+-- from the words that were pushed, over commands that may have grown
+pushed-block : (s : Memory) (co : Coded) (k f h nx el : ℕ) (x : Block) → Long s → LongCoded co → GrownCoded (s .coded) co → s .count < blockLimit
+    → co .count ≡ s .coded .count + blockCommands x → co .nodes .count ≡ s .coded .nodes .count + blockNodes x
+    → (FiveWords (pushBlock s co k f h nx el .words) (s .count) k f h nx el → SoundBlock (pushBlock s co k f h nx el) (s .count) × (blockIn (pushBlock s co k f h nx el) (s .count) ≡ x))
+    → PutOneBlock s x (pushBlock s co k f h nx el)
+pushed-block s co k f h nx el x g lc gc l cc nc r =
+    let gw = g .words in
+    let n = s .count in
+    let q = r (five-hold (s .words) n k f h nx el (omega arith)) in
+    record {
+      counted = refl;
+      commands-counted = cc;
+      nodes-counted = nc;
+      coded = gc;
+      words = λ b j u v. five-other (s .words) n k f h nx el b j (λ e. omega arith) v;
+      long = record { coded = lc; words = five-long (s .words) n k f h nx el ∙ gw };
+      sound = q .0;
+      is = q .1;
+    }
+
 -- a block that is no code
 plain-sound : (m : Memory) (b k : ℕ) → blockWord m b 0 ≡ k → SoundKind m b k → SoundBlock m b
 plain-sound m b k e h = subst (SoundKind m b) (sym e) h

@@ -23,6 +23,16 @@ pub record GrownCoded (s t : Coded) : Type 0 where
 pub coded-same : (s : Coded) → GrownCoded s s
 coded-same s = record { nodes = grown-same (s .nodes); count = omega arith; words = λ j h. refl }
 
+pub coded-then : (s t u : Coded) → GrownCoded s t → GrownCoded t u → GrownCoded s u
+coded-then s t u g h =
+    let gc = g .count in
+    let hc = h .count in
+    record {
+      nodes = grown-then (s .nodes) (t .nodes) (u .nodes) (g .nodes) (h .nodes);
+      count = omega arith;
+      words = λ j l. h .words j (omega arith) ∙ g .words j l;
+    }
+
 module _ (s t : Coded) (g : GrownCoded s t) where
   -- an expression in its new place
   root-moved : (i j : ℕ) → j ≡ i → Root (s .nodes) i → Root (t .nodes) j
@@ -225,6 +235,23 @@ pub record PutAll (s : Coded) (xs : List Command) (t : Coded) : Type 0 where
 none-put : (s : Coded) → LongCoded s → PutAll s [] s
 unfolding commandsNodes commandsIn
 none-put s g = record { counted = omega arith; nodes-counted = omega arith; grown = coded-same s; long = g; sound = λ c a b. absurd (omega arith); are = refl }
+
+cons-put : (s u t : Coded) (x : Command) (xs : List Command) → PutOne s x u → PutAll u xs t → PutAll s (x ∷ xs) t
+unfolding commandsNodes commandsIn
+cons-put s u t x xs p q =
+    let pc = p .counted in
+    let pn = p .nodes-counted in
+    let qc = q .counted in
+    let qn = q .nodes-counted in
+    let e : u .count ≡ suc (s .count) = omega arith in
+    record {
+      counted = omega arith;
+      nodes-counted = omega arith;
+      grown = coded-then s u t (p .grown) (q .grown);
+      long = q .long;
+      sound = from-first (SoundCommand t) (length xs) (s .count) (command-frame u t (q .grown) (s .count) (p .sound)) (subst (SoundCommands t (length xs)) e (q .sound));
+      are = ap₂ (λ (y : Command) (ys : List Command). y ∷ ys) (command-stays u t (q .grown) (s .count) (p .sound) ∙ p .is) (ap (commandsIn t (length xs)) (sym e) ∙ q .are);
+    }
 
 pub put-commands : (s : Coded) (xs : List Command) → LongCoded s → s .count + length xs ≤ commandLimit → s .nodes .count + commandsNodes xs ≤ nodeLimit → PutAll s xs (putCommands s xs)
 unfolding putCommands commandsNodes

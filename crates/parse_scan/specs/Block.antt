@@ -135,6 +135,11 @@ module _ (ws : List ℕ) (vs : List ℤ) (cw : List ℕ) (n m : ℕ) (e : Option
 
 -- ---- the first of the commands that are left
 
+first-left : (co : Coded) (e : Option Expr) (h c : ℕ) (k : Scan) → 0 < h → scan e (commandsIn co h c) k ≡ scan e (commandsIn co (h - 1) (c + 1)) (scanOne e (commandIn co c) k)
+unfolding commandsIn
+first-left co e zero c k p = absurd (omega arith)
+first-left co e (suc h) c k p = let q : suc h - 1 ≡ h = omega arith in rw (add-one c, q)
+
 -- all of them are left
 pub scan-start : (co : Coded) (e : Option Expr) (held first : ℕ) (k : Scan) → scan e (commandsIn co held first) k ≡ scan e (commandsIn co held (first + (held - held))) k
 scan-start co e held first k = let q : first ≡ first + (held - held) = omega arith in ap (λ c. scan e (commandsIn co held c) k) q

@@ -56,6 +56,11 @@ unfolding signedDecimal
 signed-short (pos n) = omega (arith, decimal-short n)
 signed-short (negsuc n) = omega (arith, decimal-short (suc n))
 
+item-short : (i : Option ℕ) → length (itemText i) ≤ 10
+unfolding itemText
+item-short none = omega arith
+item-short (some w) = decimal-short w
+
 requirements-short : (rs : List Requirement) → length (requirementsText rs) ≤ 13 * length rs
 unfolding requirementsText
 requirements-short [] = omega arith

@@ -59,8 +59,20 @@ module _ (k : ℕ) where
   unfolding SoundBlock SoundCommands SoundCommand FitsLink
   sound-slot last i a b l m fa fb = (((number-fits (itemFirst + i) (omega arith), fa), ((number-fits (countFirst + i) (omega arith), fb), tt)), l, tt)
 
+  sound-slotEnd : (end i : ℕ) (a b : Expr) → end < k → i < slotCount → Allowed a → Allowed b → SoundBlock k (setSlotEnd end i a b)
+  unfolding SoundBlock SoundCommands SoundCommand FitsLink
+  sound-slotEnd end i a b l m fa fb = (((number-fits (itemFirst + i) (omega arith), fa), ((number-fits (countFirst + i) (omega arith), fb), (l, tt))), l, tt)
+
+  sound-if : (last : ℕ) (c : Expr) (j : ℕ) → last < k → j < k → Allowed c → SoundBlock k (ifBlock last c j)
+  unfolding SoundBlock SoundCommands SoundCommand FitsLink
+  sound-if last c j l m fc = (((fc, m), tt), l, m)
+
   sound-hide : (end i : ℕ) → end < k → i < slotCount → SoundBlock k (hideBlock end i)
   sound-hide end i l m = sound-slot end i (imm16 (negsuc 0)) (imm16 (pos 0)) l m hidden-fits (number-fits 0 (omega arith))
+
+  sound-reset : (j : ℕ) → j < k → SoundBlock k (resetBlock j)
+  unfolding SoundBlock SoundCommands SoundCommand FitsLink
+  sound-reset j l = (((number-fits 0 (omega arith), number-fits 0 (omega arith)), tt), l, tt)
 
   sound-remaining : (n w j : ℕ) → suc j < k → Allowed (remainingExpr n w) → SoundBlock k (remainingBlock n w j)
   unfolding SoundBlock SoundCommands SoundCommand FitsLink
@@ -97,6 +109,17 @@ module _ (h : Sheet) (f : SheetLow h) (i : ℕ) (m : i < slotCount) where
     item-fits : Allowed (itemExpr w)
     item-fits = shallow 1 (itemExpr w) (omega arith) (fits-item h f 0 w p)
 
+    from-enable : (t : Timer) (c : Expr) (k n : ℕ) → e ≤ n → k ≤ n → Allowed c → SoundFrom n (enableBlocks h i e w t c k n)
+    unfolding SoundFrom
+    from-enable plain c k n a b g = (sound-if (suc n) n c k (omega arith) (omega arith) g, tt)
+    from-enable ten c k n a b g = (sound-if (suc n) n c k (omega arith) (omega arith) g, tt)
+    from-enable fifteen c k n a b g = (sound-if (suc n) n c k (omega arith) (omega arith) g, tt)
+    from-enable five c k n a b g = (
+      sound-slotEnd (suc n) e i (itemExpr w) (imm16 (pos 0)) (omega arith) m item-fits (number-fits 0 (omega arith)),
+      (
+        sound-if (suc (suc n)) (suc n) (noTimerExpr h) n (omega arith) (omega arith) (shallow 4 (noTimerExpr h) (omega arith) (fits-noTimer h f)),
+        (sound-if (suc (suc (suc n))) (suc (suc n)) c k (omega arith) (omega arith) g, tt),
+      ),
     )
 
     -- R, and what V tests

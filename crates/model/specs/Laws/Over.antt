@@ -30,6 +30,17 @@ module _ (l : ℕ) where
   full-expr d n (imm32 z) s h = rw (append-assoc, read-kind Imm32 (word (zig z) ++ s), le-ltb n l h)
   full-expr d n other s h = rw (read-kind Other s, le-ltb n l h)
 
+  over-two : (d n : ℕ) (o : Op2) (a b : Expr) (s : List ℕ) → FitsExpr d a
+      → (l < suc n + size a → readExpr l d (suc n) (exprImage a ++ (exprImage b ++ s)) ≡ refused overLimit)
+      → (l < suc n + size a + size b → readExpr l d (suc n + size a) (exprImage b ++ s) ≡ refused overLimit)
+      → l < n + size (two o a b) → Dec (l ≤ n) → Dec (suc n + size a ≤ l) → readExpr l (suc d) n (exprImage (two o a b) ++ s) ≡ refused overLimit
+  unfolding readExpr exprImage readOperands size codeOf
+  over-two d n o a b s f p q h (yes k) j = full-expr d n (two o a b) s k
+  over-two d n o a b s f p q h (no k) (no j) =
+      rw (append-assoc, append-assoc, read-kind (Two o) (exprImage a ++ (exprImage b ++ s)), lt-ltb n l (omega arith), p (omega arith))
+  over-two d n o a b s f p q h (no k) (yes j) =
+      rw (append-assoc, append-assoc, read-kind (Two o) (exprImage a ++ (exprImage b ++ s)), lt-ltb n l (omega arith), read-expr l d (suc n) a (exprImage b ++ s) f j, q (omega arith))
+
   over-one : (d n : ℕ) (o : Op1) (a : Expr) (s : List ℕ) → (l < suc n + size a → readExpr l d (suc n) (exprImage a ++ s) ≡ refused overLimit)
       → l < n + size (one o a) → Dec (l ≤ n) → readExpr l (suc d) n (exprImage (one o a) ++ s) ≡ refused overLimit
   unfolding readExpr exprImage readOperands size codeOf
@@ -47,6 +58,44 @@ module _ (l : ℕ) where
   over-expr (suc d) n other s f h = full-expr d n other s (omega arith)
 
 module _ (l : Limits) (w : l .blocks ≤ blockLimit) (w′ : l .commands < wide) where
+  over-term : (n : ℕ) (e : Expr) (s : List ℕ) → FitsExpr depthLimit e → l .nodes < n + size e → readTerm l n (exprImage e ++ s) ≡ refused overLimit
+  unfolding readTerm
+  over-term n e s f h = over-expr (l .nodes) depthLimit n e s f h
+
+  -- target and value of a Set
+  over-pair : (n : ℕ) (t e : Expr) (s : List ℕ) → FitsExpr depthLimit t → FitsExpr depthLimit e → l .nodes < n + (size t + size e) → Dec (n + size t ≤ l .nodes)
+      → setOf l n 0 (exprImage t ++ (exprImage e ++ s)) ≡ refused overLimit
+  unfolding setOf
+  over-pair n t e s f g h (yes k) = rw (read-term l w w′ n t (exprImage e ++ s) (record { fit = f; room = k }), over-term (n + size t) e s g (omega arith))
+  over-pair n t e s f g h (no k) = rw (over-term n t (exprImage e ++ s) f (omega arith))
+
+  over-command : (n : ℕ) (c : Command) (s : List ℕ) → SoundCommand (l .blocks) c → n ≤ l .nodes → l .nodes < n + commandNodes c → readCommand l n (commandImage c ++ s) ≡ refused overLimit
+  unfolding readCommand commandImage commandOf setOf SoundCommand commandNodes
+  over-command n return s f k h = absurd (omega arith)
+  over-command n (goto j) s f k h = absurd (omega arith)
+  over-command n (setVariable t e) s f k h =
+      rw (
+        append-assoc,
+        append-assoc,
+        append-assoc,
+        read-word 6 2 (word 0 ++ (exprImage t ++ (exprImage e ++ s))) (omega arith) (omega arith),
+        read-word 2 0 (exprImage t ++ (exprImage e ++ s)) (omega arith) (omega arith),
+      )
+      (over-pair n t e s (f .0) (f .1) h (decLe (n + size t) (l .nodes)))
+  over-command n (setOther e) s f k h =
+      rw (append-assoc, append-assoc, read-word 6 2 (word 1 ++ (exprImage e ++ s)) (omega arith) (omega arith), read-word 2 1 (exprImage e ++ s) (omega arith) (omega arith), over-term n e s f h)
+  over-command n (ifElse e j) s f k h =
+      rw (append-assoc, append-assoc, read-word 6 3 (exprImage e ++ (word j ++ s)) (omega arith) (omega arith), over-term n e (word j ++ s) (f .0) h)
+  over-command n (endIf j) s f k h = absurd (omega arith)
+  over-command n otherCommand s f k h = absurd (omega arith)
+
+  -- the first command has room, or not
+  over-next : (n : ℕ) (c : Command) (cs : List Command) (s : List ℕ) → SoundCommand (l .blocks) c → n ≤ l .nodes
+      → (n + commandNodes c ≤ l .nodes → readCommands l (length cs) (n + commandNodes c) (commandsImage cs ++ s) ≡ refused overLimit) → Dec (n + commandNodes c ≤ l .nodes)
+      → readCommands l (length (c ∷ cs)) n (commandsImage (c ∷ cs) ++ s) ≡ refused overLimit
+  unfolding readCommands commandsImage
+  over-next n c cs s f k ih (yes j) = rw (append-assoc, read-command l w w′ n c (commandsImage cs ++ s) (command-fits l n c f j), ih j)
+  over-next n c cs s f k ih (no j) = rw (append-assoc, over-command n c (commandsImage cs ++ s) f k (omega arith))
 
   over-commands : (n : ℕ) (cs : List Command) (s : List ℕ) → SoundCommands (l .blocks) cs → n ≤ l .nodes → l .nodes < n + commandsNodes cs
       → readCommands l (length cs) n (commandsImage cs ++ s) ≡ refused overLimit
