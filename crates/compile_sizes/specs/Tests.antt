@@ -17,7 +17,6 @@ use Rattle.model.specs.Sheet.{Sheet, atcFor}
 use Rattle.model.specs.Shop.{Timer, plain, five, ten, fifteen, timerOf}
 use Rattle.model.specs.Compile.{test, itemTest, atcTest, flagTest, joinTests, acquiredReq, rateOf, orRate, acquiredExpr}
 use Rattle.model.specs.Laws.Sound.{sum-append}
-use Rattle.memory.specs.View.{nodesOf}
 use Rattle.shop_codes.specs.Codes.{requirementOf, subject, isMissing}
 use Rattle.expr_build.specs.Laws.{size-imm}
 use Rattle.expr_build.specs.Codes.{size-compare, size-flag, size-not-flag}

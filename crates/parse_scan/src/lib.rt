@@ -35,6 +35,7 @@ use model::ItemId;
 use model::Kind;
 use model::Op1;
 use model::Op2;
+use shop::COUNT_END;
 use shop::COUNT_FIRST;
 use shop::Codes;
 use shop::ENTRIES;
@@ -146,7 +147,7 @@ fn target_of(x: MaybeNumber) -> Target
     if n < COUNT_FIRST {
         return Target::ItemOf(n - ITEM_FIRST);
     }
-    if n < COUNT_FIRST + SLOTS {
+    if n < COUNT_END {
         return Target::CountOf(n - COUNT_FIRST);
     }
     Target::Unused

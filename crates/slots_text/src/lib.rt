@@ -19,9 +19,6 @@ use shop_codes::kind_of;
 use shop_codes::number_of;
 use shop_codes::shifted;
 
-// A limit moved up by this is not below 0.
-const HALF: i32 = HALF16 as i32;
-
 // The printed text of any twenty slots fits into so many bytes.
 pub const TEXT: usize = 16384;
 
