@@ -36,7 +36,7 @@ pub fn run(sheet: &Sheet, a: &Arrays, start: u32, save: &mut Save, budget: u32) 
     if !sheet_ok(sheet) {
         return (1, 0);
     }
-    if let Err(refusal) = judge_record::judge(a) {
+    if let Err(refusal) = judge::judge(a) {
         return (refusal.0, 0);
     }
     if start >= a.blocks.into() {

@@ -46,7 +46,7 @@ pub fn recount(random: &mut Random, a: &mut Arrays) {
 
 /// What every call on a record says of it: nothing where it is judged fine, else the same refusal, and nothing is changed.
 fn check(tally: &mut Tally, random: &mut Random, sheet: &Sheet, setup: u32, a: &Arrays) {
-    let judged = judge_record::judge(a).err().map(|refusal| refusal.0);
+    let judged = judge::judge(a).err().map(|refusal| refusal.0);
     let mut script = Script::from_arrays(a.clone());
     let case = || {
         let counts = (a.nodes, a.commands, a.blocks);
@@ -85,7 +85,7 @@ pub fn random(tally: &mut Tally, random: &mut Random, count: usize) {
         recount(random, &mut a);
         let under = a.nodes < held.0 || a.commands < held.1;
         let over = a.nodes > 32_768 || a.commands > 16_384;
-        let refused = judge_record::judge(&a).err().map(|refusal| refusal.0);
+        let refused = judge::judge(&a).err().map(|refusal| refusal.0);
         let expected = (under || over).then_some(3);
         tally.same("a count that is off", &refused, &expected, || {
             format!("input {input:?}")

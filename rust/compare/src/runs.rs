@@ -146,7 +146,7 @@ pub fn records(tally: &mut Tally, random: &mut Random, count: usize) {
         let script = Script::from_arrays(arrays);
         let save = saves::save(random, &input.sheet);
         check(tally, &input.sheet, &script, input.setup, &save, 50);
-        let judged = crate::judge_record::judge(script.arrays())
+        let judged = crate::judge::judge(script.arrays())
             .err()
             .map(|refusal| refusal.0);
         let written = script.write().err().map(|refused| refused.0);

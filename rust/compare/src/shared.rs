@@ -80,7 +80,7 @@ fn record(random: &mut Random, most: usize) -> Arrays {
 fn check(tally: &mut Tally, random: &mut Random, a: Arrays) {
     let sheet = small::sheet();
     let script = Script::from_arrays(a);
-    let judged = judge_record::judge(script.arrays()).err().map(|refusal| refusal.0);
+    let judged = judge::judge(script.arrays()).err().map(|refusal| refusal.0);
     let written = script.write().err().map(|refused| refused.0);
     tally.count("write of a record", written.unwrap_or(0));
     let case = || format!("record {:?}", words(script.arrays()));
