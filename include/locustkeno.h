@@ -29,7 +29,7 @@ extern "C" {
 #define LK_COMMAND_WORDS 65536
 #define LK_BLOCK_WORDS 20480
 #define LK_SLOTS 20
-#define LK_ENTRIES 32
+#define LK_ENTRIES 14
 
 /* The refusal or 0, and the kept counts of the script; all are 0 where a read is refused. */
 typedef struct {

@@ -84,7 +84,7 @@ fn attached() -> [u8; 16] {
     out
 }
 
-// One slot: item, limit, how many entries, and the first two of them.
+// One slot: item, limit, how many entries, and the first two of them. Each further one has the next number.
 fn shop_of(a: &[u32; 224]) -> Shop {
     let codes = entries(a);
     let slot = Slot {
@@ -99,7 +99,11 @@ fn shop_of(a: &[u32; 224]) -> Shop {
 fn entries(a: &[u32; 224]) -> Row {
     let mut codes: Row = [0; ENTRIES];
     codes[0] = code(a[4], a[5]);
-    codes[1] = code(a[6], a[7]);
+    let mut i: usize = 1;
+    while i < ENTRIES {
+        codes[i] = code(a[6], low16(a[7]) as u32 + (i - 1) as u32);
+        i += 1;
+    }
     codes
 }
 

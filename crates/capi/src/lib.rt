@@ -237,7 +237,7 @@ pub extern "C" fn lk_compile(
     }
 }
 
-// The arrays of a shop from any number of slots, each with 32 codes. As many slots are given as there are items; what another slice
+// The arrays of a shop from any number of slots, each with a row of codes. As many slots are given as there are items; what another slice
 // lacks of them is 0. Slots past the twentieth are dropped unchecked, missing ones are empty.
 #[no_mangle]
 pub extern "C" fn lk_with_slots(

@@ -3,10 +3,11 @@ use mathlib.Core.Path.{_≡_}
 use mathlib.Core.Bool.{cond}
 use mathlib.Core.Option.{Option, none, some}
 use mathlib.Core.List.{List, [], _∷_}
-use Prim.Native.Nat.{ℕ, zero, suc, _+_, _-_, _≤_, _<_}
+use Prim.Native.Nat.{ℕ, zero, suc, _+_, _-_, _*_, _≤_, _<_}
 use lib.Dec.{leb}
 use lib.IntN.{ℤ}
 use lib.ListN.{length, getD}
+use Rattle.model.specs.Limits.{entryLimit}
 use Rattle.model.specs.Script.{Block, sumOf, blockCommands, blockNodes}
 use Rattle.model.specs.Requirement.{Requirement, haveItem, missingItem, haveAtc, missingAtc, haveFlag, missingFlag, sorted}
 use Rattle.model.specs.Sheet.{Sheet}
@@ -48,6 +49,10 @@ testNodes (missingFlag f) = 3
 -- each with the node that joins it to what stands before it
 unfoldable pub testsNodes : List Requirement → ℕ
 testsNodes rs = sumOf (λ r. testNodes r + 1) rs
+
+-- .. of a slot, at most: a test has four nodes and the one that joins it
+abbrev pub testsMost : ℕ
+testsMost = 5 * entryLimit
 
 -- acquired or not; a timer's rate is compared too
 abbrev pub acquiredNodes : Timer → ℕ

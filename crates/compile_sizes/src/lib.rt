@@ -1,6 +1,6 @@
 // What the blocks of a shop take of a script, counted before anything is written, and check 9.
 ghost use mathlib.Core.Path.{_≡_};
-ghost use Prim.Native.Nat.{_≤_, _<_};
+ghost use Prim.Native.Nat.{_+_, _≤_, _<_};
 ghost use mathlib.Core.List.{map};
 ghost use lib.ListN.{length, take};
 ghost use Rattle.model.specs.Limits.{entryLimit, slotCount, wide16};
@@ -11,7 +11,7 @@ ghost use Rattle.shop.specs.Shapes.{timerIs, sheetOf, slotOf, slotsOf};
 ghost use Rattle.shop.specs.Sets.{AllExact, Exact};
 ghost use Rattle.shop_arrays.specs.Arrays.{arraysIn, slotAt, shopFrom};
 ghost use Rattle.compile_sizes.specs.Blocks.{within};
-ghost use Rattle.compile_sizes.specs.Sizes.{AtMost, testNodes, testsNodes, acquiredNodes, sized, plus, soldSize, enableSize, uniqueSize, limitSize, slotSize, shopSize};
+ghost use Rattle.compile_sizes.specs.Sizes.{AtMost, testNodes, testsNodes, testsMost, acquiredNodes, sized, plus, soldSize, enableSize, uniqueSize, limitSize, slotSize, shopSize};
 use memory::BLOCKS;
 use memory::COMMANDS;
 use memory::Counts;
@@ -37,12 +37,12 @@ const COMMAND_LIMIT: u32 = COMMANDS as u32;
 
 const NODE_LIMIT: u32 = NODES as u32;
 
-// What any shop takes at most: the Return block, and for each slot 7 blocks, 14 commands and 203 nodes (specs/Most).
+// What any shop takes at most: the Return block, and for each slot 7 blocks, 14 commands and 43 nodes, with 5 more for each entry (specs/Most).
 const MOST_BLOCKS: u32 = 141;
 
 const MOST_COMMANDS: u32 = 281;
 
-const MOST_NODES: u32 = 4060;
+const MOST_NODES: u32 = (SLOTS * (43 + 5 * ENTRIES)) as u32;
 
 // What some blocks take: how many they are, and the commands and expression nodes in them.
 pub struct Size {
@@ -96,7 +96,7 @@ fn test_nodes(code: u64) -> u32
 // The tests of the first len codes, each with the node that joins it to what stands before it.
 fn tests_nodes(codes: Row, len: u8) -> u32
     requires { ⌜ len ≤ entryLimit ⌝ }
-    ensures { λ r. ⌜ (r ≡ testsNodes (map requirementOf (take len codes))) × (r ≤ 160) ⌝ }
+    ensures { λ r. ⌜ (r ≡ testsNodes (map requirementOf (take len codes))) × (r ≤ testsMost) ⌝ }
 {
     let end = len as usize;
     let mut nodes: u32 = 0;
@@ -135,8 +135,8 @@ fn sold_size(len: u8, acquired: u32) -> Size
 
 // Above N: D2 and T for Timer5 only, then V, whose condition has so many nodes.
 fn enable_size(timer: Timer, condition: u32) -> Size
-    requires { ⌜ condition ≤ 169 ⌝ }
-    ensures { λ r. ⌜ (r ≡ enableSize (timerIs timer) condition) × AtMost r 182 ⌝ }
+    requires { ⌜ condition ≤ 9 + testsMost ⌝ }
+    ensures { λ r. ⌜ (r ≡ enableSize (timerIs timer) condition) × AtMost r (22 + testsMost) ⌝ }
 {
     match timer {
         Timer::Plain => sized(1, 1, condition),
@@ -148,7 +148,7 @@ fn enable_size(timer: Timer, condition: u32) -> Size
 
 // Limit 1: V's condition is the negated acquired test, joined with R.
 fn unique_size(timer: Timer, len: u8, tests: u32) -> Size
-    requires { ⌜ tests ≤ 160 ⌝ }
+    requires { ⌜ tests ≤ testsMost ⌝ }
     ensures { λ r. ⌜ (r ≡ uniqueSize (timerIs timer) len tests) × AtMost r 256 ⌝ }
 {
     let acquired = acquired_nodes(timer);
@@ -159,7 +159,7 @@ fn unique_size(timer: Timer, len: u8, tests: u32) -> Size
 
 // Limit above 1: S, Z and M, or H, S, Z, M and If R. The first test of R is joined to nothing.
 fn limit_size(len: u8, tests: u32) -> Size
-    requires { ⌜ tests ≤ 160 ⌝ }
+    requires { ⌜ tests ≤ testsMost ⌝ }
     ensures { λ r. ⌜ (r ≡ limitSize len tests) × AtMost r 256 ⌝ }
 {
     if len == 0 {

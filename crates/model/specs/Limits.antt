@@ -14,12 +14,12 @@ nodeLimit = 32768
 abbrev pub depthLimit : ℕ
 depthLimit = 64
 
--- Slot: the slots of a shop, the entries that may be given per slot and that parsing may leave in one
+-- Slot: the slots of a shop, the entries that may be given per slot and that parsing may leave in one (02, A.1)
 abbrev pub slotCount : ℕ
 slotCount = 20
 
 abbrev pub entryLimit : ℕ
-entryLimit = 32
+entryLimit = 14
 
 -- Id sheet: items and attachments
 abbrev pub fewestItems : ℕ

@@ -284,7 +284,7 @@ scanned c cs st = scan c cs (record { items = blank; counts = blank; limit = st 
 abbrev pub slotsAfter : Sheet → Option Expr → List Command → State → List Slot
 slotsAfter h c cs st = updateSlots h (parseRequirements h c) (scanned c cs st .items) (scanned c cs st .counts) (st .slots)
 
--- a code block was visited: 11 where a slot has a 33rd requirement
+-- a code block was visited: 11 where a slot has over entryLimit requirements
 unfoldable pub visited : Sheet → ℕ → Option Expr → List Command → State → State
 visited h b c cs st = record {
   slots = slotsAfter h c cs st;

@@ -21,7 +21,7 @@ pub struct Marked {
     pub alive: u16,
 }
 
-// How many negated requirements there are, 33 where there are more than 32, and what is marked after.
+// How many negated requirements there are, ENTRIES + 1 where there are more than ENTRIES, and what is marked after.
 pub struct Filtered {
     pub len: usize,
     pub marked: Marked,
@@ -213,7 +213,7 @@ fn entry_code(keys: &[u64], k: u16) -> u64
     missing_of(key)
 }
 
-// The codes of the companions of n entries, as a set: how many they are, 33 where there are more than 32.
+// The codes of the companions of n entries, as a set: how many they are, ENTRIES + 1 where there are more than ENTRIES.
 fn companion_codes(
     keys: &[u64],
     companions: &[u16],

@@ -25,7 +25,7 @@ use Rattle.parse_scan.specs.Shown.{hidesOne, shown-any}
 abbrev pub slotsThen : Sheet → List Requirement → List (Option ℤ) → List (Option ℤ) → Shop → List Shop.Slot
 slotsThen h rs ms ns s = updateSlots h rs ms ns (slotsOf s)
 
--- where r is false a slot would have a 33rd requirement, and the slots out do not count
+-- where r is false a slot would have over entryLimit requirements, and the slots out do not count
 pub record UpdatedBy (h : Sheet) (rs : List Requirement) (shop : Shop) (ms ns : List (Option ℤ)) (r : Bool) (out : Shop) : Type 0 where
   pub ok : r ≡ all fewEntries (slotsThen h rs ms ns shop)
   pub is : r ≡ true → slotsOf out ≡ slotsThen h rs ms ns shop
@@ -149,7 +149,7 @@ module _ (shop : Shop) (items : ℕ) (ms ns : List (Option ℤ)) (P : List Requi
     pub half-next : (to : Shop) → to ≡ placed out i y → b ≡ true → Halfway shop items ms ns P to (i + 1)
     half-next to e o = subst (λ (s : Shop). Halfway shop items ms ns P s (i + 1)) (sym e) (placed-next o)
 
-    -- its 33rd requirement refuses all
+    -- a slot with over entryLimit requirements refuses all
     pub half-refused : length ms ≡ slotCount → length ns ≡ slotCount → (to : Shop) → b ≡ false → (h : Sheet) (rs : List Requirement) → itemCount h ≡ items → P rs → UpdatedBy h rs shop ms ns false to
     unfolding slotsOf
     half-refused p q to f h rs e w =

@@ -20,7 +20,7 @@ pub record RowHid (row : List ℕ) (n : ℕ) (ds : List ℕ) (out : List ℕ) (r
   pub count : r ≤ entryLimit → r ≡ length (insertCodes (take n row) ds)
   pub is : r ≤ entryLimit → out ≡ insertCodes (take n row) ds ++ drop r row
 
--- .. of the row of 32 codes that begins at start: the codes before and after it stay
+-- .. of the row that begins at start: the codes before and after it stay
 pub record PartHid (cs : List ℕ) (start n : ℕ) (ds : List ℕ) (out : List ℕ) (r : ℕ) : Type 0 where
   pub row : List ℕ
   pub hid : RowHid (take entryLimit (drop start cs)) n ds row r
@@ -84,7 +84,7 @@ module _ (row : List ℕ) (n : ℕ) (ds out : List ℕ) (r i : ℕ) (v : RowHidi
         by (yes l) = ap length (in-place l) ∙ omega (arith, length-append (insertCode x (take r out)) (drop r′ out), length-drop r′ out, w .count, v .long)
         by (no l) = let e : out′ ≡ out = w .is ∙ rw (lt-leb r′ entryLimit (omega arith)) in ap length e ∙ v .long
 
-    -- the 33rd: there are more at the end
+    -- over entryLimit: there are more at the end
     pub row-over : entryLimit < r′ → RowHid row n ds out′ r′
     row-over l = record {
       long = row-long;

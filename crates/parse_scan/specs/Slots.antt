@@ -30,7 +30,7 @@ pub record Stands (more : List ℕ) (n : ℕ) (rs : List Requirement) : Type 0 w
   pub codes : n ≤ entryLimit → take n more ≡ map codeOf (extend [] rs)
   pub over : entryLimit < n → entryLimit < length (extend [] rs)
 
--- slot x became y; not ok where it would have a 33rd requirement, and then y does not count
+-- slot x became y; not ok where it would have over entryLimit requirements, and then y does not count
 pub record Became (h : Sheet) (rs : List Requirement) (o n : Option ℤ) (x : Slot) (b : Bool) (y : Slot) : Type 0 where
   pub ok : b ≡ fewEntries (updateSlot h rs o n (slotOf x))
   pub is : b ≡ true → slotOf y ≡ updateSlot h rs o n (slotOf x)

@@ -376,7 +376,7 @@ pub fn hides(s: Scanned, ids: &[i16; SLOTS]) -> bool
     false
 }
 
-// len codes of more join the first n of a row: how many there are then, 33 where that is one too many.
+// len codes of more join the first n of a row: how many there are then, one more than a row holds where that is too many.
 fn hide_row(row: &mut [u64], n: usize, more: &Row, len: usize) -> usize
     requires { ⌜ (length (now row) ≡ entryLimit) × ((n ≤ entryLimit) × (len ≤ entryLimit)) ⌝ }
     ensures { λ r. ⌜ RowHid (now (row .entry)) n (take len (now (more .entry))) (now (row .exit)) r ⌝ }
@@ -394,7 +394,7 @@ fn hide_row(row: &mut [u64], n: usize, more: &Row, len: usize) -> usize
     held
 }
 
-// As hide_row, for the row of 32 codes that begins at start.
+// As hide_row, for the row that begins at start.
 fn hide_part(codes: &mut [u64], start: usize, n: usize, more: &Row, len: usize) -> usize
     requires { ⌜ (start + entryLimit ≤ length (now codes)) × ((n ≤ entryLimit) × (len ≤ entryLimit)) ⌝ }
     ensures { λ r. ⌜ PartHid (now (codes .entry)) start n (take len (now (more .entry))) (now (codes .exit)) r ⌝ }
@@ -403,7 +403,7 @@ fn hide_part(codes: &mut [u64], start: usize, n: usize, more: &Row, len: usize) 
     hide_row(&mut codes[start..end], n, more, len)
 }
 
-// len codes of more join slot i's set, in place; false where it would have a 33rd. Where they are too many by themselves, they are too many in a slot.
+// len codes of more join slot i's set, in place; false where that is one too many. Where they are too many by themselves, they are too many in a slot.
 fn hide_slot(codes: &mut Codes, lens: &mut [u8; SLOTS], i: usize, more: &Row, len: usize) -> bool
     requires { ⌜ ((i < slotCount) × (getD (now lens) i 0 ≤ entryLimit)) × ((length (now codes) ≡ entryLimit * slotCount) × (length (now lens) ≡ slotCount)) ⌝ }
     ensures { λ r. ⌜ HiddenIn (now (codes .entry)) (now (lens .entry)) i (now (more .entry)) len r (now (codes .exit)) (now (lens .exit)) ⌝ }
@@ -489,7 +489,7 @@ fn update_slot(
     true
 }
 
-// The slots that the block wrote to, the lowest first; n codes of more are the negated requirements, 33 where they are too many. False where a slot would have a 33rd requirement.
+// The slots that the block wrote to, the lowest first; n codes of more are the negated requirements, n being over ENTRIES where they are too many. False where a slot would have one requirement too many.
 pub fn update_slots(
     items: &mut [i32; SLOTS],
     limits: &mut [i16; SLOTS],

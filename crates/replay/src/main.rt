@@ -33,6 +33,8 @@ use shop::with_slot;
 use slots_sheet::Heading;
 use slots_sheet::read_heading;
 
+const MOST_ENTRIES: u64 = ENTRIES as u64;
+
 // The place after something malformed. Nothing can be read there, so all that follows is malformed too.
 const MALFORMED: usize = 18446744073709551615;
 
@@ -491,7 +493,7 @@ fn entries_at(s: &[u8], n: Number, codes: &mut Row) -> usize {
 }
 
 fn put_code(codes: &mut Row, i: u64, code: u64) {
-    if i < 32 {
+    if i < MOST_ENTRIES {
         codes[i as usize] = code;
     }
 }

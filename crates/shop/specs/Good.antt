@@ -1,4 +1,4 @@
--- Slots as parsing keeps them: at most 32 requirements in rising order, each by its code, and zeros past them. Assumes nothing.
+-- Slots as parsing keeps them: at most entryLimit requirements in rising order, each by its code, and zeros past them. Assumes nothing.
 use mathlib.Core.Path.{_≡_, refl, sym, ap, _∙_, subst}
 use mathlib.Core.Bool.{true}
 use mathlib.Core.List.{List, [], map}

@@ -21,7 +21,7 @@ itemFrom (pos n) = Of (record { 0 = cond (ltb noSuchItem n) noSuchItem n })
 itemFrom (negsuc zero) = Nothing
 itemFrom (negsuc (suc n)) = Of (record { 0 = noSuchItem })
 
--- a shop as four arrays: an item, a limit and how many requirements for each slot, and 32 codes of requirements for each
+-- a shop as four arrays: an item, a limit and how many requirements for each slot, and entryLimit codes of requirements for each
 pub record Arrays : Type 0 where
   pub items : List ℤ
   pub limits : List ℤ
@@ -33,7 +33,7 @@ arraysIn items limits codes lens = record { items = items; limits = limits; code
 
 -- ---- from arrays
 
--- the 32 codes of slot i
+-- the codes of slot i
 abbrev pub rowAt : List ℕ → ℕ → List ℕ
 rowAt codes i = take entryLimit (drop (entryLimit * i) codes)
 

@@ -4,7 +4,7 @@
 //! requirement there contradicts another one, so that none is left and the parse goes on. An If in
 //! each hiding block joins the condition on to the next one. Few blocks under a large condition and
 //! many under a small one are both quick; what lies between is tried in steps. Other shapes are
-//! blocks that hide all twenty slots under 32 requirements that stay, and a condition in which one
+//! blocks that hide all twenty slots under as many requirements that stay as a slot may have, and a condition in which one
 //! flag is named again and again. Hiding blocks that stand beside each other, and not on each other, are one shape more: the marks
 //! of the condition before serve none of them.
 
@@ -12,7 +12,7 @@ use crate::clock::{row, time};
 use compare::convert;
 use locustkeno::Script;
 use oracle::image;
-use oracle::plain::{self, Binary, Block, Code, Command, Expr, Sheet, Target, Unary};
+use oracle::plain::{self, Binary, Block, Code, Command, ENTRIES, Expr, Sheet, Target, Unary};
 use oracle::slots::{self, Input};
 use std::hint::black_box;
 
@@ -64,13 +64,13 @@ fn script(flags: usize, hiding: usize) -> plain::Script {
     under(pairs(1, flags), hiding, 1)
 }
 
-/// Blocks that hide all slots, under 32 flags that stay and 300 that do not.
+/// Blocks that hide all slots, under as many flags that stay as a slot may have and 300 that do not.
 fn all_slots() -> plain::Script {
-    let stay = (1..=32)
+    let stay = (1..=ENTRIES)
         .map(flag)
         .reduce(|left, right| Expr::binary(Binary::BitAnd, left, right));
-    let stay = stay.expect("there are 32");
-    let condition = Expr::binary(Binary::BitAnd, stay, pairs(33, 332));
+    let stay = stay.expect("there are some");
+    let condition = Expr::binary(Binary::BitAnd, stay, pairs(ENTRIES + 1, ENTRIES + 300));
     under(condition, 700, 20)
 }
 

@@ -38,7 +38,7 @@ PROGRAM = """fn main() {
         capi::lk_write(&ws, &val, &cw, &bw, 0, 0, 0, &mut bytes);
         let mut items = [0; 20];
         let mut limits = [0; 20];
-        let mut codes = [0; 640];
+        let mut codes = [0; 280];
         let mut lens = [0; 20];
         capi::lk_parse(&bytes, 0, 0, 1, 2, &ws, &val, &cw, &bw, 0, 0, 0, 0, &mut items, &mut limits, &mut codes, &mut lens);
         capi::lk_preview(&bytes, 0, 0, 1, 2, &items, &limits, &codes, &lens, &shorts, &bytes, &bytes, &shorts, &vars);

@@ -33,10 +33,10 @@ impl Refused {
             5 => "a block is named that is not there",
             6 => "the number given is not a block",
             7 => "the block given is not code",
-            8 => "the shop has an id outside the sheet, or over 32 entries in a slot",
+            8 => "the shop has an id outside the sheet, or over 14 entries in a slot",
             9 => "the compile would pass a limit of the script",
             10 => "the parse reaches a block that is not code",
-            11 => "the parse reads a 33rd requirement for a slot",
+            11 => "the parse reads a 15th requirement for a slot",
             12 => "the save has a wrong length or value",
             13 => {
                 "the run meets a block that is not code, or an unknown command, target or expression"

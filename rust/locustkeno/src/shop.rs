@@ -6,7 +6,7 @@ use std::fmt;
 /// The number of slots in a shop.
 pub const NUM_SLOTS: usize = 20;
 /// The most entries that a slot may be given.
-pub const ENTRIES: usize = 32;
+pub const ENTRIES: usize = 14;
 
 /// A requirement for an item to be visible in the shop; the order is by kind, then by number.
 #[derive(Debug, Copy, Clone, PartialEq, Eq, PartialOrd, Ord, Hash)]
@@ -33,7 +33,7 @@ pub struct Slot {
     /// The most of the item that the player can have.
     pub limit: i16,
     /// The requirements for the slot to be visible, in any order; one that is given twice counts
-    /// once, but both count for the 32 that may be given.
+    /// once, but both count for the [`ENTRIES`] that may be given.
     pub requirements: Vec<Requirement>,
 }
 
@@ -68,8 +68,8 @@ impl Shop {
         Self { arrays }
     }
 
-    /// The twenty slots. A slot that was given over 32 entries, with which every call refuses the shop
-    /// (8), shows the first 32.
+    /// The twenty slots. A slot that was given over [`ENTRIES`] entries, with which every call refuses the
+    /// shop (8), shows the first of them.
     pub fn slots(&self) -> Vec<Slot> {
         (0..NUM_SLOTS).map(|i| self.arrays.slot(i)).collect()
     }
@@ -98,10 +98,10 @@ mod crossing {
     use super::{ENTRIES, NUM_SLOTS, Requirement, Slot};
     use crate::{Atc, Item, ffi};
 
-    /// The codes of the requirements, 32 for each slot.
+    /// The codes of the requirements, as many for each slot as it may be given.
     pub type Codes = [u64; NUM_SLOTS * ENTRIES];
 
-    /// A shop as four arrays: no item is -1, and a length over 32 counts as that many entries.
+    /// A shop as four arrays: no item is -1, and a length over `ENTRIES` counts as that many entries.
     #[derive(Clone, PartialEq, Eq)]
     pub struct ShopArrays {
         pub items: [i32; NUM_SLOTS],
@@ -113,7 +113,7 @@ mod crossing {
     /// How many slots are handed to the library at most: one that it drops stands for all past the twentieth.
     const GIVEN: usize = NUM_SLOTS + 1;
 
-    /// The slots given, each with 32 codes, where they lie: nothing is allocated.
+    /// The slots given, each with `ENTRIES` codes, where they lie: nothing is allocated.
     pub struct Given {
         count: usize,
         items: [i32; GIVEN],
@@ -189,7 +189,7 @@ mod crossing {
             self.count < GIVEN
         }
 
-        /// One slot more. Entries past the 32nd have no place among the codes, but count.
+        /// One slot more. Entries past `ENTRIES` have no place among the codes, but count.
         pub fn push(&mut self, slot: &Slot) {
             let i = self.count;
             self.items[i] = slot.item.map_or(-1, |item| item.0.into());

@@ -150,7 +150,7 @@ fn on_a_small_stack() {
     let work = || {
         let script = Script::read(&long_chain()).unwrap();
         script.parse(&sheet(), 0).unwrap();
-        let script = compiled(&slot(7, 3, &[Requirement::HaveFlag(1); 32]));
+        let script = compiled(&slot(7, 3, &[Requirement::HaveFlag(1); 14]));
         assert_eq!(first(&script).requirements, [Requirement::HaveFlag(1)]);
     };
     let builder = thread::Builder::new().stack_size(SMALL_STACK);
@@ -166,6 +166,35 @@ fn too_many_entries() {
     assert_eq!(script.compile(&sheet(), 0, &unknown), Err(Refused(8)));
 }
 
+/// Fourteen entries are taken and read back, a fifteenth is refused, be it one given before.
+#[test]
+fn fourteen_entries() {
+    let flags: Vec<_> = (0..14).map(Requirement::HaveFlag).collect();
+    assert_eq!(first(&compiled(&slot(7, 3, &flags))).requirements, flags);
+    for fifteenth in [flags[0], Requirement::MissingFlag(0)] {
+        let given = [&flags[..], &[fifteenth]].concat();
+        let shop = Shop::with_slots([slot(7, 3, &given)]);
+        assert_eq!(one_return().compile(&sheet(), 0, &shop), Err(Refused(8)));
+    }
+}
+
+/// A block that hides slot 0 under so many flags.
+fn hidden_under(flags: u8) -> Script {
+    let mut image = vec![2, 1, 1, 3];
+    image.extend(vec![9; usize::from(flags) - 1]);
+    image.extend((0..flags).flat_map(|flag| [13, 11, 2 * flag]));
+    image.extend([0, 2, 0, 1, 1, 2, 0, 11, 0xD8, 9, 11, 0, 0, 0]);
+    Script::read(&image).unwrap()
+}
+
+#[test]
+fn fourteen_requirements() {
+    let flags: Vec<_> = (0..14).map(Requirement::MissingFlag).collect();
+    assert_eq!(first(&hidden_under(14)).requirements, flags);
+    let refused = hidden_under(15).parse(&sheet(), 0).unwrap_err();
+    assert_eq!(refused, Refused(11));
+}
+
 /// Further slots are dropped unchecked, missing ones are empty.
 #[test]
 fn any_number_of_slots() {
@@ -177,8 +206,8 @@ fn any_number_of_slots() {
         assert_eq!(shop.slots()[kept..], vec![Slot::default(); 20 - kept]);
         assert_eq!(one_return().compile(&sheet(), 0, &shop), Ok(()));
     }
-    // An item on no sheet and over 32 entries, as the 21st and as the 20th.
-    let bad = slot(65_535, 3, &[Requirement::HaveFlag(1); 33]);
+    // An item on no sheet and over 14 entries, as the 21st and as the 20th.
+    let bad = slot(65_535, 3, &[Requirement::HaveFlag(1); 15]);
     let mut slots = vec![given.clone(); 21];
     slots[20] = bad.clone();
     let dropped = Shop::with_slots(slots.clone());

@@ -3,7 +3,7 @@
 /// The number of slots in a shop.
 pub const SLOTS: usize = 20;
 /// The most entries that a slot may be given, and the most requirements parsing may leave in one.
-pub const ENTRIES: usize = 32;
+pub const ENTRIES: usize = 14;
 
 /// The id sheet: which items and attachments exist and which items are the timers.
 #[derive(Debug, Clone, PartialEq, Eq)]

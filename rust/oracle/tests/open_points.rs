@@ -158,7 +158,7 @@ fn by_document_01_refusal_8_judges_an_itemless_slot() {
 
 #[test]
 fn by_document_01_of_10_and_11_the_first_met() {
-    // Block 0 hides under 33 flags (or 32) and goes on to a placeholder.
+    // Block 0 hides under 15 flags (or 14) and goes on to a placeholder.
     let chain = |flags: usize| {
         let tests: String = (0..flags)
             .map(|f| format!(" 0D 0B {:02X}", 2 * f))
@@ -166,8 +166,8 @@ fn by_document_01_of_10_and_11_the_first_met() {
         let ands = "09 ".repeat(flags - 1);
         format!("{P} 03 01 01 03 {ands} {tests} 00 02 00 01 01 02 00 0B D8 09 0B 00 03 00 00")
     };
-    assert_eq!(printed(&bytes(&chain(33))), "refused 11\n");
-    assert_eq!(printed(&bytes(&chain(32))), "refused 10\n");
+    assert_eq!(printed(&bytes(&chain(15))), "refused 11\n");
+    assert_eq!(printed(&bytes(&chain(14))), "refused 10\n");
 }
 
 #[test]

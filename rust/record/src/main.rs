@@ -139,7 +139,7 @@ fn answers(cases: &[ParseCase]) -> BTreeMap<String, usize> {
 }
 
 /// How many of the inputs that can be read have another answer without document 01's rules: past
-/// 32 requirements, or otherwise, which leaves ids cut to 16 bits. A panic stands for a refusal.
+/// 14 requirements, or otherwise, which leaves ids cut to 16 bits. A panic stands for a refusal.
 fn differing(cases: &[ParseCase]) -> (usize, usize) {
     let (mut too_many, mut cut) = (0, 0);
     for (input, text) in cases {

@@ -4,7 +4,7 @@ use crate::make::{self, Maker};
 use crate::random::Random;
 use oracle::calls;
 use oracle::image::{BLOCKS, COMMANDS, put_number};
-use oracle::plain::{Binary, Block, Code, Command, Expr, Script, Target, Unary};
+use oracle::plain::{Binary, Block, Code, Command, ENTRIES, Expr, Script, Target, Unary};
 use oracle::slots::{self, Input};
 
 /// One input, by a kind of case that follows from `index`.
@@ -182,8 +182,8 @@ fn block(commands: Vec<Command>, next: Option<usize>) -> Block {
     })
 }
 
-/// A chain of hiding blocks whose conditions bring a slot to about 32 requirements, with a block
-/// that is not code before or behind the end.
+/// A chain of hiding blocks whose conditions bring a slot to about as many requirements as it may
+/// have, with a block that is not code before or behind the end.
 fn many_requirements(random: &mut Random) -> Input {
     let sheet = make::sheet(random);
     let mut maker = Maker {
@@ -191,12 +191,18 @@ fn many_requirements(random: &mut Random) -> Input {
         sheet: sheet.clone(),
         blocks: 5,
     };
-    let flags = maker.random.between(29, 35);
+    let flags = maker.random.between(ENTRIES - 3, ENTRIES + 3);
     let part = maker.random.between(1, flags - 1);
     let first = maker.random.pick(&[flags, part]);
-    let conditions = [many(&mut maker, 0, first), many(&mut maker, first, flags)];
+    let condition = many(&mut maker, 0, first);
+    // Pairs drop within one condition only: under the contrary one a slot gathers both.
+    let other = if maker.random.once_in(6) {
+        Expr::unary(Unary::Not, condition.clone())
+    } else {
+        many(&mut maker, first, flags)
+    };
     let mut blocks = Vec::new();
-    for (place, condition) in conditions.into_iter().enumerate() {
+    for (place, condition) in [condition, other].into_iter().enumerate() {
         blocks.push(block(vec![Command::If(condition, 0)], Some(2 * place + 1)));
         blocks.push(block(hide(), Some(2 * place + 2)));
     }
@@ -230,7 +236,7 @@ fn many(maker: &mut Maker, first: usize, end: usize) -> Expr {
         if maker.random.once_in(5) {
             test = Expr::unary(Unary::Not, test);
         }
-        if maker.random.once_in(60) {
+        if maker.random.once_in(25) {
             let against = Expr::unary(Unary::Not, test.clone());
             test = Expr::binary(Binary::BitAnd, test, against);
         }

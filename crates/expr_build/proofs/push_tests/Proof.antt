@@ -1,6 +1,7 @@
 use denote.Ref.{now}
 use mathlib.Core.Path.{_≡_, ap}
 use Prim.Native.Nat.{ℕ, _+_, _-_, _≤_, _<_}
+use Rattle.model.specs.Limits.{entryLimit}
 use lib.ListN.{length, getD}
 use native.Mathlib.Omega.{arith}
 use borrow.Author.Needs.{needs}
@@ -31,8 +32,8 @@ so-far : (c : tie.At-loop Inv-loop μ-loop) → PutExpr
     (nodesIn (c .loop .ws) (c .loop .val) (c .loop .at))
 so-far c = c .loop .inv .0 _ _ (c .before .push-test .ensures)
 
--- the array has 32 elements
-all-there : (c : tie.At-loop Inv-loop μ-loop) → length (c .before .before .before .before .before .before .args .codes .now) ≡ 32
+-- the array is a row
+all-there : (c : tie.At-loop Inv-loop μ-loop) → length (c .before .before .before .before .before .before .args .codes .now) ≡ entryLimit
 all-there c = c .before .before .before .before .before .capacity .ensures .0
 
 -- there is room for one more test, since there is for all

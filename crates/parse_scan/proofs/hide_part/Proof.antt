@@ -1,6 +1,7 @@
 -- `hide_part` meets its contract: the row is a part of the codes. Assumes nothing.
 use Prim.Native.Nat.{_+_, _-_}
 use native.Mathlib.Omega.{arith}
+use Rattle.model.specs.Limits.{entryLimit}
 use Rattle.parse_scan.specs.Rows.{part-hid}
 use borrow.Author.Needs.{needs}
 use Rattle.parse_scan.proofs.hide_part.Statement.{statement}
@@ -30,7 +31,7 @@ same-length c = search needs
 returns : tie.Need-returns
 returns c =
     let a = c .before .before .before .before .before .args in
-    part-hid (a .codes .now) (a .start) _ (a .start + 32 - a .start) _ _ _ (omega arith) (c .before .before .hide-row .ensures)
+    part-hid (a .codes .now) (a .start) _ (a .start + entryLimit - a .start) _ _ _ (omega arith) (c .before .before .hide-row .ensures)
 
 pub hide-part-spec : {M : Type 1} → statement M
 hide-part-spec =

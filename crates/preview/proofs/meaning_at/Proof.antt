@@ -52,7 +52,7 @@ returns : tie.Need-returns
 unfolding slotAt
 returns c = λ v.
     let s = c .before .before .before .before .before .before .before .before .before .before in
-    let w : 32 * s .args .i + 32 - 32 * s .args .i ≡ entryLimit = omega arith in
+    let w : entryLimit * s .args .i + entryLimit - entryLimit * s .args .i ≡ entryLimit = omega arith in
     let l = toZ-ofZ {w = w16} {z = getD (s .args .limits .now) (s .args .i) (pos 0)} (record { sfits = c .before .before .before .meaning-of-arg .given }) in
     rw (l, c .before .before .before .before .item-at .ensures, w) at (c .meaning-of .ensures v)
 
