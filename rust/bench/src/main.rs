@@ -1,8 +1,9 @@
 //! Times the proved library beside the Rust sides, on the same inputs: microseconds a call, the
-//! best and the median of 31 rounds.
+//! best and the median of 31 rounds. With the word `worst` only the slowest inputs that were found.
 
 mod cases;
 mod clock;
+mod place;
 mod program;
 mod shops;
 mod worst;
@@ -18,10 +19,21 @@ use std::hint::black_box;
 const PLACES: usize = 24;
 
 fn main() {
+    place::hold();
     println!(
         "{:8} {:12} {:28} {:>10} {:>10}",
         "call", "script", "side", "best us", "median us"
     );
+    if std::env::args().nth(1).is_none_or(|word| word != "worst") {
+        ordinary();
+    }
+    println!("-- hiding blocks under one large condition");
+    worst::all();
+    program::worst();
+}
+
+/// What users do, on scripts of four sizes, and a run of many blocks.
+fn ordinary() {
     for case in cases::all() {
         let a = case.script.arrays();
         println!(
@@ -40,9 +52,6 @@ fn main() {
     }
     println!("-- a loop of two blocks, entered 100,000 times in all");
     long_run();
-    println!("-- hiding blocks under one large condition");
-    worst::all();
-    program::worst();
 }
 
 fn read(case: &Case) {

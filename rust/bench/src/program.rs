@@ -49,7 +49,10 @@ pub fn case(case: &Case) {
 /// The slowest inputs that were found, and one of no use at all.
 pub fn worst() {
     for hiding in [500, 1_000, 1_500, 2_000, 2_500, 3_000] {
-        timed(&format!("{hiding} hide"), &worst::by_bytes(hiding));
+        timed(&format!("{hiding} hide"), &worst::chain_bytes(hiding));
+    }
+    for hiding in [500, 1_000, 1_500, 2_000] {
+        timed(&format!("{hiding} beside"), &worst::beside_bytes(hiding));
     }
     timed("65,537 bytes", &[0; slots::INPUT + 1]);
 }

@@ -84,8 +84,8 @@ fn again(many: usize) -> Expr {
 
 /// Under a large condition a chain of Ifs, each with a hiding block beside the next If: by next, or by else, so that the
 /// deepest one comes first. No hiding block stands on the condition of the one before.
-fn siblings(hiding: usize, by_else: bool) -> plain::Script {
-    let mut blocks = vec![block(vec![Command::If(pairs(1, room(hiding)), 0)], Some(1))];
+fn siblings(flags: usize, hiding: usize, by_else: bool) -> plain::Script {
+    let mut blocks = vec![block(vec![Command::If(pairs(1, flags), 0)], Some(1))];
     for k in 0..hiding {
         let (hides, on) = (
             2 * k + 2,
@@ -114,13 +114,23 @@ pub fn by_nodes(hiding: usize) -> plain::Script {
     script(room(hiding), hiding)
 }
 
+/// Hiding blocks on each other as an input of `slots`.
+pub fn chain_bytes(hiding: usize) -> Vec<u8> {
+    by_bytes(hiding, |flags| script(flags, hiding))
+}
+
+/// Hiding blocks beside each other as an input of `slots`.
+pub fn beside_bytes(hiding: usize) -> Vec<u8> {
+    by_bytes(hiding, |flags| siblings(flags, hiding, false))
+}
+
 /// As many flags as an input of `slots` with so many hiding blocks has room for.
-pub fn by_bytes(hiding: usize) -> Vec<u8> {
+fn by_bytes(hiding: usize, script: impl Fn(usize) -> plain::Script) -> Vec<u8> {
     let input = |flags| {
         slots::write(&Input {
             sheet: sheet(),
             setup: 0,
-            script: script(flags, hiding),
+            script: script(flags),
         })
     };
     let (mut fits, mut over) = (1, room(hiding) + 1);
@@ -154,10 +164,10 @@ fn others() {
     let shapes = [
         ("all slots", all_slots()),
         ("one flag", under(again(6_800), 4_000, 1)),
-        ("500 beside", siblings(500, false)),
-        ("1000 beside", siblings(1_000, false)),
-        ("2000 beside", siblings(2_000, false)),
-        ("2000 by else", siblings(2_000, true)),
+        ("500 beside", siblings(room(500), 500, false)),
+        ("1000 beside", siblings(room(1_000), 1_000, false)),
+        ("2000 beside", siblings(room(2_000), 2_000, false)),
+        ("2000 by else", siblings(room(2_000), 2_000, true)),
     ];
     for (name, plain) in shapes {
         let script = Script::read(&image::write(&plain)).expect("it is within the limits");
