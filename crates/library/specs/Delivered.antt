@@ -10,7 +10,8 @@ use Rattle.model.specs.Save.{Save}
 use Rattle.model.specs.Sheet.{Sheet, saveRefusal}
 use Rattle.model.specs.Shop.{Slot, withSlots}
 use Rattle.model.specs.Normal.{normalShop}
-use Rattle.model.specs.Memory.{Memory, memoryIn, blockIn}
+use Rattle.model.specs.Memory.{Memory, blockIn}
+use Rattle.memory.specs.View.{memoryOf}
 use Rattle.model.specs.Preview.{previewCall}
 use Rattle.model.specs.RecordCalls.{runIn, parseIn}
 use Rattle.model.specs.Lists.{Along, NoneAppended, Step, afterAll, compiling, lastAt}
@@ -28,7 +29,7 @@ use Rattle.preview.specs.Accepted.{with-all}
 use Rattle.capi.specs.declared.Kept.{Kept}
 use Rattle.capi.specs.declared.Ran.{Ran}
 use Rattle.capi.specs.declared.Previewed.{Previewed}
-use Rattle.capi.specs.Answers.{ranAs, previewedAs}
+use Rattle.capi.specs.Answers.{countsIn, ranAs, previewedAs}
 use Rattle.engine.specs.Delivered as engine
 
 -- an lk_compile as it was made: the block and the arrays given, what it answered and what it left in the script's arrays
@@ -43,7 +44,7 @@ pub record Made : Type 0 where
 
 -- the script as it left it: the arrays, and the counts that it answered
 abbrev pub leftBy : Made → Memory
-leftBy x = memoryIn (x .ws) (x .val) (x .cw) (x .bw) (x .answer .nodes) (x .answer .commands) (x .answer .blocks)
+leftBy x = memoryOf (x .ws) (x .val) (x .cw) (x .bw) (countsIn (x .answer))
 
 -- the shop that arrays stand for
 abbrev pub shopOf : Arrays → List Slot

@@ -26,7 +26,7 @@ use Rattle.image_read.specs.Outcome.{Outcome, held, nothing, readInto}
 use Rattle.image_write.specs.Call.{wrote, lengthOf, lengthIn}
 use Rattle.capi.specs.declared.Kept.{Kept}
 use Rattle.capi.specs.declared.Written.{Written}
-use Rattle.capi.specs.Answers.{outcomeBy, readAs}
+use Rattle.capi.specs.Answers.{countsIn, outcomeBy, readAs}
 use Rattle.engine.specs.Files.{read-writes, read-short, written-reads}
 
 -- the four arrays of a script, of any content
@@ -38,7 +38,7 @@ pub record Lent : Type 0 where
 
 -- with the kept counts that a call answered, or none
 abbrev pub kept : Lent → Kept → Memory
-kept a r = memoryOf (a .ws) (a .val) (a .cw) (a .bw) r
+kept a r = memoryOf (a .ws) (a .val) (a .cw) (a .bw) (countsIn r)
 
 abbrev pub empty : Lent → Memory
 empty a = memoryIn (a .ws) (a .val) (a .cw) (a .bw) 0 0 0
