@@ -113,13 +113,6 @@ pub fn shifted(x: i32) -> u64
     b - ZERO
 }
 
-pub fn code_of(kind: u64, number: i32) -> u64
-    requires { ⌜ kind ≤ 5 ⌝ }
-    ensures { λ r. ⌜ r ≡ kind * wide + shift number ⌝ }
-{
-    kind * KIND + shifted(number)
-}
-
 // From the code of a Have to that of its Missing.
 pub fn missing_of(code: u64) -> u64
     requires { ⌜ code + wide < 18446744073709551616 ⌝ }
