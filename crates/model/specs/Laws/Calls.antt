@@ -60,7 +60,7 @@ module _ (h : Sheet) (n : ℕ) (sc : Script) (c : Call) (clean : (b : ℕ) → n
       let z : compileRefusal h sc c ≡ 0 = eqb-true _ _ (and-left _ _ e) in
       let t : eqb (c .setup) b ≡ true = and-right (eqb (compileRefusal h sc c) 0) _ e in
       let w : c .setup ≡ b = eqb-true _ _ t in
-      let q = compile-passed h (scriptRefusal sc) sc c z in
+      let q = compile-passed h (scriptRefusal sc) 0 sc c z in
       record {
         low = low-once t (omega (arith, q .inside)) (decLe n b);
         link = here-linked h sc c n b p z w;

@@ -96,7 +96,7 @@ module _ (h : Sheet) (sc : Script) (c : Call) where
   -- what an accepted compile leaves at its setup block
   pub here-linked : (n b : ℕ) → n ≤ length (sc .blocks) → compileRefusal h sc c ≡ 0 → c .setup ≡ b → Linked h n (compiled h sc c .blocks) b (withSlots (c .shop))
   unfolding compiled
-  here-linked n b p z w = rw (← w, z) (fresh-linked n p (compile-passed h (scriptRefusal sc) sc c z .inside))
+  here-linked n b p z w = rw (← w, z) (fresh-linked n p (compile-passed h (scriptRefusal sc) 0 sc c z .inside))
 
   -- a shop linked before stays where nothing is accepted at its blocks
   pub linked-once : (n b : ℕ) (xs : List Slot) → Linked h n (sc .blocks) b xs → b < length (sc .blocks) → acceptedAt (compiles h) sc c b ≡ false
