@@ -53,6 +53,10 @@ first4 a b c d e =
 pub setup-inside : (sc : Script) (b : ℕ) → setupRefusal sc b ≡ 0 → b < length (sc .blocks)
 setup-inside sc b e = ltb-true _ _ (passed _ 5 (first2 (check (ltb b (length (sc .blocks))) notBlock) (check (isCode (blockAt (sc .blocks) b)) notCode) e .0))
 
+-- which is code
+pub setup-code : (sc : Script) (b : ℕ) → setupRefusal sc b ≡ 0 → isCode (blockAt (sc .blocks) b) ≡ true
+setup-code sc b e = passed _ 6 (first2 (check (ltb b (length (sc .blocks))) notBlock) (check (isCode (blockAt (sc .blocks) b)) notCode) e .1)
+
 -- the checks of a call: 1, 2 to 5, 6 and 7
 pub shared-passed : (h : Sheet) (j : ℕ) (sc : Script) (b : ℕ) → sharedRefusal h j sc b ≡ 0 → (sheetRefusal h ≡ 0) × (j ≡ 0) × (setupRefusal sc b ≡ 0)
 unfolding sharedRefusal
