@@ -13,7 +13,7 @@ use Rattle.shop.specs.Shapes.{slotsOf}
 abbrev pub callOf : ℕ → Shop → Call
 callOf b s = record { setup = b; shop = slotsOf s }
 
--- the refusal or 0, and the record after the call with its marks and count: refused, they are as they were
+-- the refusal or 0, and the record after the call with its birth marks and its count of accepted compiles: refused, all are as they were
 pub record CompiledAs (h : Model.Sheet) (k : Born) (c : Call) (refusal : ℕ) (after : Born) : Type 0 where
   pub answer : refusal ≡ compileRefusalIn h k c
   pub is : after ≡ compiledIn h k c

@@ -16,7 +16,7 @@ codedOf ws vs cw k = codedIn ws vs cw (k .nodes) (k .commands)
 abbrev pub memoryOf : List ℕ → List ℤ → List ℕ → List ℕ → Counts → Memory
 memoryOf ws vs cw bw k = memoryIn ws vs cw bw (k .nodes) (k .commands) (k .blocks)
 
--- with where each block came from: birth marks and the count of accepted compiles (02, A.2)
+-- with where each block came from, and the count of accepted compiles (02, A.2)
 abbrev pub bornOf : List ℕ → List ℤ → List ℕ → List ℕ → Counts → List ℕ → ℕ → Born
 bornOf ws vs cw bw k births compiles = record { memory = memoryOf ws vs cw bw k; births = births; compiles = compiles }
 
