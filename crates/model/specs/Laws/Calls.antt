@@ -1,4 +1,4 @@
--- Lists of compiles: at a block where one was accepted the last shop accepted there is linked and the checks of run and parse pass, other blocks of the start are as they were. Assumes nothing.
+-- Lists of compiles: at a block where one was accepted the last shop accepted there is linked and the checks of run and parse pass, as they do at appended blocks; other blocks of the start are as they were. Assumes nothing.
 use mathlib.Core.Path.{_≡_, refl, sym, _∙_, subst}
 use mathlib.Core.Bool.{Bool, true, false, cond, true≢false}
 use mathlib.Core.Option.{Option, none, some}

@@ -1,4 +1,4 @@
--- One compile: the setup block links to the shop's blocks, which were appended, and other blocks are as they were. Assumes nothing.
+-- One compile: the setup block links to the shop's blocks, which were appended and are code, and other blocks are as they were. Assumes nothing.
 use mathlib.Core.Path.{_≡_, refl, sym, ap, _∙_}
 use mathlib.Core.Bool.{Bool, true, false, cond, _&&_}
 use mathlib.Core.Logic.{_≢_}
