@@ -4,9 +4,8 @@ use mathlib.Core.List.{List}
 use Prim.Native.Nat.{ℕ}
 use lib.IntN.{ℤ}
 use Rattle.model.specs.Sheet as Model
-use Rattle.model.specs.Memory.{Memory}
 use Rattle.model.specs.Compile.{Call}
-use Rattle.model.specs.RecordCalls.{compileRefusalIn, compiledIn}
+use Rattle.model.specs.RecordCalls.{Born, compileRefusalIn, compiledIn}
 use Rattle.shop.specs.declared.Shop.{Shop}
 use Rattle.shop.specs.Shapes.{slotsOf}
 
@@ -14,7 +13,7 @@ use Rattle.shop.specs.Shapes.{slotsOf}
 abbrev pub callOf : ℕ → Shop → Call
 callOf b s = record { setup = b; shop = slotsOf s }
 
--- the refusal or 0, and the record after the call: refused, it is as it was
-pub record CompiledAs (h : Model.Sheet) (m : Memory) (c : Call) (refusal : ℕ) (after : Memory) : Type 0 where
-  pub answer : refusal ≡ compileRefusalIn h m c
-  pub is : after ≡ compiledIn h m c
+-- the refusal or 0, and the record after the call with its birth marks and its count of accepted compiles: refused, all are as they were
+pub record CompiledAs (h : Model.Sheet) (k : Born) (c : Call) (refusal : ℕ) (after : Born) : Type 0 where
+  pub answer : refusal ≡ compileRefusalIn h k c
+  pub is : after ≡ compiledIn h k c

@@ -1,13 +1,19 @@
-// The call compile: its checks in 01's order, then the shop's blocks appended and the setup block linked to them.
+// The call compile: its checks in the order of 01 and 02, then the shop's blocks appended and the setup block linked to them.
 ghost use mathlib.Core.Path.{_≡_};
 ghost use Rattle.model.specs.RecordCalls.{compileRefusalIn};
-ghost use Rattle.memory.specs.View.{memoryOf};
+ghost use Rattle.memory.specs.View.{bornOf};
 ghost use Rattle.shop.specs.Shapes.{sheetOf};
 ghost use Rattle.shop_arrays.specs.Arrays.{arraysIn, shopFrom};
 ghost use Rattle.compile.specs.Answer.{callOf, CompiledAs};
+pub mod births;
+
+use births::birth_of;
+use births::mark_births;
+use births::one_compile;
 use checks::check_call;
 use compile_sizes::fits;
 use compile_slots::compile_shop;
+use memory::Births;
 use memory::BlockWords;
 use memory::CommandWords;
 use memory::Counts;
@@ -23,13 +29,14 @@ use shop::Shop;
 use shop_arrays::arrays_of;
 use shop_arrays::check_arrays;
 
-// The refusal or 0, and the counts of the script after the call.
+// The refusal or 0, the counts of the script after the call, and the count of its accepted compiles.
 pub struct Compiled {
     pub refusal: u8,
     pub counts: Counts,
+    pub compiles: u32,
 }
 
-// 1, 2 to 5, 6, 7, 8, 9 in this order, before anything is written.
+// 1, 2 to 5, 6, 7, 17, 8, 9 in this order, before anything is written.
 fn check_compile(
     attached: &[u8],
     sheet: Sheet,
@@ -37,18 +44,23 @@ fn check_compile(
     val: &Values,
     cw: &CommandWords,
     bw: &BlockWords,
+    births: &Births,
     counts: Counts,
+    compiles: u32,
     setup: BlockNo,
     items: &[i32; SLOTS],
     limits: &[i16; SLOTS],
     codes: &Codes,
     lens: &[u8; SLOTS],
 ) -> u8
-    ensures { λ r. ⌜ r ≡ compileRefusalIn (sheetOf (now (attached .entry)) sheet) (memoryOf (now (ws .entry)) (now (val .entry)) (now (cw .entry)) (now (bw .entry)) counts) (callOf (setup .0) (shopFrom (arraysIn (now (items .entry)) (now (limits .entry)) (now (codes .entry)) (now (lens .entry))))) ⌝ }
+    ensures { λ r. ⌜ r ≡ compileRefusalIn (sheetOf (now (attached .entry)) sheet) (bornOf (now (ws .entry)) (now (val .entry)) (now (cw .entry)) (now (bw .entry)) counts (now (births .entry)) compiles) (callOf (setup .0) (shopFrom (arraysIn (now (items .entry)) (now (limits .entry)) (now (codes .entry)) (now (lens .entry))))) ⌝ }
 {
     let first = check_call(attached, sheet, ws, val, cw, bw, counts, setup);
     if first != 0 {
         return first;
+    }
+    if birth_of(births, setup) != 0 {
+        return 17;
     }
     if !check_arrays(attached, sheet, items, codes, lens) {
         return 8;
@@ -59,7 +71,7 @@ fn check_compile(
     0
 }
 
-// ShopCompiler::compile with replace, of the shop that the arrays stand for: the blocks go to the end, the setup block becomes empty code whose next is the root, the block last pushed.
+// ShopCompiler::compile with replace, of the shop that the arrays stand for: the blocks go to the end, the setup block becomes empty code whose next is the root, the block last pushed. The fresh blocks bear the new count of compiles.
 pub fn compile_arrays(
     attached: &[u8],
     sheet: Sheet,
@@ -67,14 +79,16 @@ pub fn compile_arrays(
     val: &mut Values,
     cw: &mut CommandWords,
     bw: &mut BlockWords,
+    births: &mut Births,
     counts: Counts,
+    compiles: u32,
     setup: BlockNo,
     items: &[i32; SLOTS],
     limits: &[i16; SLOTS],
     codes: &Codes,
     lens: &[u8; SLOTS],
 ) -> Compiled
-    ensures { λ r. ⌜ CompiledAs (sheetOf (now (attached .entry)) sheet) (memoryOf (now (ws .entry)) (now (val .entry)) (now (cw .entry)) (now (bw .entry)) counts) (callOf (setup .0) (shopFrom (arraysIn (now (items .entry)) (now (limits .entry)) (now (codes .entry)) (now (lens .entry))))) (r .refusal) (memoryOf (now (ws .exit)) (now (val .exit)) (now (cw .exit)) (now (bw .exit)) (r .counts)) ⌝ }
+    ensures { λ r. ⌜ CompiledAs (sheetOf (now (attached .entry)) sheet) (bornOf (now (ws .entry)) (now (val .entry)) (now (cw .entry)) (now (bw .entry)) counts (now (births .entry)) compiles) (callOf (setup .0) (shopFrom (arraysIn (now (items .entry)) (now (limits .entry)) (now (codes .entry)) (now (lens .entry))))) (r .refusal) (bornOf (now (ws .exit)) (now (val .exit)) (now (cw .exit)) (now (bw .exit)) (r .counts) (now (births .exit)) (r .compiles)) ⌝ }
 {
     let refused = check_compile(
         attached,
@@ -83,7 +97,9 @@ pub fn compile_arrays(
         val,
         cw,
         bw,
+        births,
         counts,
+        compiles,
         setup,
         items,
         limits,
@@ -94,6 +110,7 @@ pub fn compile_arrays(
         return Compiled {
             refusal: refused,
             counts: counts,
+            compiles: compiles,
         };
     }
     let after = compile_shop(
@@ -110,9 +127,12 @@ pub fn compile_arrays(
         lens,
     );
     set_block(bw, setup.0 as u16, 1, 0, 0, after.blocks, 0);
+    let mark = one_compile(compiles);
+    mark_births(births, counts.blocks, after.blocks, mark);
     Compiled {
         refusal: 0,
         counts: after,
+        compiles: mark,
     }
 }
 
@@ -124,11 +144,13 @@ pub fn compile(
     val: &mut Values,
     cw: &mut CommandWords,
     bw: &mut BlockWords,
+    births: &mut Births,
     counts: Counts,
+    compiles: u32,
     setup: BlockNo,
     shop: Shop,
 ) -> Compiled
-    ensures { λ r. ⌜ CompiledAs (sheetOf (now (attached .entry)) sheet) (memoryOf (now (ws .entry)) (now (val .entry)) (now (cw .entry)) (now (bw .entry)) counts) (callOf (setup .0) shop) (r .refusal) (memoryOf (now (ws .exit)) (now (val .exit)) (now (cw .exit)) (now (bw .exit)) (r .counts)) ⌝ }
+    ensures { λ r. ⌜ CompiledAs (sheetOf (now (attached .entry)) sheet) (bornOf (now (ws .entry)) (now (val .entry)) (now (cw .entry)) (now (bw .entry)) counts (now (births .entry)) compiles) (callOf (setup .0) shop) (r .refusal) (bornOf (now (ws .exit)) (now (val .exit)) (now (cw .exit)) (now (bw .exit)) (r .counts) (now (births .exit)) (r .compiles)) ⌝ }
 {
     let mut items = [-1; SLOTS];
     let mut limits = [0; SLOTS];
@@ -142,7 +164,9 @@ pub fn compile(
         val,
         cw,
         bw,
+        births,
         counts,
+        compiles,
         setup,
         &items,
         &limits,

@@ -1,3 +1,4 @@
+pub mod Born
 pub mod Records
 pub mod Files
 pub mod Delivered

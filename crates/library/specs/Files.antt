@@ -5,8 +5,9 @@ use Prim.Native.Nat.{ℕ, zero, suc, _≤_, _<_}
 use native.Mathlib.Omega.{arith}
 use lib.Dec.{leb}
 use lib.IntN.{ℤ}
-use lib.ListN.{length, take, drop}
+use lib.ListN.{length, replicate, take, drop}
 use lib.Seq.{take-at}
+use Rattle.model.specs.Limits.{blockLimit}
 use Rattle.model.specs.Refusal.{check, firstOf, sliceShort}
 use Rattle.model.specs.Reading.{Answer, got, refused, refusalOf}
 use Rattle.model.specs.Script.{Block}
@@ -29,12 +30,13 @@ use Rattle.capi.specs.declared.Written.{Written}
 use Rattle.capi.specs.Answers.{countsIn, outcomeBy, readAs}
 use Rattle.engine.specs.Files.{read-writes, read-short, written-reads}
 
--- the four arrays of a script, of any content
+-- the five arrays of a script, of any content
 pub record Lent : Type 0 where
   pub ws : List ℕ
   pub val : List ℤ
   pub cw : List ℕ
   pub bw : List ℕ
+  pub births : List ℕ
 
 -- with the kept counts that a call answered, or none
 abbrev pub kept : Lent → Kept → Memory
@@ -43,9 +45,9 @@ kept a r = memoryOf (a .ws) (a .val) (a .cw) (a .bw) (countsIn r)
 abbrev pub empty : Lent → Memory
 empty a = memoryIn (a .ws) (a .val) (a .cw) (a .bw) 0 0 0
 
--- lk_read of some bytes into the arrays a answered r and left b, as it promises
+-- lk_read of some bytes into the arrays a answered r and left b, as it promises: the image carries no marks (02, A.2)
 abbrev pub ReadBy : List ℕ → Lent → Kept → Lent → Type 0
-ReadBy bytes a r b = readAs r (b .ws) (b .val) (b .cw) (b .bw) ≡ readInto (empty a) (readImage bytes)
+ReadBy bytes a r b = (readAs r (b .ws) (b .val) (b .cw) (b .bw) ≡ readInto (empty a) (readImage bytes)) × (b .births ≡ replicate blockLimit 0) × (r .compiles ≡ 0)
 
 -- lk_write of a script into a slice answered w and left the slice out′, as it promises
 abbrev pub WrittenBy : Memory → List ℕ → Written → List ℕ → Type 0
@@ -61,7 +63,7 @@ pub record Held (bytes : List ℕ) (a : Lent) (m : Memory) : Type 0 where
 
 read-held : (bytes : List ℕ) (a : Lent) (r : Kept) (b : Lent) → ReadBy bytes a r b → r .refusal ≡ 0 → Held bytes a (kept b r)
 unfolding readAs readInto
-read-held bytes a r b p e = by (readImage bytes) refl (rw e at p)
+read-held bytes a r b p e = by (readImage bytes) refl (rw e at (p .0))
   where
     by : (x : Answer (List Block)) → readImage bytes ≡ x → held (kept b r) ≡ readInto (empty a) x → Held bytes a (kept b r)
     by (got bs t) q u = record { blocks = bs; rest = t; was = q; is = cc }
@@ -132,7 +134,7 @@ module _ (m : Memory) (out : List ℕ) (w : Written) (out′ : List ℕ) (writte
   pub written-read : (a : Lent) → Long (empty a) → (r : Kept) (b : Lent) → ReadBy (take (w .len) out′) a r b → (r .refusal ≡ 0) × (scriptOf (kept b r) .blocks ≡ scriptOf m .blocks)
   unfolding readAs readInto
   written-read a long r b read =
-      let z = accepted (r .refusal) (read ∙ ap (readInto (empty a)) reads) in
+      let z = accepted (r .refusal) (read .0 ∙ ap (readInto (empty a)) reads) in
       let k = read-held (take (w .len) out′) a r b read z in
       let e : k .blocks ≡ scriptOf m .blocks = cc (k .was, reads) in
       (z, ap (λ (x : Memory). scriptOf x .blocks) (k .is) ∙ read-blocks (empty a) (none-kept a) long (take (w .len) out′) (k .blocks) (k .rest) (k .was) ∙ e)

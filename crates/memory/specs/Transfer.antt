@@ -129,7 +129,7 @@ compile-transfer h m c bs r p g a t e =
     let sc = scriptOf m in
     let xs = freshBlocks h sc c in
     let k = rootOf h (length (sc .blocks)) 0 (withSlots (c .shop)) in
-    let u = compile-passed h (scriptRefusal sc) sc c a in
+    let u = compile-passed h (scriptRefusal sc) 0 sc c a in
     let s = judged-sound m bs r p .sound in
     let w = transfer m (sc .blocks) [] xs (c .setup) k (accepted-record m s (u .judged)) g (u .inside) (kept-judged h sc c a) in
     subst (λ (v : Memory). Sound v × Long v × (scriptOf v ≡ appended h sc c) × (judgedRecord v ≡ got (appended h sc c .blocks) [])) (sym e)

@@ -3,6 +3,7 @@ use mathlib.Core.List.{List}
 use Prim.Native.Nat.{ℕ}
 use lib.IntN.{ℤ}
 use Rattle.model.specs.Memory.{Nodes, Coded, Memory, nodesIn, codedIn, memoryIn}
+use Rattle.model.specs.RecordCalls.{Born}
 use Rattle.memory.specs.declared.Counts.{Counts}
 
 -- with its kept counts
@@ -14,6 +15,10 @@ codedOf ws vs cw k = codedIn ws vs cw (k .nodes) (k .commands)
 
 abbrev pub memoryOf : List ℕ → List ℤ → List ℕ → List ℕ → Counts → Memory
 memoryOf ws vs cw bw k = memoryIn ws vs cw bw (k .nodes) (k .commands) (k .blocks)
+
+-- with where each block came from, and the count of accepted compiles (02, A.2)
+abbrev pub bornOf : List ℕ → List ℤ → List ℕ → List ℕ → Counts → List ℕ → ℕ → Born
+bornOf ws vs cw bw k births compiles = record { memory = memoryOf ws vs cw bw k; births = births; compiles = compiles }
 
 -- with nothing in it, as an image is read into
 abbrev pub emptyIn : List ℕ → List ℤ → List ℕ → List ℕ → Memory

@@ -38,6 +38,9 @@ pub type NodeWords = [u16; NODE_WORDS];
 
 pub type Values = [i32; NODES];
 
+// The birth mark of each place of a block (02, A.2); run, parse and write do not take it.
+pub type Births = [u32; BLOCKS];
+
 // The kept counts of a script.
 pub struct Counts {
     pub nodes: u16,

@@ -7,7 +7,7 @@ use lib.Dec.{leb, eqb}
 use lib.ListN.{set, length}
 use lib.IntN.{ℤ, pos, negsuc}
 use Rattle.model.specs.Limits.{blockLimit, commandLimit, nodeLimit, itemFirst, countFirst}
-use Rattle.model.specs.Refusal.{check, firstOf, noRoom}
+use Rattle.model.specs.Refusal.{check, firstOf, noRoom, bornLater}
 use Rattle.model.specs.Expr.{Expr, two, one, imm16, negate, imm}
 use Rattle.model.specs.declared.Op2.the-variants.{Equal, NotEqual, Less, Subtract, BitAnd, BitOr}
 use Rattle.model.specs.declared.Op1.the-variants.{Flag, Variable, Item, Atc, Time}
@@ -206,13 +206,14 @@ hasRoom l sc xs =
     leb (length (sc .blocks) + length xs) (l .blocks)
     && (leb (sc .commands + sumOf blockCommands xs) (l .commands) && leb (sc .nodes + sumOf blockNodes xs) (l .nodes))
 
--- 1 to 7, 8, 9; j is what the judgement of the script answered
-unfoldable pub compileChecks : Sheet → ℕ → Script → Call → ℕ
-compileChecks h j sc c =
-    firstOf (sharedRefusal h j sc (c .setup) ∷ shopRefusal h (c .shop) ∷ check (hasRoom discLimits sc (freshBlocks h sc c)) noRoom ∷ [])
+-- 1 to 7, 17, 8, 9; j is what the judgement of the script answered, n the birth mark of the setup block (02, A.2: 17 right after 7)
+unfoldable pub compileChecks : Sheet → ℕ → ℕ → Script → Call → ℕ
+compileChecks h j n sc c =
+    firstOf (sharedRefusal h j sc (c .setup) ∷ check (eqb n 0) bornLater ∷ shopRefusal h (c .shop) ∷ check (hasRoom discLimits sc (freshBlocks h sc c)) noRoom ∷ [])
 
+-- at a block whose mark is 0, as document 01 has it
 abbrev pub compileRefusal : Sheet → Script → Call → ℕ
-compileRefusal h sc c = compileChecks h (scriptRefusal sc) sc c
+compileRefusal h sc c = compileChecks h (scriptRefusal sc) 0 sc c
 
 -- the setup block becomes empty code, next the root
 unfoldable pub redirect : ℕ → Block

@@ -5,6 +5,7 @@ pub mod Writes
 pub mod SlotRuns
 pub mod Runs
 pub mod Sets
+pub mod AllCode
 pub mod Compiled
 pub mod Walks
 pub mod SlotReads

@@ -54,6 +54,10 @@ itemFirst = 600
 abbrev pub countFirst : ℕ
 countFirst = 620
 
+-- 02, A.2: where the count of accepted compiles stays
+abbrev pub mostCompiles : ℕ
+mostCompiles = 4294967295
+
 -- demand 3: the blocks after which the run of a compiled shop has reached Return
 abbrev pub runBlocks : ℕ
 runBlocks = 82

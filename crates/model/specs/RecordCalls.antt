@@ -1,9 +1,11 @@
 -- The calls on a script record in memory, with all their checks: those of a script, the record's own judgement in the place of 2 to 5 (01, Script and Refusals). Assumes nothing: these are definitions.
 use mathlib.Core.Bool.{cond}
 use mathlib.Core.List.{List}
-use Prim.Native.Nat.{ℕ}
-use lib.Dec.{eqb}
-use lib.ListN.{length}
+use Prim.Native.Nat.{ℕ, suc}
+use lib.Dec.{eqb, ltb}
+use lib.ListN.{getD, length, replicate}
+use lib.Seq.{sets}
+use Rattle.model.specs.Limits.{mostCompiles}
 use Rattle.model.specs.Save.{Save}
 use Rattle.model.specs.Sheet.{Sheet}
 use Rattle.model.specs.Shop.{withSlots}
@@ -23,15 +25,43 @@ recordRefusal m = refusalOf (judgedRecord m)
 unfoldable pub callIn : Sheet → Memory → ℕ → ℕ
 callIn h m b = sharedRefusal h (recordRefusal m) (scriptOf m) b
 
-unfoldable pub compileRefusalIn : Sheet → Memory → Call → ℕ
-compileRefusalIn h m c = compileChecks h (recordRefusal m) (scriptOf m) c
+-- ---- compile, which also takes where each block came from (02, A.2)
 
--- the fresh blocks appended at the counts, the setup block emptied and linked to the root; refused, nothing changes
-unfoldable pub compiledIn : Sheet → Memory → Call → Memory
-compiledIn h m c =
-    cond (eqb (compileRefusalIn h m c) 0)
-    (redirectIn (putBlocks m (freshBlocks h (scriptOf m) c)) (c .setup) (rootOf h (length (scriptOf m .blocks)) 0 (withSlots (c .shop))))
-    m
+-- a script record with the birth mark of each place of a block, 0 if it was read or built at the start, else the ordinal of the accepted
+-- compile that appended it, and with the count of its accepted compiles; marks past the block count mean nothing
+pub record Born : Type 0 where
+  pub memory : Memory
+  pub births : List ℕ
+  pub compiles : ℕ
+
+abbrev pub bornAt : Born → ℕ → ℕ
+bornAt k b = getD (k .births) b 0
+
+-- "at 4,294,967,295 it stays, and later compiles give that mark"
+abbrev pub oneCompile : ℕ → ℕ
+oneCompile n = cond (ltb n mostCompiles) (suc n) mostCompiles
+
+unfoldable pub compileRefusalIn : Sheet → Born → Call → ℕ
+compileRefusalIn h k c = compileChecks h (recordRefusal (k .memory)) (bornAt k (c .setup)) (scriptOf (k .memory)) c
+
+-- the fresh blocks appended at the counts, the setup block emptied and linked to the root
+abbrev pub appendedIn : Sheet → Memory → Call → Memory
+appendedIn h m c = redirectIn (putBlocks m (freshBlocks h (scriptOf m) c)) (c .setup) (rootOf h (length (scriptOf m .blocks)) 0 (withSlots (c .shop)))
+
+-- each fresh block bears the new count; every other place, an emptied setup block's too, keeps its mark
+abbrev pub birthsAfter : Born → ℕ → List ℕ
+birthsAfter k n = sets (k .births) (k .memory .count) (replicate n (oneCompile (k .compiles)))
+
+-- refused, nothing changes
+unfoldable pub compiledIn : Sheet → Born → Call → Born
+compiledIn h k c =
+    cond (eqb (compileRefusalIn h k c) 0)
+    (record {
+      memory = appendedIn h (k .memory) c;
+      births = birthsAfter k (length (freshBlocks h (scriptOf (k .memory)) c));
+      compiles = oneCompile (k .compiles);
+    })
+    k
 
 unfoldable pub runIn : Sheet → Memory → ℕ → Save → ℕ → Ran
 runIn h m b s budget = runChecked h (recordRefusal m) (scriptOf m) b s budget
@@ -43,5 +73,5 @@ unfoldable pub writeIn : Memory → List ℕ → Wrote
 writeIn m out = writeChecked (recordRefusal m) (scriptOf m) out
 
 -- for lists of compiles on a record
-abbrev pub compilesIn : Sheet → Step Memory Call
-compilesIn h = compiling (λ m c. compileRefusalIn h m c) (λ m c. compiledIn h m c) (λ c. c .setup) (λ c. withSlots (c .shop)) (λ m. m .count)
+abbrev pub compilesIn : Sheet → Step Born Call
+compilesIn h = compiling (λ k c. compileRefusalIn h k c) (λ k c. compiledIn h k c) (λ c. c .setup) (λ c. withSlots (c .shop)) (λ k. k .memory .count)

@@ -1,4 +1,4 @@
--- The refusals of document 01 by number, and the order in which checks answer. Assumes nothing: these are definitions.
+-- The refusals of documents 01 and 02 by number, and the order in which checks answer. Assumes nothing: these are definitions.
 use mathlib.Core.Bool.{Bool, true, false}
 use mathlib.Core.List.{List, [], _∷_}
 use Prim.Native.Nat.{ℕ, zero, suc}
@@ -54,6 +54,10 @@ budgetSpent = 15
 
 abbrev pub sliceShort : ℕ
 sliceShort = 16
+
+-- 02, A.2: a compile at a block whose birth mark is not 0
+abbrev pub bornLater : ℕ
+bornLater = 17
 
 -- a check refuses with its number where its test fails
 abbrev pub check : Bool → ℕ → ℕ

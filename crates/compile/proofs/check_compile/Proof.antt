@@ -8,8 +8,9 @@ use Rattle.shop_arrays.specs.Arrays.{arraysIn, shopFrom}
 use Rattle.shop_arrays.specs.Slots.{slots-long}
 use Rattle.memory.specs.Transfer.{blocks-counted}
 use Rattle.model.specs.Memory.{scriptOf}
-use Rattle.memory.specs.View.{memoryOf}
-use Rattle.compile.specs.Checked.{refused-call, refused-shop, refused-room, accepted, exact-slots, commands-kept, nodes-kept}
+use Rattle.memory.specs.View.{bornOf}
+use Rattle.model.specs.RecordCalls.{Born}
+use Rattle.compile.specs.Checked.{setup-low, refused-call, refused-born, refused-shop, refused-room, accepted, exact-slots, commands-kept, nodes-kept}
 use Rattle.compile.proofs.check_compile.Statement.{statement}
 use Rattle.compile.proofs.check_compile.Tie as tie
 
@@ -17,42 +18,59 @@ use Rattle.compile.proofs.check_compile.Tie as tie
 size : (s : tie.Start) → length (shopFrom (arraysIn (s .args .items .now) (s .args .limits .now) (s .args .codes .now) (s .args .lens .now)) .slots) ≡ slotCount
 size s = slots-long _
 
+-- the record as it was handed in
+abbrev bornIn : tie.Start → Born
+bornIn s = bornOf (s .args .ws .now) (s .args .val .now) (s .args .cw .now) (s .args .bw .now) (s .args .counts) (s .args .births .now) (s .args .compiles)
+
 check-call-requires : tie.Need-check-call-requires
 check-call-requires c κs = search needs
 
 returns : tie.Need-returns
 returns c = refused-call _ _ _ _ (size (c .before .before .before)) _ (c .before .check-call .ensures) (c .if1 .taken)
 
-check-arrays-requires : tie.Need-check-arrays-requires
-check-arrays-requires c κs = search needs
+birth-of-requires : tie.Need-birth-of-requires
+birth-of-requires c κs = setup-low _ _ _ (sym (c .before .check-call .ensures) ∙ c .if1 .left)
 
 returns-2 : tie.Need-returns-2
 returns-2 c =
     let a = c .before .before in
-    refused-shop _ _ _ _ (size (a .before .before .before)) (sym (a .before .check-call .ensures) ∙ a .if1 .left) (sym (c .before .check-arrays .ensures _) ∙ not-true _ (c .if2 .taken))
+    refused-born _ _ _ _ (size (a .before .before .before)) (sym (a .before .check-call .ensures) ∙ a .if1 .left) (λ z. c .if2 .taken (c .before .birth-of .ensures ∙ z))
 
-fits-requires : tie.Need-fits-requires
-fits-requires c κs =
-    let a = c .before .before in
-    exact-slots _ _ _ _ (size (a .before .before .before)) (sym (a .before .check-call .ensures) ∙ a .if1 .left) (sym (c .before .check-arrays .ensures _) ∙ not-false _ (c .if2 .left))
+check-arrays-requires : tie.Need-check-arrays-requires
+check-arrays-requires c κs = search needs
 
 returns-3 : tie.Need-returns-3
 returns-3 c =
-    let a = c .before .before in
-    let b = a .before .before in
-    let s = b .before .before .before in
-    let m = memoryOf (s .args .ws .now) (s .args .val .now) (s .args .cw .now) (s .args .bw .now) (s .args .counts) in
-    refused-room _ m _ _ (size s) (sym (b .before .check-call .ensures) ∙ b .if1 .left) (sym (a .before .check-arrays .ensures _) ∙ not-false _ (a .if2 .left))
-    (sym (c .before .fits2 .ensures (scriptOf m) (blocks-counted m) (commands-kept m) (nodes-kept m)) ∙ not-true _ (c .if3 .taken))
+    let b = c .before .before in
+    let a = b .before .before in
+    refused-shop _ _ _ _ (size (a .before .before .before)) (sym (a .before .check-call .ensures) ∙ a .if1 .left) (sym (b .before .birth-of .ensures) ∙ b .if2 .left)
+    (sym (c .before .check-arrays .ensures _) ∙ not-true _ (c .if3 .taken))
+
+fits-requires : tie.Need-fits-requires
+fits-requires c κs =
+    let a = c .before .before .before .before in
+    let s = a .before .before .before in
+    exact-slots _ (bornIn s) _ _ (size s) (sym (a .before .check-call .ensures) ∙ a .if1 .left) (sym (c .before .check-arrays .ensures _) ∙ not-false _ (c .if3 .left))
 
 returns-4 : tie.Need-returns-4
 returns-4 c =
-    let a = c .before .before in
-    let b = a .before .before in
-    let s = b .before .before .before in
-    let m = memoryOf (s .args .ws .now) (s .args .val .now) (s .args .cw .now) (s .args .bw .now) (s .args .counts) in
-    accepted _ m _ _ (size s) (sym (b .before .check-call .ensures) ∙ b .if1 .left) (sym (a .before .check-arrays .ensures _) ∙ not-false _ (a .if2 .left))
-    (sym (c .before .fits2 .ensures (scriptOf m) (blocks-counted m) (commands-kept m) (nodes-kept m)) ∙ not-false _ (c .if3 .left))
+    let d = c .before .before in
+    let b = d .before .before in
+    let a = b .before .before in
+    let s = a .before .before .before in
+    let m = bornIn s .memory in
+    refused-room _ _ _ _ (size s) (sym (a .before .check-call .ensures) ∙ a .if1 .left) (sym (b .before .birth-of .ensures) ∙ b .if2 .left) (sym (d .before .check-arrays .ensures _) ∙ not-false _ (d .if3 .left))
+    (sym (c .before .fits2 .ensures (scriptOf m) (blocks-counted m) (commands-kept m) (nodes-kept m)) ∙ not-true _ (c .if4 .taken))
+
+returns-5 : tie.Need-returns-5
+returns-5 c =
+    let d = c .before .before in
+    let b = d .before .before in
+    let a = b .before .before in
+    let s = a .before .before .before in
+    let m = bornIn s .memory in
+    accepted _ _ _ _ (size s) (sym (a .before .check-call .ensures) ∙ a .if1 .left) (sym (b .before .birth-of .ensures) ∙ b .if2 .left) (sym (d .before .check-arrays .ensures _) ∙ not-false _ (d .if3 .left))
+    (sym (c .before .fits2 .ensures (scriptOf m) (blocks-counted m) (commands-kept m) (nodes-kept m)) ∙ not-false _ (c .if4 .left))
 
 pub check-compile-spec : {M : Type 1} → statement M
 check-compile-spec =
@@ -60,8 +78,10 @@ check-compile-spec =
     (tie.spec
     check-call-requires
     returns
-    check-arrays-requires
+    birth-of-requires
     returns-2
-    fits-requires
+    check-arrays-requires
     returns-3
-    returns-4)
+    fits-requires
+    returns-4
+    returns-5)

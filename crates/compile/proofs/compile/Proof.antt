@@ -10,7 +10,7 @@ compile-arrays-requires : tie.Need-compile-arrays-requires
 compile-arrays-requires c κs = search needs
 
 returns : tie.Need-returns
-returns c = rw (c .before .before .before .before .before .before .before .before .before .arrays-of .ensures) at (c .compile-arrays .ensures)
+returns c = rw (c .before .before .before .before .before .before .before .before .before .before .arrays-of .ensures) at (c .compile-arrays .ensures)
 
 pub compile-spec : {M : Type 1} → statement M
 compile-spec = tie.close (tie.spec arrays-of-requires compile-arrays-requires returns)

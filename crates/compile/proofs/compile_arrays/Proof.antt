@@ -4,7 +4,7 @@ use lib.ListN.{length}
 use native.Mathlib.Omega.{arith}
 use borrow.Author.Needs.{needs}
 use Rattle.model.specs.Limits.{slotCount}
-use Rattle.memory.specs.View.{memoryOf}
+use Rattle.memory.specs.View.{bornOf}
 use Rattle.shop.specs.declared.Shop.{Shop}
 use Rattle.shop_arrays.specs.Arrays.{arraysIn, shopFrom}
 use Rattle.shop_arrays.specs.Slots.{slots-long}
@@ -21,15 +21,15 @@ size : (s : tie.Start) → length (given s .slots) ≡ slotCount
 size s = slots-long _
 
 -- what is known where nothing is refused
-allowed : (c : tie.Else1) → let s = c .before .before .before .before .before .before .before in
-    Granted (sheetOf (s .args .attached .now) (s .args .sheet)) (memoryOf (s .args .ws .now) (s .args .val .now) (s .args .cw .now) (s .args .bw .now) (s .args .counts)) (s .args .setup .0) (given s) (size s)
+allowed : (c : tie.Else1) → let s = c .before .before .before .before .before .before .before .before in
+    Granted (sheetOf (s .args .attached .now) (s .args .sheet)) (bornOf (s .args .ws .now) (s .args .val .now) (s .args .cw .now) (s .args .bw .now) (s .args .counts) (s .args .births .now) (s .args .compiles)) (s .args .setup .0) (given s) (size s)
 allowed c = granted _ _ _ _ _ (sym (c .before .check-compile .ensures) ∙ c .if1 .left)
 
 check-compile-requires : tie.Need-check-compile-requires
 check-compile-requires c κs = search needs
 
 returns : tie.Need-returns
-returns c = compiled-refused _ _ _ _ (size (c .before .before .before .before .before .before .before)) _ (c .before .check-compile .ensures) (c .if1 .taken)
+returns c = compiled-refused _ _ _ _ (size (c .before .before .before .before .before .before .before .before)) _ (c .before .check-compile .ensures) (c .if1 .taken)
 
 compile-shop-requires : tie.Need-compile-shop-requires
 compile-shop-requires c κs = let g = allowed (c .before .before .before .before) in (g .room, g .exact)
@@ -40,10 +40,21 @@ cast-set-block c = let g = allowed (c .before .before .before .before .before .b
 set-block-requires : tie.Need-set-block-requires
 set-block-requires c κs = let g = allowed (c .before .before .before .before .before .before .before) in omega (arith, g .inside, g .room .blocks)
 
+one-compile-requires : tie.Need-one-compile-requires
+one-compile-requires c κs = search needs
+
+mark-births-requires : tie.Need-mark-births-requires
+mark-births-requires c κs =
+    let d = c .before .before .before .before .before in
+    let g = allowed (d .before .before .before .before .before) in
+    (omega (arith, d .compile-shop .ensures .counted), omega (arith, g .room .blocks, d .compile-shop .ensures .counted))
+
 returns-2 : tie.Need-returns-2
 returns-2 c =
-    let a = c .before .before .before .before .before .before .before .before in
-    rw (c .set-block .ensures) (compiled-accepted _ _ _ _ (size (a .before .before .before .before .before .before .before)) _ (a .before .check-compile .ensures) (a .if1 .left) _ (c .before .before .before .compile-shop .ensures))
+    let d = c .before .before .before .before .before .before in
+    let a = d .before .before .before .before .before in
+    rw (c .mark-births .ensures, c .before .before .one-compile .ensures, c .before .before .before .set-block .ensures)
+    (compiled-accepted _ _ _ _ (size (a .before .before .before .before .before .before .before .before)) _ (a .before .check-compile .ensures) (a .if1 .left) _ (d .compile-shop .ensures))
 
 pub compile-arrays-spec : {M : Type 1} → statement M
 compile-arrays-spec =
@@ -54,4 +65,6 @@ compile-arrays-spec =
     compile-shop-requires
     cast-set-block
     set-block-requires
+    one-compile-requires
+    mark-births-requires
     returns-2)

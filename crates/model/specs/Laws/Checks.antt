@@ -6,9 +6,9 @@ use Prim.Native.Nat.{ℕ, zero, suc}
 use native.Mathlib.Omega.{arith}
 use Prim.Native.Nat.{_<_}
 use lib.ListN.{length}
-use lib.Dec.{ltb}
-use borrow.Author.Tests.{ltb-true}
-use Rattle.model.specs.Refusal.{check, firstOf, noRoom, notBlock, notCode}
+use lib.Dec.{ltb, eqb}
+use borrow.Author.Tests.{ltb-true, eqb-true}
+use Rattle.model.specs.Refusal.{check, firstOf, noRoom, notBlock, notCode, bornLater}
 use Rattle.model.specs.Sheet.{Sheet, all, sheetRefusal}
 use Rattle.model.specs.Shop.{shopRefusal, slotOk, withSlots}
 use Rattle.model.specs.Script.{Script, blockAt, isCode}
@@ -43,26 +43,37 @@ first3 a b c e =
     let q = first2 b c (p .1) in
     (p .0, q .0, q .1)
 
+first4 : (a b c d : ℕ) → firstOf (a ∷ b ∷ c ∷ d ∷ []) ≡ 0 → (a ≡ 0) × (b ≡ 0) × (c ≡ 0) × (d ≡ 0)
+first4 a b c d e =
+    let p = first-passed a (b ∷ c ∷ d ∷ []) e in
+    let q = first3 b c d (p .1) in
+    (p .0, q .0, q .1, q .2)
+
 -- a script that passed 6 and 7 has that block
 pub setup-inside : (sc : Script) (b : ℕ) → setupRefusal sc b ≡ 0 → b < length (sc .blocks)
 setup-inside sc b e = ltb-true _ _ (passed _ 5 (first2 (check (ltb b (length (sc .blocks))) notBlock) (check (isCode (blockAt (sc .blocks) b)) notCode) e .0))
+
+-- which is code
+pub setup-code : (sc : Script) (b : ℕ) → setupRefusal sc b ≡ 0 → isCode (blockAt (sc .blocks) b) ≡ true
+setup-code sc b e = passed _ 6 (first2 (check (ltb b (length (sc .blocks))) notBlock) (check (isCode (blockAt (sc .blocks) b)) notCode) e .1)
 
 -- the checks of a call: 1, 2 to 5, 6 and 7
 pub shared-passed : (h : Sheet) (j : ℕ) (sc : Script) (b : ℕ) → sharedRefusal h j sc b ≡ 0 → (sheetRefusal h ≡ 0) × (j ≡ 0) × (setupRefusal sc b ≡ 0)
 unfolding sharedRefusal
 shared-passed h j sc b e = first3 (sheetRefusal h) j (setupRefusal sc b) e
 
--- of a compile: those, 8 and 9
-pub record CompilePassed (h : Sheet) (j : ℕ) (sc : Script) (c : Call) : Type 0 where
+-- of a compile: those, 17, 8 and 9
+pub record CompilePassed (h : Sheet) (j n : ℕ) (sc : Script) (c : Call) : Type 0 where
   pub sheet : sheetRefusal h ≡ 0
   pub judged : j ≡ 0
   pub inside : c .setup < length (sc .blocks)
+  pub born : n ≡ 0
   pub slots : all (slotOk h) (withSlots (c .shop)) ≡ true
   pub room : hasRoom discLimits sc (freshBlocks h sc c) ≡ true
 
-pub compile-passed : (h : Sheet) (j : ℕ) (sc : Script) (c : Call) → compileChecks h j sc c ≡ 0 → CompilePassed h j sc c
+pub compile-passed : (h : Sheet) (j n : ℕ) (sc : Script) (c : Call) → compileChecks h j n sc c ≡ 0 → CompilePassed h j n sc c
 unfolding compileChecks
-compile-passed h j sc c e =
-    let p = first3 (sharedRefusal h j sc (c .setup)) (shopRefusal h (c .shop)) (check (hasRoom discLimits sc (freshBlocks h sc c)) noRoom) e in
+compile-passed h j n sc c e =
+    let p = first4 (sharedRefusal h j sc (c .setup)) (check (eqb n 0) bornLater) (shopRefusal h (c .shop)) (check (hasRoom discLimits sc (freshBlocks h sc c)) noRoom) e in
     let q = shared-passed h j sc (c .setup) (p .0) in
-    record { sheet = q .0; judged = q .1; inside = setup-inside sc (c .setup) (q .2); slots = passed _ 7 (p .1); room = passed _ 8 (p .2) }
+    record { sheet = q .0; judged = q .1; inside = setup-inside sc (c .setup) (q .2); born = eqb-true _ _ (passed _ 16 (p .1)); slots = passed _ 7 (p .2); room = passed _ 8 (p .3) }

@@ -1,20 +1,22 @@
--- One compile: the setup block links to the shop's blocks, which were appended, and other blocks are as they were. Assumes nothing.
-use mathlib.Core.Path.{_≡_, refl, sym, _∙_}
+-- One compile: the setup block links to the shop's blocks, which were appended and are code, and other blocks are as they were. Assumes nothing.
+use mathlib.Core.Path.{_≡_, refl, sym, ap, _∙_}
 use mathlib.Core.Bool.{Bool, true, false, cond, _&&_}
 use mathlib.Core.Logic.{_≢_}
 use mathlib.Core.List.{List, [], _∷_, _++_}
 use Prim.Native.Nat.{ℕ, suc, _-_, _+_, _<_, _≤_}
 use native.Mathlib.Omega.{arith}
-use lib.ListN.{length, length-set, length-append, List·getD-append}
-use lib.Seq.{getD-set-same, getD-set-other, getD-at, append-snoc, getD-append-seam}
+use native.Mathlib.Decide.{decLe, ℕ-discrete}
+use lib.ListN.{length, set, length-set, length-append, List·getD-append}
+use lib.Seq.{getD-set-same, getD-set-other, getD-at, append-snoc, getD-append-add, getD-append-seam}
 use lib.Dec.{eqb}
 use borrow.Author.Tests.{eqb-false}
 use Rattle.model.specs.Sheet.{Sheet}
 use Rattle.model.specs.Shop.{Slot, withSlots}
-use Rattle.model.specs.Script.{Block, Script, blockAt, placeholder}
+use Rattle.model.specs.Script.{Block, Script, blockAt, isCode, placeholder}
 use Rattle.model.specs.Compile.{Call, appended, compileRefusal, compiled, freshBlocks, lastOf, redirect, returnBlock, rootOf, shopBlocks, slotsBlocks}
 use Rattle.model.specs.Lists.{acceptedAt, compiles}
 use Rattle.model.specs.Judge.{scriptRefusal}
+use Rattle.model.specs.Laws.AllCode.{shop-code}
 use Rattle.model.specs.Laws.Checks.{compile-passed}
 use Rattle.model.specs.Laws.SlotRuns.{After, Stands}
 
@@ -93,10 +95,35 @@ module _ (h : Sheet) (sc : Script) (c : Call) where
       by true = omega (arith, length-linked)
       by false = omega arith
 
+  -- a block that was code stays code, and what is appended is code
+  pub code-once : (j : ℕ) → (j < length (sc .blocks) → isCode (blockAt (sc .blocks) j) ≡ true) → j < length (appended h sc c .blocks) → isCode (blockAt (appended h sc c .blocks) j) ≡ true
+  unfolding appended redirect
+  code-once j was l = at-setup (ℕ-discrete j (c .setup))
+    where
+      n : ℕ
+      n = length (sc .blocks)
+
+      pushed : List Block
+      pushed = sc .blocks ++ freshBlocks h sc c
+
+      long : j < length pushed
+      long = omega (arith, length-set pushed (c .setup) (redirect (rootOf h n 0 (withSlots (c .shop)))))
+
+      in-pushed : Dec (n ≤ j) → isCode (blockAt pushed j) ≡ true
+      in-pushed (yes d) =
+          let e : j ≡ n + (j - n) = omega arith in
+          ap (λ (i : ℕ). isCode (blockAt pushed i)) e ∙ ap isCode (getD-append-add (sc .blocks) (freshBlocks h sc c) (j - n) placeholder)
+          ∙ shop-code h n (withSlots (c .shop)) (j - n) (omega (arith, long, length-append (sc .blocks) (freshBlocks h sc c)))
+      in-pushed (no d) = ap isCode (List·getD-append (sc .blocks) (freshBlocks h sc c) placeholder j (omega arith)) ∙ was (omega arith)
+
+      at-setup : Dec (j ≡ c .setup) → isCode (blockAt (set pushed (c .setup) (redirect (rootOf h n 0 (withSlots (c .shop))))) j) ≡ true
+      at-setup (yes e) = rw (← e) (ap isCode (getD-set-same pushed j (redirect (rootOf h n 0 (withSlots (c .shop)))) placeholder long))
+      at-setup (no d) = ap isCode (getD-set-other pushed (c .setup) j _ placeholder d) ∙ in-pushed (decLe n j)
+
   -- what an accepted compile leaves at its setup block
   pub here-linked : (n b : ℕ) → n ≤ length (sc .blocks) → compileRefusal h sc c ≡ 0 → c .setup ≡ b → Linked h n (compiled h sc c .blocks) b (withSlots (c .shop))
   unfolding compiled
-  here-linked n b p z w = rw (← w, z) (fresh-linked n p (compile-passed h (scriptRefusal sc) sc c z .inside))
+  here-linked n b p z w = rw (← w, z) (fresh-linked n p (compile-passed h (scriptRefusal sc) 0 sc c z .inside))
 
   -- a shop linked before stays where nothing is accepted at its blocks
   pub linked-once : (n b : ℕ) (xs : List Slot) → Linked h n (sc .blocks) b xs → b < length (sc .blocks) → acceptedAt (compiles h) sc c b ≡ false

@@ -152,7 +152,7 @@ pushed-held c n bs xs b y d f g yc yn l =
 pub kept-judged : (h : Sheet) (sc : Script) (c : Call) → compileRefusal h sc c ≡ 0 → scriptRefusal (appended h sc c) ≡ 0
 unfolding appended
 kept-judged h sc c p =
-    let q = compile-passed h (scriptRefusal sc) sc c p in
+    let q = compile-passed h (scriptRefusal sc) 0 sc c p in
     let f = sheet-low h (Checks.passed (sheetOk h) 0 (q .sheet)) in
     let d = accepted-held sc (q .judged) .1 in
     let n = length (sc .blocks) in

@@ -1,0 +1,17 @@
+-- `compile::births::one_compile` meets its contract. Assumes nothing.
+use borrow.Author.Needs.{needs}
+use Rattle.compile.specs.Births.{compile-more, compile-stays}
+use Rattle.compile.proofs.births.one_compile.Statement.{statement}
+use Rattle.compile.proofs.births.one_compile.Tie as tie
+
+add-result : tie.Need-add-result
+add-result c = search needs
+
+returns : tie.Need-returns
+returns c = compile-more _ (c .if1 .taken)
+
+returns-2 : tie.Need-returns-2
+returns-2 c = compile-stays _ (c .if1 .left)
+
+pub one-compile-spec : {M : Type 1} → statement M
+one-compile-spec = tie.close (tie.spec add-result returns returns-2)
