@@ -8,7 +8,7 @@ ghost use Rattle.model.specs.Printer.{digitsTo, decimal, signedDecimal, letter,
 ghost use Rattle.shop_codes.specs.Codes.{ofKind, requirementOf};
 ghost use Rattle.shop.specs.Shapes.{itemOf, slotOf, slotsOf};
 ghost use Rattle.image_numbers.specs.Stored.{Stored};
-ghost use Rattle.slots_text.specs.Written.{Space, Wrote};
+ghost use Rattle.slots_text.specs.Written.{Space, Wrote, textLimit};
 ghost use Rattle.slots_text.specs.Lines.{requirementText, FewEach};
 use shop::SLOTS;
 use shop::Shop;
