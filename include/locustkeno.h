@@ -1,6 +1,6 @@
 /* The calls of the static library libcapi.a.
  *
- * Every call answers with a refusal's number from document 01, or 0. A slice is a pointer and a length; where the
+ * Every call answers with a refusal's number from documents 01 and 02, or 0. A slice is a pointer and a length; where the
  * length is 0 the pointer must still not be null. What is written to must not overlap anything else that is handed in.
  * No call keeps a pointer, allocates, or has any state of its own: threads may call at the same time on different memory.
  * On the largest and nastiest scripts 32 kilobytes of stack were enough for lk_read and lk_preview, 160 for lk_write, lk_run
@@ -11,6 +11,9 @@
  *   val  the number of an Imm node
  *   cw   commands: code, two expressions, a block at 4c ..; of a Set the fourth is 0 for a target Variable, else 1
  *   bw   blocks: kind, first command, how many, next + 1, else + 1 at 5b ..
+ * Beside them lie the birth marks, births: for each block 0 if it was read or built at the start, else the ordinal of the
+ * accepted compile that appended it; and the count of accepted compiles, which stays at 4,294,967,295. Only lk_compile and
+ * lk_read take them. Marks past the count of blocks mean nothing. An image carries no marks: lk_read starts anew.
  * A sheet is attached (for each item its atc + 1, or 0), the count of atcs and the three timers' items.
  * A save is items (a count for each item), held (0 or 1 for each atc), flags, times and vars.
  */
@@ -28,13 +31,16 @@ extern "C" {
 #define LK_VALUES 32768
 #define LK_COMMAND_WORDS 65536
 #define LK_BLOCK_WORDS 20480
+#define LK_BLOCKS 4096
 #define LK_SLOTS 20
 #define LK_ENTRIES 14
 
-/* The refusal or 0, and the kept counts of the script; all are 0 where a read is refused. */
+/* The refusal or 0, the kept counts of the script and the count of its accepted compiles; all counts are 0 where a read is
+ * refused. */
 typedef struct {
     uint8_t refusal;
     uint16_t nodes, commands, blocks;
+    uint32_t compiles;
 } lk_kept;
 
 /* The refusal or 0, and the length of the image in bytes. */
@@ -49,9 +55,9 @@ typedef struct {
     uint32_t entered;
 } lk_ran;
 
-/* The script of an image. Refused (2 to 5), the arrays are all zero. */
+/* The script of an image. Refused (2 to 5), the arrays are all zero. Births and the count of compiles are 0 either way. */
 lk_kept lk_read(const uint8_t *bytes, size_t bytes_len, uint16_t ws[LK_NODE_WORDS], int32_t val[LK_VALUES],
-                uint16_t cw[LK_COMMAND_WORDS], uint16_t bw[LK_BLOCK_WORDS]);
+                uint16_t cw[LK_COMMAND_WORDS], uint16_t bw[LK_BLOCK_WORDS], uint32_t births[LK_BLOCKS]);
 
 /* The image of a script into out. Refused (2 to 5, 16), out stays as it was; so do the bytes past the image. It is quickest
  * where out has 5 + 16 bytes a block + 6 a command + 6 a node, which is enough for any accepted script. */
@@ -80,12 +86,14 @@ typedef struct {
     int32_t temp;
 } lk_previewed;
 
-/* Compiles a shop and links it at block setup. Refused (1 to 9), nothing is written and the counts are those handed in. */
+/* Compiles a shop and links it at block setup; the blocks that it appends bear the new count of compiles. Refused (1 to 7, 17,
+ * 8, 9 in this order), nothing is written and the counts are those handed in. 17: the mark of the setup block is not 0. */
 lk_kept lk_compile(const uint8_t *attached, size_t attached_len, uint16_t atcs, uint16_t timer5, uint16_t timer10,
                    uint16_t timer15, uint16_t ws[LK_NODE_WORDS], int32_t val[LK_VALUES], uint16_t cw[LK_COMMAND_WORDS],
-                   uint16_t bw[LK_BLOCK_WORDS], uint16_t nodes, uint16_t commands, uint16_t blocks, uint32_t setup,
-                   const int32_t items[LK_SLOTS], const int16_t limits[LK_SLOTS],
-                   const uint64_t codes[LK_SLOTS * LK_ENTRIES], const uint8_t lens[LK_SLOTS]);
+                   uint16_t bw[LK_BLOCK_WORDS], uint32_t births[LK_BLOCKS], uint16_t nodes, uint16_t commands,
+                   uint16_t blocks, uint32_t compiles, uint32_t setup, const int32_t items[LK_SLOTS],
+                   const int16_t limits[LK_SLOTS], const uint64_t codes[LK_SLOTS * LK_ENTRIES],
+                   const uint8_t lens[LK_SLOTS]);
 
 /* The arrays of a shop from any number of slots, each with LK_ENTRIES codes. As many slots are given as there are items;
  * what another slice lacks of them is 0. Slots past LK_SLOTS are dropped unchecked, missing ones are empty. */

@@ -1,6 +1,7 @@
 // Each call with the numbers of a line, and what it answered as numbers: compile, parse, run beside preview, judge, and an image read or written.
 use crate::changes::low8;
 use compile::Compiled;
+use compile::births::start_anew;
 use compile::compile;
 use image_read::Image;
 use image_read::read_script;
@@ -8,6 +9,8 @@ use image_write::Written;
 use image_write::write_script;
 use judge_record::Judged;
 use judge_record::judge_record;
+use memory::BLOCKS;
+use memory::Births;
 use memory::BlockWords;
 use memory::CommandWords;
 use memory::Counts;
@@ -50,6 +53,12 @@ pub fn bit(b: bool) -> u32 {
 }
 
 // ---- counts
+
+// The counts of the script and of its accepted compiles.
+pub struct Kept {
+    pub counts: Counts,
+    pub compiles: u32,
+}
 
 pub fn counts(blocks: u32, commands: u32, nodes: u32) -> Counts {
     Counts {
@@ -122,24 +131,29 @@ fn code(kind: u32, number: u32) -> u64 {
 
 // ---- compile
 
-// Whether the script is as it was is told by a sum over all of it.
+// Whether the script is as it was is told by a sum over all of it, its birth marks and the count of compiles.
 pub fn compiled(
     a: &[u32; 224],
     ws: &mut NodeWords,
     val: &mut Values,
     cw: &mut CommandWords,
     bw: &mut BlockWords,
-    kept: Counts,
+    births: &mut Births,
+    kept: Kept,
     t: &mut [u32; 16],
-) -> Counts {
-    let before = sum(ws, val, cw, bw, kept);
-    let c = compile_by(a, ws, val, cw, bw, kept);
+) -> Kept {
+    let held = kept.counts;
+    let before = sum_births(births, kept.compiles, sum(ws, val, cw, bw, held));
+    let c = compile_by(a, ws, val, cw, bw, births, kept);
     let k = c.counts;
-    let after = sum(ws, val, cw, bw, k);
+    let after = sum_births(births, c.compiles, sum(ws, val, cw, bw, k));
     tell_counts(t, c.refusal, k);
     t[4] = root_of(bw, low16(a[8]));
     t[5] = bit(before == after);
-    k
+    Kept {
+        counts: k,
+        compiles: c.compiles,
+    }
 }
 
 fn compile_by(
@@ -148,12 +162,15 @@ fn compile_by(
     val: &mut Values,
     cw: &mut CommandWords,
     bw: &mut BlockWords,
-    kept: Counts,
+    births: &mut Births,
+    kept: Kept,
 ) -> Compiled {
     let atcs = attached();
     let sheet = sheet_with(low16(a[9]));
     let at = BlockNo(a[8]);
-    compile(&atcs, sheet, ws, val, cw, bw, kept, at, shop_of(a))
+    let k = kept.counts;
+    let n = kept.compiles;
+    compile(&atcs, sheet, ws, val, cw, bw, births, k, n, at, shop_of(a))
 }
 
 // The block that a setup block has as next; 0 where it has none.
@@ -202,8 +219,29 @@ fn sum_numbers(s: &[i32], from: u64) -> u64 {
     h
 }
 
+fn sum_births(s: &[u32], compiles: u32, from: u64) -> u64 {
+    let mut h = mixed(from, compiles);
+    let mut i: usize = 0;
+    while i < s.len() {
+        h = mixed(h, s[i]);
+        i += 1;
+    }
+    h
+}
+
 fn mixed(h: u64, x: u32) -> u64 {
     h % 4294967296 * 31 + x as u64
+}
+
+// ---- birth marks
+
+// The mark of a place of a block, and the count of accepted compiles.
+pub fn asked(here: bool, a: &[u32; 224], births: &Births, compiles: u32, t: &mut [u32; 16]) {
+    let i = a[1] as usize;
+    if here && i < BLOCKS {
+        t[0] = births[i];
+        t[1] = compiles;
+    }
 }
 
 // ---- parse
@@ -452,7 +490,7 @@ fn short(x: usize) -> u32 {
     (x % 4294967296) as u32
 }
 
-// The script of the image; one of no blocks where it is refused.
+// The script of the image; one of no blocks where it is refused. Either way birth marks and the count of compiles start anew, as in the library's read.
 pub fn read(
     image: &[u8],
     len: usize,
@@ -460,23 +498,35 @@ pub fn read(
     val: &mut Values,
     cw: &mut CommandWords,
     bw: &mut BlockWords,
+    births: &mut Births,
     t: &mut [u32; 16],
-) -> Counts {
+) -> Kept {
+    start_anew(births);
     if image.len() < len {
-        return counts(0, 0, 0);
+        return none();
     }
     tell_read(read_script(&image[0..len], 0, ws, val, cw, bw), t)
 }
 
-fn tell_read(r: Image, t: &mut [u32; 16]) -> Counts {
+fn none() -> Kept {
+    Kept {
+        counts: counts(0, 0, 0),
+        compiles: 0,
+    }
+}
+
+fn tell_read(r: Image, t: &mut [u32; 16]) -> Kept {
     match r {
         Image::Read(k) => {
             tell_counts(t, 0, k);
-            k
+            Kept {
+                counts: k,
+                compiles: 0,
+            }
         }
         Image::No(e) => {
             t[0] = e as u32;
-            counts(0, 0, 0)
+            none()
         }
     }
 }

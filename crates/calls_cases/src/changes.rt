@@ -1,4 +1,6 @@
-// What a line writes by itself: words of the script's arrays, and bytes of the image.
+// What a line writes by itself: words of the script's arrays, birth marks, and bytes of the image.
+use memory::BLOCKS;
+use memory::Births;
 use memory::BlockWords;
 use memory::CommandWords;
 use memory::NodeWords;
@@ -67,6 +69,14 @@ fn word(words: &mut [u16], at: u32, size: u32, a: &mut [u32; 224], i: u32) {
 fn set_word(words: &mut [u16], i: usize, x: u32) {
     if i < words.len() {
         words[i] = (x % 65536) as u16;
+    }
+}
+
+// M: the mark of a place of a block.
+pub fn mark(op: u8, a: &[u32; 224], births: &mut Births) {
+    let i = a[1] as usize;
+    if op == b'M' && i < BLOCKS {
+        births[i] = a[2];
     }
 }
 

@@ -3,6 +3,8 @@ mod calls;
 mod changes;
 mod lines;
 
+use calls::Kept;
+use calls::asked;
 use calls::bit;
 use calls::compiled;
 use calls::counts;
@@ -13,11 +15,14 @@ use calls::read;
 use calls::written;
 use changes::bytes;
 use changes::change;
+use changes::mark;
 use lines::as_said;
 use lines::numbers;
 use lines::put;
 use lines::tell;
+use memory::BLOCKS;
 use memory::BLOCK_WORDS;
+use memory::Births;
 use memory::BlockWords;
 use memory::COMMAND_WORDS;
 use memory::CommandWords;
@@ -27,9 +32,10 @@ use memory::NODES;
 use memory::NodeWords;
 use memory::Values;
 
-// What goes from a line to the next: the counts of the script, the length of the image, how many cases there were, and how many answered as said.
+// What goes from a line to the next: the counts of the script and of its accepted compiles, the length of the image, how many cases there were, and how many answered as said.
 struct Held {
     counts: Counts,
+    compiles: u32,
     image: usize,
     cases: u32,
     good: u32,
@@ -42,7 +48,16 @@ fn main() {
     let mut val: Values = [0; NODES];
     let mut cw: CommandWords = [0; COMMAND_WORDS];
     let mut bw: BlockWords = [0; BLOCK_WORDS];
-    start(&mut input, &mut image, &mut ws, &mut val, &mut cw, &mut bw);
+    let mut births: Births = [0; BLOCKS];
+    start(
+        &mut input,
+        &mut image,
+        &mut ws,
+        &mut val,
+        &mut cw,
+        &mut bw,
+        &mut births,
+    );
 }
 
 // Large arrays are not read where they are made: the proof would go through their elements.
@@ -53,9 +68,10 @@ fn start(
     val: &mut Values,
     cw: &mut CommandWords,
     bw: &mut BlockWords,
+    births: &mut Births,
 ) {
     let n = io::read_full(libc::STDIN_FILENO, input);
-    cases(&input[..n], image, ws, val, cw, bw);
+    cases(&input[..n], image, ws, val, cw, bw, births);
 }
 
 // ---- lines
@@ -67,6 +83,7 @@ fn cases(
     val: &mut Values,
     cw: &mut CommandWords,
     bw: &mut BlockWords,
+    births: &mut Births,
 ) {
     let mut h = nothing();
     let mut at: usize = 0;
@@ -78,7 +95,7 @@ fn cases(
         if text.len() <= end {
             return;
         }
-        h = case(&text[at..end], image, ws, val, cw, bw, h);
+        h = case(&text[at..end], image, ws, val, cw, bw, births, h);
         at = end + 1;
     }
     total(h);
@@ -91,6 +108,7 @@ fn nothing() -> Held {
             commands: 0,
             blocks: 0,
         },
+        compiles: 0,
         image: 0,
         cases: 0,
         good: 0,
@@ -116,11 +134,12 @@ fn case(
     val: &mut Values,
     cw: &mut CommandWords,
     bw: &mut BlockWords,
+    births: &mut Births,
     h: Held,
 ) -> Held {
     let mut a: [u32; 224] = [0; 224];
     let mut t: [u32; 16] = [0; 16];
-    done(line, &mut a, &mut t, image, ws, val, cw, bw, h)
+    done(line, &mut a, &mut t, image, ws, val, cw, bw, births, h)
 }
 
 fn done(
@@ -132,6 +151,7 @@ fn done(
     val: &mut Values,
     cw: &mut CommandWords,
     bw: &mut BlockWords,
+    births: &mut Births,
     h: Held,
 ) -> Held {
     let colon = numbers(line, a);
@@ -140,16 +160,22 @@ fn done(
     }
     let op = line[0];
     let len = bytes(op, a, image, h.image);
-    let before = h.counts;
-    let k = step(op, a, image, len, ws, val, cw, bw, before, t);
+    let counts = h.counts;
+    let before = Kept {
+        counts: counts,
+        compiles: h.compiles,
+    };
+    let k = step(op, a, image, len, ws, val, cw, bw, births, before, t);
     told(&line[colon + 1..], a, t, h, k, len)
 }
 
 // A line that says no answer is no case.
-fn told(name: &[u8], a: &[u32; 224], t: &[u32; 16], h: Held, k: Counts, len: usize) -> Held {
+fn told(name: &[u8], a: &[u32; 224], t: &[u32; 16], h: Held, k: Kept, len: usize) -> Held {
+    let counts = k.counts;
     if a[200] == 0 {
         return Held {
-            counts: k,
+            counts: counts,
+            compiles: k.compiles,
             image: len,
             cases: h.cases,
             good: h.good,
@@ -158,7 +184,8 @@ fn told(name: &[u8], a: &[u32; 224], t: &[u32; 16], h: Held, k: Counts, len: usi
     let good = as_said(a, t);
     tell(name, t, good);
     Held {
-        counts: k,
+        counts: counts,
+        compiles: k.compiles,
         image: len,
         cases: std::num::wrapping_add_u32(h.cases, 1),
         good: std::num::wrapping_add_u32(h.good, bit(good)),
@@ -184,25 +211,37 @@ fn step(
     val: &mut Values,
     cw: &mut CommandWords,
     bw: &mut BlockWords,
-    k: Counts,
+    births: &mut Births,
+    k: Kept,
     t: &mut [u32; 16],
-) -> Counts {
+) -> Kept {
     if op == b'C' {
-        return compiled(a, ws, val, cw, bw, k, t);
+        return compiled(a, ws, val, cw, bw, births, k, t);
     }
     if op == b'I' {
-        return read(image, len, ws, val, cw, bw, t);
+        return read(image, len, ws, val, cw, bw, births, t);
     }
+    let held = k.counts;
     change(op, a, ws, val, cw, bw);
-    shown(op, a, image, len, ws, val, cw, bw, k, t);
+    mark(op, a, births);
+    shown(op, a, image, len, ws, val, cw, bw, held, t);
+    asked(op == b'A', a, births, k.compiles, t);
     kept(op, a, k)
 }
 
-fn kept(op: u8, a: &[u32; 224], k: Counts) -> Counts {
-    if op == b'K' {
-        return counts(a[1], a[2], a[3]);
+fn kept(op: u8, a: &[u32; 224], k: Kept) -> Kept {
+    let held = k.counts;
+    match op {
+        b'K' => Kept {
+            counts: counts(a[1], a[2], a[3]),
+            compiles: k.compiles,
+        },
+        b'N' => Kept {
+            counts: held,
+            compiles: a[1],
+        },
+        _ => k,
     }
-    k
 }
 
 // Those that only read the script.

@@ -1,5 +1,7 @@
 // The calls of the engine for programs in Rust and C: numbers, slices and references to arrays of numbers go in, structs of numbers come out.
 ghost use mathlib.Core.Path.{_≡_};
+ghost use lib.ListN.{replicate};
+ghost use Rattle.model.specs.Limits.{blockLimit};
 ghost use Rattle.model.specs.Image.{readImage};
 ghost use Rattle.model.specs.RecordCalls.{runIn, writeIn};
 ghost use Rattle.shop.specs.Shapes.{sheetOf};
@@ -8,7 +10,7 @@ ghost use Rattle.image_write.specs.Call.{wrote, lengthIn};
 ghost use Rattle.checks.specs.Calls.{saveOf};
 ghost use Rattle.model.specs.Preview.{previewCall};
 ghost use Rattle.model.specs.RecordCalls.{parseIn};
-ghost use Rattle.memory.specs.View.{memoryOf, emptyIn};
+ghost use Rattle.memory.specs.View.{memoryOf, bornOf, emptyIn};
 ghost use Rattle.shop.specs.Shapes.{slotsOf};
 ghost use Rattle.shop_arrays.specs.Arrays.{arraysIn, shopFrom};
 ghost use Rattle.compile.specs.Answer.{callOf, CompiledAs};
@@ -16,10 +18,12 @@ ghost use Rattle.parse.specs.Answer.{ParsedInto};
 ghost use Rattle.preview.specs.Shown.{previewedOf};
 ghost use Rattle.shop_with_slots.specs.Twenty.{twenty};
 ghost use Rattle.capi.specs.Answers.{countsBy, countsIn, sheetBy, readAs, ranAs, previewedAs};
+use compile::births::start_anew;
 use compile::compile_arrays;
 use image_read::Image;
 use image_read::read_script;
 use image_write::write_script;
+use memory::Births;
 use memory::BlockWords;
 use memory::CommandWords;
 use memory::Counts;
@@ -35,13 +39,14 @@ use shop::SLOTS;
 use shop::Sheet;
 use shop_with_slots::with_slots;
 
-// The refusal or 0, and the kept counts of the script; all are 0 where a read is refused.
+// The refusal or 0, the kept counts of the script and the count of its accepted compiles; all counts are 0 where a read is refused.
 #[repr(C)]
 pub struct Kept {
     pub refusal: u8,
     pub nodes: u16,
     pub commands: u16,
     pub blocks: u16,
+    pub compiles: u32,
 }
 
 // The refusal or 0, and the length of the image in bytes.
@@ -78,7 +83,7 @@ fn sheet_by(atcs: u16, timer5: u16, timer10: u16, timer15: u16) -> Sheet
     }
 }
 
-// The script of an image. A refused read hands out nothing: the arrays are zero then.
+// The script of an image. A refused read hands out nothing: the arrays are zero then. An image carries no birth marks, so these and the count of compiles are 0 either way (02, A.2).
 #[no_mangle]
 pub extern "C" fn lk_read(
     bytes: &[u8],
@@ -86,9 +91,11 @@ pub extern "C" fn lk_read(
     val: &mut Values,
     cw: &mut CommandWords,
     bw: &mut BlockWords,
+    births: &mut Births,
 ) -> Kept
-    ensures { λ r. ⌜ readAs r (now (ws .exit)) (now (val .exit)) (now (cw .exit)) (now (bw .exit)) ≡ readInto (emptyIn (now (ws .entry)) (now (val .entry)) (now (cw .entry)) (now (bw .entry))) (readImage (now (bytes .entry))) ⌝ }
+    ensures { λ r. ⌜ (readAs r (now (ws .exit)) (now (val .exit)) (now (cw .exit)) (now (bw .exit)) ≡ readInto (emptyIn (now (ws .entry)) (now (val .entry)) (now (cw .entry)) (now (bw .entry))) (readImage (now (bytes .entry)))) × (now (births .exit) ≡ replicate blockLimit 0) × (r .compiles ≡ 0) ⌝ }
 {
+    start_anew(births);
     let r = read_script(bytes, 0, ws, val, cw, bw);
     match r {
         Image::Read(k) => Kept {
@@ -96,12 +103,14 @@ pub extern "C" fn lk_read(
             nodes: k.nodes,
             commands: k.commands,
             blocks: k.blocks,
+            compiles: 0,
         },
         Image::No(e) => Kept {
             refusal: e,
             nodes: 0,
             commands: 0,
             blocks: 0,
+            compiles: 0,
         },
     }
 }
@@ -185,7 +194,7 @@ pub extern "C" fn lk_run(
     }
 }
 
-// Compiles the shop that the arrays stand for and links it at block setup. Refused, nothing is written and the counts are those handed in.
+// Compiles the shop that the arrays stand for and links it at block setup. The blocks that it appends bear the new count of compiles. Refused, nothing is written and the counts are those handed in.
 #[no_mangle]
 pub extern "C" fn lk_compile(
     attached: &[u8],
@@ -197,16 +206,18 @@ pub extern "C" fn lk_compile(
     val: &mut Values,
     cw: &mut CommandWords,
     bw: &mut BlockWords,
+    births: &mut Births,
     nodes: u16,
     commands: u16,
     blocks: u16,
+    compiles: u32,
     setup: u32,
     items: &[i32; SLOTS],
     limits: &[i16; SLOTS],
     codes: &Codes,
     lens: &[u8; SLOTS],
 ) -> Kept
-    ensures { λ r. ⌜ CompiledAs (sheetOf (now (attached .entry)) (sheetBy atcs timer5 timer10 timer15)) (memoryOf (now (ws .entry)) (now (val .entry)) (now (cw .entry)) (now (bw .entry)) (countsBy nodes commands blocks)) (callOf setup (shopFrom (arraysIn (now (items .entry)) (now (limits .entry)) (now (codes .entry)) (now (lens .entry))))) (r .refusal) (memoryOf (now (ws .exit)) (now (val .exit)) (now (cw .exit)) (now (bw .exit)) (countsIn r)) ⌝ }
+    ensures { λ r. ⌜ CompiledAs (sheetOf (now (attached .entry)) (sheetBy atcs timer5 timer10 timer15)) (bornOf (now (ws .entry)) (now (val .entry)) (now (cw .entry)) (now (bw .entry)) (countsBy nodes commands blocks) (now (births .entry)) compiles) (callOf setup (shopFrom (arraysIn (now (items .entry)) (now (limits .entry)) (now (codes .entry)) (now (lens .entry))))) (r .refusal) (bornOf (now (ws .exit)) (now (val .exit)) (now (cw .exit)) (now (bw .exit)) (countsIn r) (now (births .exit)) (r .compiles)) ⌝ }
 {
     let sheet = sheet_by(atcs, timer5, timer10, timer15);
     let counts = Counts {
@@ -221,7 +232,9 @@ pub extern "C" fn lk_compile(
         val,
         cw,
         bw,
+        births,
         counts,
+        compiles,
         BlockNo(setup),
         items,
         limits,
@@ -234,6 +247,7 @@ pub extern "C" fn lk_compile(
         nodes: kept.nodes,
         commands: kept.commands,
         blocks: kept.blocks,
+        compiles: r.compiles,
     }
 }
 

@@ -3,6 +3,7 @@ ghost use mathlib.Core.Path.{_≡_};
 ghost use Prim.Native.Nat.{_+_, _≤_, _<_};
 ghost use lib.ListN.{length};
 ghost use Rattle.replay.specs.Tally.{Fair, one};
+use compile::births::start_anew;
 use compile::compile;
 use image_numbers::Num;
 use image_numbers::read_number;
@@ -11,7 +12,9 @@ use image_read::read_script;
 use image_write::write_script;
 use libc::STDIN_FILENO;
 use libc::STDOUT_FILENO;
+use memory::BLOCKS;
 use memory::BLOCK_WORDS;
+use memory::Births;
 use memory::BlockWords;
 use memory::COMMAND_WORDS;
 use memory::CommandWords;
@@ -71,9 +74,10 @@ struct Before {
     counts: Counts,
 }
 
-// How far a list of compiles is: the script's counts, and whether all answers so far are as recorded.
+// How far a list of compiles is: the counts of the script and of its accepted compiles, and whether all answers so far are as recorded.
 struct Listed {
     counts: Counts,
+    compiles: u32,
     same: bool,
     at: usize,
 }
@@ -228,7 +232,8 @@ fn compile_lists(s: &[u8], at: usize) -> Tally {
     let mut val = [0i32; NODES];
     let mut cw = [0u16; COMMAND_WORDS];
     let mut bw = [0u16; BLOCK_WORDS];
-    all_lists(s, at, &mut ws, &mut val, &mut cw, &mut bw)
+    let mut births = [0u32; BLOCKS];
+    all_lists(s, at, &mut ws, &mut val, &mut cw, &mut bw, &mut births)
 }
 
 fn all_lists(
@@ -238,12 +243,13 @@ fn all_lists(
     val: &mut Values,
     cw: &mut CommandWords,
     bw: &mut BlockWords,
+    births: &mut Births,
 ) -> Tally {
     let n = number_at(s, at, 1000000);
     let mut t = no_cases(n.at);
     let mut i: u64 = 0;
     while i < n.value {
-        t = tallied(t, compile_list(s, t.at, ws, val, cw, bw));
+        t = tallied(t, compile_list(s, t.at, ws, val, cw, bw, births));
         i += 1;
     }
     t
@@ -257,14 +263,16 @@ fn compile_list(
     val: &mut Values,
     cw: &mut CommandWords,
     bw: &mut BlockWords,
+    births: &mut Births,
 ) -> Case
     ensures { λ r. ⌜ r .compiles ≤ 1000 ⌝ }
 {
     let mut attached = [0u8; 512];
     let run = run_at(s, at);
     let before = before_list(s, run, &mut attached, ws, val, cw, bw);
+    start_anew(births);
     let n = number_at(s, run.at, 1000);
-    let listed = compiles(s, n, &attached, before, ws, val, cw, bw);
+    let listed = compiles(s, n, &attached, before, ws, val, cw, bw, births);
     let after = run_at(s, listed.at);
     if after.at == MALFORMED {
         return no_case();
@@ -326,6 +334,7 @@ fn compiles(
     val: &mut Values,
     cw: &mut CommandWords,
     bw: &mut BlockWords,
+    births: &mut Births,
 ) -> Listed {
     let all: &[u8] = attached;
     let items = before.items;
@@ -333,13 +342,25 @@ fn compiles(
     let counts = before.counts;
     let start = Listed {
         counts: counts,
+        compiles: 0,
         same: before.ok,
         at: n.at,
     };
     if all.len() < items {
         return start;
     }
-    all_compiles(s, n.value, &all[..items], sheet, start, ws, val, cw, bw)
+    all_compiles(
+        s,
+        n.value,
+        &all[..items],
+        sheet,
+        start,
+        ws,
+        val,
+        cw,
+        bw,
+        births,
+    )
 }
 
 fn all_compiles(
@@ -352,11 +373,12 @@ fn all_compiles(
     val: &mut Values,
     cw: &mut CommandWords,
     bw: &mut BlockWords,
+    births: &mut Births,
 ) -> Listed {
     let mut t = start;
     let mut i: u64 = 0;
     while i < n {
-        t = one_compile(s, attached, sheet, t, ws, val, cw, bw);
+        t = one_compile(s, attached, sheet, t, ws, val, cw, bw, births);
         i += 1;
     }
     t
@@ -372,6 +394,7 @@ fn one_compile(
     val: &mut Values,
     cw: &mut CommandWords,
     bw: &mut BlockWords,
+    births: &mut Births,
 ) -> Listed {
     let setup = number_at(s, t.at, 4294967295);
     let given = shop_at(s, setup.at);
@@ -379,10 +402,12 @@ fn one_compile(
     let counts = t.counts;
     let shop = given.shop;
     let at = BlockNo(setup.value as u32);
-    let c = compile(attached, sheet, ws, val, cw, bw, counts, at, shop);
+    let n = t.compiles;
+    let c = compile(attached, sheet, ws, val, cw, bw, births, counts, n, at, shop);
     let left = c.counts;
     Listed {
         counts: left,
+        compiles: c.compiles,
         same: t.same && c.refusal as u64 == answer.value,
         at: answer.at,
     }

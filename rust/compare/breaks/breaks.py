@@ -30,10 +30,11 @@ PROGRAM = """fn main() {
         let mut val = [0; 32768];
         let mut cw = [0; 65536];
         let mut bw = [0; 20480];
+        let mut births = [0; 4096];
         let mut bytes = [0, 0];
         let shorts = [0, 0];
         let mut vars = [0, 0];
-        capi::lk_read(&bytes, &mut ws, &mut val, &mut cw, &mut bw);
+        capi::lk_read(&bytes, &mut ws, &mut val, &mut cw, &mut bw, &mut births);
         capi::lk_run(&bytes, 0, 0, 1, 2, &ws, &val, &cw, &bw, 0, 0, 0, 0, &shorts, &bytes, &bytes, &shorts, &mut vars, 5);
         capi::lk_write(&ws, &val, &cw, &bw, 0, 0, 0, &mut bytes);
         let mut items = [0; 20];
@@ -42,7 +43,7 @@ PROGRAM = """fn main() {
         let mut lens = [0; 20];
         capi::lk_parse(&bytes, 0, 0, 1, 2, &ws, &val, &cw, &bw, 0, 0, 0, 0, &mut items, &mut limits, &mut codes, &mut lens);
         capi::lk_preview(&bytes, 0, 0, 1, 2, &items, &limits, &codes, &lens, &shorts, &bytes, &bytes, &shorts, &vars);
-        capi::lk_compile(&bytes, 0, 0, 1, 2, &mut ws, &mut val, &mut cw, &mut bw, 0, 0, 0, 0, &items, &limits, &codes, &lens);
+        capi::lk_compile(&bytes, 0, 0, 1, 2, &mut ws, &mut val, &mut cw, &mut bw, &mut births, 0, 0, 0, 0, 0, &items, &limits, &codes, &lens);
     }
 }
 """

@@ -7,17 +7,18 @@ typedef struct {
     size_t len;
 } slice;
 
-void inner_lk_read(lk_kept *, slice *, uint16_t *, int32_t *, uint16_t *, uint16_t *);
+void inner_lk_read(lk_kept *, slice *, uint16_t *, int32_t *, uint16_t *, uint16_t *, uint32_t *);
 void inner_lk_write(lk_written *, const uint16_t *, const int32_t *, const uint16_t *, const uint16_t *, uint16_t, uint16_t,
                     uint16_t, slice *);
 void inner_lk_run(lk_ran *, slice *, uint16_t, uint16_t, uint16_t, uint16_t, const uint16_t *, const int32_t *,
                   const uint16_t *, const uint16_t *, uint16_t, uint16_t, uint16_t, uint32_t, slice *, slice *, slice *,
                   slice *, slice *, uint32_t);
 
-lk_kept lk_read(const uint8_t *bytes, size_t bytes_len, uint16_t *ws, int32_t *val, uint16_t *cw, uint16_t *bw) {
+lk_kept lk_read(const uint8_t *bytes, size_t bytes_len, uint16_t *ws, int32_t *val, uint16_t *cw, uint16_t *bw,
+                uint32_t *births) {
     slice s = {bytes, bytes_len};
     lk_kept answer;
-    inner_lk_read(&answer, &s, ws, val, cw, bw);
+    inner_lk_read(&answer, &s, ws, val, cw, bw, births);
     return answer;
 }
 
@@ -43,8 +44,8 @@ lk_ran lk_run(const uint8_t *attached, size_t attached_len, uint16_t atcs, uint1
 }
 
 void inner_lk_compile(lk_kept *, slice *, uint16_t, uint16_t, uint16_t, uint16_t, uint16_t *, int32_t *, uint16_t *,
-                      uint16_t *, uint16_t, uint16_t, uint16_t, uint32_t, const int32_t *, const int16_t *,
-                      const uint64_t *, const uint8_t *);
+                      uint16_t *, uint32_t *, uint16_t, uint16_t, uint16_t, uint32_t, uint32_t, const int32_t *,
+                      const int16_t *, const uint64_t *, const uint8_t *);
 uint8_t inner_lk_parse(slice *, uint16_t, uint16_t, uint16_t, uint16_t, const uint16_t *, const int32_t *,
                        const uint16_t *, const uint16_t *, uint16_t, uint16_t, uint16_t, uint32_t, int32_t *, int16_t *,
                        uint64_t *, uint8_t *);
@@ -52,13 +53,13 @@ void inner_lk_preview(lk_previewed *, slice *, uint16_t, uint16_t, uint16_t, uin
                       const uint64_t *, const uint8_t *, slice *, slice *, slice *, slice *, slice *);
 
 lk_kept lk_compile(const uint8_t *attached, size_t attached_len, uint16_t atcs, uint16_t timer5, uint16_t timer10,
-                   uint16_t timer15, uint16_t *ws, int32_t *val, uint16_t *cw, uint16_t *bw, uint16_t nodes,
-                   uint16_t commands, uint16_t blocks, uint32_t setup, const int32_t *items, const int16_t *limits,
-                   const uint64_t *codes, const uint8_t *lens) {
+                   uint16_t timer15, uint16_t *ws, int32_t *val, uint16_t *cw, uint16_t *bw, uint32_t *births,
+                   uint16_t nodes, uint16_t commands, uint16_t blocks, uint32_t compiles, uint32_t setup,
+                   const int32_t *items, const int16_t *limits, const uint64_t *codes, const uint8_t *lens) {
     slice a = {attached, attached_len};
     lk_kept answer;
-    inner_lk_compile(&answer, &a, atcs, timer5, timer10, timer15, ws, val, cw, bw, nodes, commands, blocks, setup, items,
-                     limits, codes, lens);
+    inner_lk_compile(&answer, &a, atcs, timer5, timer10, timer15, ws, val, cw, bw, births, nodes, commands, blocks,
+                     compiles, setup, items, limits, codes, lens);
     return answer;
 }
 

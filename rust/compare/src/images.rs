@@ -20,6 +20,19 @@ fn nothing(a: &Arrays) -> bool {
         && a.bw.iter().all(|w| *w == 0)
 }
 
+/// Whether no block has a birth mark and no compile is counted: an image carries neither.
+fn anew(a: &Arrays) -> bool {
+    a.compiles == 0 && a.births.iter().all(|mark| *mark == 0)
+}
+
+/// The script with marks and a count of compiles that reading has to clear.
+fn marked(script: &Script, mark: u32) -> Script {
+    let mut arrays = script.arrays().clone();
+    arrays.births.fill(mark);
+    arrays.compiles = mark;
+    Script::from_arrays(arrays)
+}
+
 /// Reads bytes on both sides; what can be read is written again.
 pub fn check(tally: &mut Tally, script: &mut Script, bytes: &[u8]) {
     let case = || format!("image {bytes:02X?}");
@@ -28,6 +41,7 @@ pub fn check(tally: &mut Tally, script: &mut Script, bytes: &[u8]) {
     tally.count("read", ours.err().unwrap_or(0));
     let answer = theirs.as_ref().map(|_| ()).map_err(|refusal| refusal.0);
     tally.same("read", &ours, &answer, case);
+    tally.same("marks after a read", &anew(script.arrays()), &true, case);
     match theirs {
         Ok(expected) if ours.is_ok() => {
             tally.same("script", &tree::script(script.arrays()), &expected, case);
@@ -75,6 +89,9 @@ pub fn random(tally: &mut Tally, random: &mut Random, count: usize) {
                 bytes
             }
         };
+        if random.once_in(16) {
+            script = marked(&script, random.pick(&[1, 2, u32::MAX]));
+        }
         check(tally, &mut script, &bytes);
     }
 }

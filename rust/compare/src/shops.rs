@@ -100,8 +100,8 @@ pub fn parse_limits(tally: &mut Tally) {
     }
 }
 
-/// One compile on both sides: the answer, the script after it and its kept counts. Refused, no word
-/// of the arrays may have changed.
+/// One compile on both sides: the answer, the script after it, its kept counts, its birth marks and
+/// the count of compiles. Refused, no word of the arrays may have changed.
 fn check_compile(
     tally: &mut Tally,
     sheet: &Sheet,
@@ -120,8 +120,10 @@ fn check_compile(
         .map_err(|refusal| refusal.0);
     let case = || {
         format!(
-            "setup {setup}, sheet {sheet:?}, shop {slots:?}, image {:02X?}",
-            before.write()
+            "setup {setup}, sheet {sheet:?}, shop {slots:?}, image {:02X?}, marks {:?}, {} compiles",
+            before.write(),
+            &before.arrays().births[..before.blocks()],
+            before.compiles()
         )
     };
     tally.same("compile", &answer, &expected, case);
@@ -131,6 +133,20 @@ fn check_compile(
         "kept counts",
         &kept,
         &[theirs.kept.blocks, theirs.kept.commands, theirs.kept.nodes],
+        case,
+    );
+    let births = (a.births[..ours.blocks()].to_vec(), a.compiles);
+    tally.same(
+        "birth marks",
+        &births,
+        &(theirs.births.clone(), theirs.compiles),
+        case,
+    );
+    // Marks past the blocks stay whatever they were.
+    tally.same(
+        "marks past the blocks",
+        &(a.births[ours.blocks()..] == before.arrays().births[ours.blocks()..]),
+        &true,
         case,
     );
     match answer {
@@ -145,12 +161,27 @@ fn check_compile(
     answer.is_ok()
 }
 
-/// A list of compiles. After each, every block that was named runs as the last shop accepted there
-/// means, where no later compile named a block that the list appended, and parses as the original does.
+/// A script that was read, or one that was handed in with marks and a count of compiles of any kind,
+/// on both sides. Marks past the blocks are litter.
+fn both(random: &mut Random, before: &plain::Script) -> (Script, InUse) {
+    let bytes = image::write(before);
+    let script = Script::read(&bytes).expect("a script that the maker made can be read");
+    if random.once_in(2) {
+        return (script, InUse::new(before.clone()));
+    }
+    let mut a = script.arrays().clone();
+    let kinds = [0, 0, 0, 0, 0, 1, 2, u32::MAX];
+    a.births.fill_with(|| random.pick(&kinds));
+    a.compiles = random.pick(&[0, 1, 7, u32::MAX - 2, u32::MAX - 1, u32::MAX]);
+    let births = a.births[..before.blocks.len()].to_vec();
+    let theirs = InUse::born(before.clone(), births, a.compiles);
+    (Script::from_arrays(a), theirs)
+}
+
+/// A list of compiles at any block numbers. After each, every block that was named runs as the last
+/// shop accepted there means, and parses as the original does.
 fn check_list(tally: &mut Tally, random: &mut Random, case: &Case) {
-    let bytes = image::write(&case.before);
-    let mut ours = Script::read(&bytes).expect("a script that the maker made can be read");
-    let mut theirs = InUse::new(case.before.clone());
+    let (mut ours, mut theirs) = both(random, &case.before);
     let mut last: Vec<(u32, &[Slot])> = Vec::new();
     for step in &case.steps {
         if !check_compile(
@@ -163,13 +194,8 @@ fn check_list(tally: &mut Tally, random: &mut Random, case: &Case) {
         ) {
             continue;
         }
-        if step.setup as usize >= case.before.blocks.len() {
-            // Such a compile may change what an earlier one appended.
-            last.clear();
-        } else {
-            last.retain(|(setup, _)| *setup != step.setup);
-            last.push((step.setup, &step.shop));
-        }
+        last.retain(|(setup, _)| *setup != step.setup);
+        last.push((step.setup, &step.shop));
         for (setup, slots) in &last {
             let save = saves::save(random, &case.sheet);
             runs::check_meaning(tally, &case.sheet, slots, &ours, *setup, &save);

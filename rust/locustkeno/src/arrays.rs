@@ -1,4 +1,7 @@
-//! The four arrays and three kept counts that a script is, always on the heap.
+//! The arrays and counts that a script is, always on the heap.
+
+use crate::Refused;
+use crate::ffi::Kept;
 
 /// Nodes: code, left operand, right operand at 3n, 3n + 1, 3n + 2.
 pub type NodeWords = [u16; 98_304];
@@ -8,8 +11,11 @@ pub type Values = [i32; 32_768];
 pub type CommandWords = [u16; 65_536];
 /// Blocks: kind, first command, how many, next + 1, else + 1 at 5b ..
 pub type BlockWords = [u16; 20_480];
+/// The birth mark of each place of a block.
+pub type Births = [u32; 4_096];
 
-/// A script record. What lies past the kept counts means nothing.
+/// A script record: four arrays with three kept counts, and beside them where each block came from.
+/// What lies past the kept counts means nothing, marks past the block count included.
 #[derive(Debug, PartialEq, Eq)]
 pub struct Arrays {
     pub ws: Box<NodeWords>,
@@ -20,6 +26,11 @@ pub struct Arrays {
     pub nodes: u16,
     pub commands: u16,
     pub blocks: u16,
+    /// For each block 0 if it was read or built at the start, else the ordinal of the accepted compile
+    /// that appended it.
+    pub births: Box<Births>,
+    /// How many compiles were accepted.
+    pub compiles: u32,
 }
 
 /// A vector's elements as an array on the heap; an array that is made first would lie on the stack.
@@ -30,6 +41,15 @@ fn on_heap<T: std::fmt::Debug, const N: usize>(elements: Vec<T>) -> Box<[T; N]> 
 
 fn zeros<T: Copy + Default + std::fmt::Debug, const N: usize>() -> Box<[T; N]> {
     on_heap(vec![T::default(); N])
+}
+
+impl Arrays {
+    /// Takes over the counts that a call answered, and says whether it was refused.
+    pub(crate) fn keep(&mut self, kept: Kept) -> Result<(), Refused> {
+        (self.nodes, self.commands, self.blocks) = (kept.nodes, kept.commands, kept.blocks);
+        self.compiles = kept.compiles;
+        Refused::check(kept.refusal)
+    }
 }
 
 impl Default for Arrays {
@@ -43,6 +63,8 @@ impl Default for Arrays {
             nodes: 0,
             commands: 0,
             blocks: 0,
+            births: zeros(),
+            compiles: 0,
         }
     }
 }
@@ -54,6 +76,7 @@ impl Clone for Arrays {
             val: on_heap(self.val.to_vec()),
             cw: on_heap(self.cw.to_vec()),
             bw: on_heap(self.bw.to_vec()),
+            births: on_heap(self.births.to_vec()),
             ..*self
         }
     }

@@ -2,9 +2,9 @@
 //!
 //! A slice is a pointer and a length; a reference to an array is a pointer.
 
-use crate::arrays::{BlockWords, CommandWords, NodeWords, Values};
+use crate::arrays::{Births, BlockWords, CommandWords, NodeWords, Values};
 
-/// The refusal or 0, and the kept counts of a script.
+/// The refusal or 0, the kept counts of a script and the count of its accepted compiles.
 #[repr(C)]
 #[derive(Debug, Copy, Clone)]
 pub struct Kept {
@@ -12,6 +12,7 @@ pub struct Kept {
     pub nodes: u16,
     pub commands: u16,
     pub blocks: u16,
+    pub compiles: u32,
 }
 
 /// The refusal or 0, and the length of an image.
@@ -38,6 +39,7 @@ unsafe extern "C" {
         val: *mut Values,
         cw: *mut CommandWords,
         bw: *mut BlockWords,
+        births: *mut Births,
     ) -> Kept;
 
     pub fn lk_write(
@@ -85,7 +87,7 @@ pub use shops::*;
 
 mod shops {
     use super::Kept;
-    use crate::arrays::{BlockWords, CommandWords, NodeWords, Values};
+    use crate::arrays::{Births, BlockWords, CommandWords, NodeWords, Values};
     use crate::shop::{Codes, NUM_SLOTS};
 
     /// The refusal or 0, the pair of each slot, and what variable 0 ends as.
@@ -110,9 +112,11 @@ mod shops {
             val: *mut Values,
             cw: *mut CommandWords,
             bw: *mut BlockWords,
+            births: *mut Births,
             nodes: u16,
             commands: u16,
             blocks: u16,
+            compiles: u32,
             setup: u32,
             items: *const [i32; NUM_SLOTS],
             limits: *const [i16; NUM_SLOTS],

@@ -2,7 +2,7 @@
 //!
 //! A stage script holds a shop, a web of linked blocks that a parser reads as twenty slots. Every
 //! call here is one call of the library, whose promises are proved; this crate only hands memory
-//! over. Refusals have document 01's numbers.
+//! over. Refusals have the numbers of documents 01 and 02.
 //!
 //! ```
 //! use locustkeno::{Item, Refused, Save, Script, Sheet};
@@ -22,7 +22,7 @@ mod script;
 mod sheet;
 mod shop;
 
-pub use arrays::{Arrays, BlockWords, CommandWords, NodeWords, Values};
+pub use arrays::{Arrays, Births, BlockWords, CommandWords, NodeWords, Values};
 pub use refused::Refused;
 pub use save::{FLAGS, Save, TIMES, VARIABLES};
 pub use script::Preview;

@@ -1,9 +1,9 @@
-//! Refusals, by document 01's numbers.
+//! Refusals, by their numbers in documents 01 and 02.
 
 use std::error::Error;
 use std::fmt;
 
-/// A refusal, by its number in document 01.
+/// A refusal, by its number in documents 01 and 02.
 ///
 /// ```
 /// use locustkeno::Refused;
@@ -44,7 +44,8 @@ impl Refused {
             14 => "the run needs a next block and there is none",
             15 => "the run's budget is spent",
             16 => "the slice is too short for the image",
-            _ => "no refusal of document 01",
+            17 => "the block given was appended by a compile",
+            _ => "no refusal of documents 01 and 02",
         }
     }
 }

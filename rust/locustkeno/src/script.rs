@@ -29,7 +29,22 @@ pub struct Ran {
 }
 
 impl Script {
-    /// Reads the image of a script, with refusals 2 to 5.
+    /// Reads the image of a script, with refusals 2 to 5. An image carries no birth marks: every block
+    /// that was read has mark 0, and the count of compiles starts at 0.
+    ///
+    /// ```
+    /// use locustkeno::{Item, Refused, Script, Sheet, Shop};
+    /// let sheet = Sheet::new(&[None; 3], 0, [Item(0), Item(1), Item(2)]);
+    /// let shop = Shop::with_slots([]);
+    /// let mut script = Script::read(&[1, 1, 1, 0, 0, 0])?;
+    /// script.compile(&sheet, 0, &shop)?;
+    /// assert_eq!(script.compile(&sheet, 1, &shop), Err(Refused(17)));
+    /// // Block 1 is the shop's Return, and after reading it is a block like any other.
+    /// let mut anew = Script::read(&script.write()?)?;
+    /// assert_eq!((anew.birth(1), anew.compiles()), (Some(0), 0));
+    /// assert_eq!(anew.compile(&sheet, 1, &shop), Ok(()));
+    /// # Ok::<(), Refused>(())
+    /// ```
     pub fn read(image: &[u8]) -> Result<Self, Refused> {
         let mut script = Self::default();
         script.read_again(image)?;
@@ -49,10 +64,10 @@ impl Script {
                 &mut *a.val,
                 &mut *a.cw,
                 &mut *a.bw,
+                &mut *a.births,
             )
         };
-        (a.nodes, a.commands, a.blocks) = (kept.nodes, kept.commands, kept.blocks);
-        Refused::check(kept.refusal)
+        a.keep(kept)
     }
 
     /// The image of the script. A script that was read is never refused.
@@ -149,12 +164,50 @@ impl Script {
         self.arrays.blocks.into()
     }
 
+    /// The birth mark of a block: 0 if it was read or built at the start, else the ordinal of the accepted
+    /// compile that appended it. `None` where there is no such block.
+    ///
+    /// ```
+    /// use locustkeno::{Item, Refused, Script, Sheet, Shop};
+    /// let sheet = Sheet::new(&[None; 3], 0, [Item(0), Item(1), Item(2)]);
+    /// let mut script = Script::read(&[1, 1, 1, 0, 0, 0])?;
+    /// script.compile(&sheet, 0, &Shop::with_slots([]))?;
+    /// // Block 0 is the setup block, blocks 1 to 21 are the empty shop's.
+    /// assert_eq!([0, 1, 21, 22].map(|b| script.birth(b)), [Some(0), Some(1), Some(1), None]);
+    /// script.compile(&sheet, 0, &Shop::with_slots([]))?;
+    /// assert_eq!([0, 1, 21, 22].map(|b| script.birth(b)), [Some(0), Some(1), Some(1), Some(2)]);
+    /// # Ok::<(), Refused>(())
+    /// ```
+    pub fn birth(&self, block: usize) -> Option<u32> {
+        let marks = self.arrays.births.iter().take(self.blocks());
+        marks.copied().nth(block)
+    }
+
+    /// How many compiles were accepted since the script was read or built. At 4,294,967,295 it stays.
+    ///
+    /// ```
+    /// use locustkeno::{Item, Refused, Script, Sheet, Shop};
+    /// let sheet = Sheet::new(&[None; 3], 0, [Item(0), Item(1), Item(2)]);
+    /// let shop = Shop::with_slots([]);
+    /// let mut script = Script::read(&[1, 1, 1, 0, 0, 0])?;
+    /// assert_eq!(script.compiles(), 0);
+    /// script.compile(&sheet, 0, &shop)?;
+    /// // A refused compile is not counted.
+    /// assert_eq!(script.compile(&sheet, 1, &shop), Err(Refused(17)));
+    /// assert_eq!(script.compiles(), 1);
+    /// # Ok::<(), Refused>(())
+    /// ```
+    pub fn compiles(&self) -> u32 {
+        self.arrays.compiles
+    }
+
     /// The script as arrays.
     pub fn arrays(&self) -> &Arrays {
         &self.arrays
     }
 
-    /// A script from arrays, whatever they hold: the calls judge it in the place of refusals 2 to 5.
+    /// A script from arrays, whatever they hold: the calls judge it in the place of refusals 2 to 5. The
+    /// birth marks and the count of compiles are taken as they stand.
     pub fn from_arrays(arrays: Arrays) -> Self {
         Self { arrays }
     }
@@ -166,7 +219,8 @@ mod shops {
     use crate::{Refused, Save, Sheet, Shop, ffi};
 
     impl Script {
-        /// Compiles a shop and links it at block `setup`. Refused, the script stays as it was.
+        /// Compiles a shop and links it at block `setup`. A block that a compile appended is refusal 17
+        /// (see [`Script::birth`]). Refused, the script stays as it was.
         ///
         /// ```
         /// use locustkeno::{Item, Refused, Save, Script, Sheet, Shop, Slot};
@@ -199,9 +253,11 @@ mod shops {
                     &mut *a.val,
                     &mut *a.cw,
                     &mut *a.bw,
+                    &mut *a.births,
                     a.nodes,
                     a.commands,
                     a.blocks,
+                    a.compiles,
                     setup,
                     &arrays.items,
                     &arrays.limits,
@@ -209,8 +265,7 @@ mod shops {
                     &arrays.lens,
                 )
             };
-            (a.nodes, a.commands, a.blocks) = (kept.nodes, kept.commands, kept.blocks);
-            Refused::check(kept.refusal)
+            a.keep(kept)
         }
 
         /// Reads the shop that starts at block `setup`. Requirements come out sorted, each once.

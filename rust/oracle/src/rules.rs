@@ -1,4 +1,4 @@
-//! Document 01's refusals of parse and compile, 6 to 11, over the answers of the original.
+//! Refusals of parse and compile over the answers of the original: 6 to 11 of document 01, and 17 of document 02.
 
 use crate::calls;
 use crate::image::{self, Refusal};
@@ -98,23 +98,42 @@ pub fn added(sheet: &Sheet, slots: &[Slot]) -> Counts {
     Counts::of(&script.blocks[1..])
 }
 
-/// A script in use, with the counts that never fall.
+/// A script in use, with the counts that never fall and where each block came from.
 #[derive(Debug, Clone)]
 pub struct InUse {
     pub script: Script,
     pub kept: Counts,
+    /// For each block 0 if it was read or built at the start, else the ordinal of the accepted compile
+    /// that appended it.
+    pub births: Vec<u32>,
+    /// How many compiles were accepted.
+    pub compiles: u32,
 }
 
 impl InUse {
     /// A script that was just read or built.
     pub fn new(script: Script) -> Self {
-        let kept = Counts::of(&script.blocks);
-        Self { script, kept }
+        let births = vec![0; script.blocks.len()];
+        Self::born(script, births, 0)
     }
 
-    /// Compiles as document 01 says: refusals 6 to 9 first, then the original.
+    /// A script with a mark for each block and a count of compiles.
+    pub fn born(script: Script, births: Vec<u32>, compiles: u32) -> Self {
+        let kept = Counts::of(&script.blocks);
+        Self {
+            script,
+            kept,
+            births,
+            compiles,
+        }
+    }
+
+    /// Compiles as documents 01 and 02 say: refusals 6, 7, 17, 8 and 9 first, then the original.
     pub fn compile(&mut self, sheet: &Sheet, setup: usize, slots: &[Slot]) -> Result<(), Refusal> {
         check_setup(&self.script, setup)?;
+        if self.births[setup] != 0 {
+            return Err(Refusal(17));
+        }
         check_shop(sheet, slots)?;
         let kept = self.kept.plus(added(sheet, slots));
         if kept.passes_a_limit() {
@@ -122,6 +141,8 @@ impl InUse {
         }
         calls::compile(sheet, &mut self.script, setup, slots).expect("nothing is left to panic");
         self.kept = kept;
+        self.compiles = self.compiles.saturating_add(1);
+        self.births.resize(kept.blocks, self.compiles);
         Ok(())
     }
 }

@@ -6,10 +6,10 @@ use Rattle.calls_cases.proofs.cases.Statement.{statement}
 use Rattle.calls_cases.proofs.cases.Tie as tie
 
 abbrev Inv-loop : tie.InvT-loop
-Inv-loop text image₀ ws₀ val₀ cw₀ bw₀ h₀ at₀ image ws val cw bw h at = Unit {0}
+Inv-loop text image₀ ws₀ val₀ cw₀ bw₀ births₀ h₀ at₀ image ws val cw bw births h at = Unit {0}
 
 abbrev μ-loop : tie.MeasureT-loop
-μ-loop text image₀ ws₀ val₀ cw₀ bw₀ h₀ at₀ image ws val cw bw h at = length text - at
+μ-loop text image₀ ws₀ val₀ cw₀ bw₀ births₀ h₀ at₀ image ws val cw bw births h at = length text - at
 
 nothing-requires : tie.Need-nothing-requires Inv-loop μ-loop
 nothing-requires c κs = search needs

@@ -5,10 +5,10 @@ use Rattle.replay.proofs.all_compiles.Statement.{statement}
 use Rattle.replay.proofs.all_compiles.Tie as tie
 
 abbrev Inv-loop : tie.InvT-loop
-Inv-loop s n attached sheet ws₀ val₀ cw₀ bw₀ t₀ i₀ ws val cw bw t i = i ≤ n
+Inv-loop s n attached sheet ws₀ val₀ cw₀ bw₀ births₀ t₀ i₀ ws val cw bw births t i = i ≤ n
 
 abbrev μ-loop : tie.MeasureT-loop
-μ-loop s n attached sheet ws₀ val₀ cw₀ bw₀ t₀ i₀ ws val cw bw t i = n - i
+μ-loop s n attached sheet ws₀ val₀ cw₀ bw₀ births₀ t₀ i₀ ws val cw bw births t i = n - i
 
 loop-holds : tie.Need-loop-holds Inv-loop μ-loop
 loop-holds c = search needs

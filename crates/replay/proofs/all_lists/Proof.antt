@@ -6,10 +6,10 @@ use Rattle.replay.proofs.all_lists.Statement.{statement}
 use Rattle.replay.proofs.all_lists.Tie as tie
 
 abbrev Inv-loop : tie.InvT-loop
-Inv-loop s at ws₀ val₀ cw₀ bw₀ n t₀ i₀ ws val cw bw t i = (i ≤ n .value) × Fair i t
+Inv-loop s at ws₀ val₀ cw₀ bw₀ births₀ n t₀ i₀ ws val cw bw births t i = (i ≤ n .value) × Fair i t
 
 abbrev μ-loop : tie.MeasureT-loop
-μ-loop s at ws₀ val₀ cw₀ bw₀ n t₀ i₀ ws val cw bw t i = n .value - i
+μ-loop s at ws₀ val₀ cw₀ bw₀ births₀ n t₀ i₀ ws val cw bw births t i = n .value - i
 
 number-at-requires : tie.Need-number-at-requires Inv-loop μ-loop
 number-at-requires c κs = search needs
