@@ -15,6 +15,7 @@ use Rattle.parse_keys.specs.Entries.{entryCode}
 use Rattle.parse_filter.specs.Chains.{companionOf}
 use Rattle.parse_filter.specs.Filter.{stay, unmet, Sifted, companionCodes, Holds}
 use Rattle.parse_filter.specs.Members.{stay-append, sorted-more, sorted-on}
+use Rattle.parse_filter.specs.Companions.{held-filtered}
 
 -- ---- the filter
 
@@ -32,7 +33,10 @@ module _ (cs : List ℕ) (seen : List Bool) (al₀ : List ℕ) (n : ℕ) (held :
   sifting-start = record { is = refl; low = omega arith; high = omega arith; rest = λ i h. refl; long = refl }
 
   pub sifting-end : (al : List ℕ) (kept j : ℕ) → Sifting cs seen al₀ n al kept j → n ≤ j → Sifted cs seen al₀ n al kept
-  sifting-end al kept j s h = let z : j ≡ n = omega (arith, s .high) in record { is = rw z at (s .is); most = omega (arith, s .low) }
+  sifting-end al kept j s h =
+      let z : j ≡ n = omega (arith, s .high) in
+      let is : take kept al ≡ unmet seen (companionOf cs) (take n al₀) = rw z at (s .is) in
+      record { is = is; filters = λ set w. is ∙ held-filtered cs seen (take n al₀) set w; most = omega (arith, s .low) }
 
   module _ (al : List ℕ) (kept j : ℕ) (s : Sifting cs seen al₀ n al kept j) (l : j < n) (e : ℕ) (w : e ≡ getD al j 0) where
     word : e ≡ getD al₀ j 0

@@ -2,6 +2,8 @@ pub mod Chains
 pub mod Filter
 pub mod Marks
 pub mod Members
+pub mod Companions
+pub mod FilterCases
 pub mod ChainLaws
 pub mod Frames
 pub mod Negations

@@ -22,8 +22,9 @@ use Rattle.parse_keys.specs.Entries.{turned, entryCode, entryReq, Valid, Keys}
 use Rattle.parse_keys.specs.Turns.{by-parity, req-even, req-odd, turn-req, turn-valid}
 use Rattle.parse_keys.specs.Tables.{Companions}
 use Rattle.parse_filter.specs.Chains.{companionOf, has}
-use Rattle.parse_filter.specs.Filter.{filtered, companionCodes, negatedCodes}
-use Rattle.parse_filter.specs.Members.{true≢false, both-ways, or-cases, or-left, or-right, or-assoc, or-comm, has-stay, has-self, has-later, member-sorted}
+use Rattle.parse_filter.specs.Filter.{stay, filtered, companionCodes, negatedCodes}
+use Rattle.parse_filter.specs.Members.{true≢false, both-ways, or-cases, or-left, or-right, or-assoc, or-comm, has-self, has-later, member-sorted}
+use Rattle.parse_filter.specs.Companions.{filtered-has}
 
 -- ---- negated requirements
 
@@ -109,6 +110,15 @@ member-of f e (x ∷ xs) h = or-cases (eqb e x) (has e xs) h
     (λ a. let z : e ≡ x = eqb-true e x a in or-left (sameReq (f e) (f x)) (member (f e) (map f xs)) (rw z (same-refl (f x))))
     (λ a. or-right (sameReq (f e) (f x)) (member (f e) (map f xs)) (member-of f e xs a))
 
+map-stay : (f : ℕ → Requirement) (p : ℕ → Bool) (q : Requirement → Bool) (xs : List ℕ) → ((e : ℕ) → has e xs ≡ true → p e ≡ q (f e)) → map f (stay p xs) ≡ keep q (map f xs)
+unfolding stay
+map-stay f p q [] a = refl
+map-stay f p q (x ∷ xs) a = by (p x) (a x (has-self x xs)) (map-stay f p q xs (λ e h. a e (has-later e x xs h)))
+  where
+    by : (t : Bool) → t ≡ q (f x) → map f (stay p xs) ≡ keep q (map f xs) → map f (cond t (x ∷ stay p xs) (stay p xs)) ≡ cond (q (f x)) (f x ∷ keep q (map f xs)) (keep q (map f xs))
+    by true z ih = rw (← z, ih)
+    by false z ih = rw (← z) ih
+
 settled-member : (q : Requirement) (gs : List Requirement) → member q (settled gs) ≡ not (member (negateReq q) gs) && member q gs
 unfolding settled
 settled-member q gs = member-keep (λ r. not (member (negateReq r) gs)) q gs
@@ -176,27 +186,20 @@ module _ (ks cs : List ℕ) (m : ℕ) (keys : Keys ks m) (companions : Companion
   kept : List ℕ
   kept = filtered xs (companionOf cs)
 
-  kept-has : (e : ℕ) → has e kept ≡ not (has (companionOf cs e) xs) && has e xs
-  unfolding kept filtered
-  kept-has e = has-stay (λ x. not (has (companionOf cs x) xs)) e xs
-
   kept-valid : (e : ℕ) → has e kept ≡ true → Valid m e
-  kept-valid e h = valid e (and-right (not (has (companionOf cs e) xs)) (has e xs) (sym (kept-has e) ∙ h))
+  unfolding kept
+  kept-valid e h = valid e (and-right (not (has (companionOf cs e) xs)) (has e xs) (sym (filtered-has xs (companionOf cs) e) ∙ h))
+
+  -- 02, A.3: with the negations as companions, the sets are the same as before
+  pub filtered-settled : map (entryReq ks) (filtered xs (companionOf cs)) ≡ settled (map (entryReq ks) xs)
+  unfolding filtered settled
+  filtered-settled =
+      map-stay (entryReq ks) (λ e. not (has (companionOf cs e) xs)) (λ r. not (member (negateReq r) (map (entryReq ks) xs))) xs
+      (λ e h. ap not (companion-there e (valid e h)))
 
   kept-member : (q : Requirement) → member q (map (entryReq ks) kept) ≡ not (member (negateReq q) (map (entryReq ks) xs)) && member q (map (entryReq ks) xs)
-  kept-member q = both-ways (member q (map (entryReq ks) kept)) (not (member (negateReq q) (map (entryReq ks) xs)) && member q (map (entryReq ks) xs)) to from
-    where
-      to : member q (map (entryReq ks) kept) ≡ true → not (member (negateReq q) (map (entryReq ks) xs)) && member q (map (entryReq ks) xs) ≡ true
-      to h =
-          let w = of-member (entryReq ks) q kept h in
-          let v = kept-valid (w .at) (w .held) in
-          rw (← w .is, ← companion-there (w .at) v, ← entry-there (w .at) v) (sym (kept-has (w .at)) ∙ w .held)
-
-      from : not (member (negateReq q) (map (entryReq ks) xs)) && member q (map (entryReq ks) xs) ≡ true → member q (map (entryReq ks) kept) ≡ true
-      from h =
-          let w = of-member (entryReq ks) q xs (and-right (not (member (negateReq q) (map (entryReq ks) xs))) (member q (map (entryReq ks) xs)) h) in
-          let v = valid (w .at) (w .held) in
-          rw (w .is) at (member-of (entryReq ks) (w .at) kept (kept-has (w .at) ∙ (rw (companion-there (w .at) v, entry-there (w .at) v, w .is) h)))
+  unfolding kept
+  kept-member q = ap (member q) filtered-settled ∙ settled-member q (map (entryReq ks) xs)
 
   codes-read : (l : List ℕ) → ((e : ℕ) → has e l ≡ true → Valid m e) → map (λ e. entryCode ks (companionOf cs e)) l ≡ map codeOf (map (λ e. negateReq (entryReq ks e)) l)
   codes-read [] a = refl
