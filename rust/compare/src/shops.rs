@@ -161,15 +161,20 @@ fn check_compile(
     answer.is_ok()
 }
 
-/// A script that was read, or one that was handed in with marks and a count of compiles of any kind,
-/// on both sides. Marks past the blocks are litter.
-fn both(random: &mut Random, before: &plain::Script) -> (Script, InUse) {
+/// A script on both sides.
+type Both = (Script, InUse);
+
+/// A script that was just read.
+fn read(before: &plain::Script) -> Both {
     let bytes = image::write(before);
     let script = Script::read(&bytes).expect("a script that the maker made can be read");
-    if random.once_in(2) {
-        return (script, InUse::new(before.clone()));
-    }
-    let mut a = script.arrays().clone();
+    (script, InUse::new(before.clone()))
+}
+
+/// A script that is handed in with marks and a count of compiles of any kind. Marks past the blocks
+/// are litter.
+fn marked(random: &mut Random, before: &plain::Script) -> Both {
+    let mut a = read(before).0.arrays().clone();
     let kinds = [0, 0, 0, 0, 0, 1, 2, u32::MAX];
     a.births.fill_with(|| random.pick(&kinds));
     a.compiles = random.pick(&[0, 1, 7, u32::MAX - 2, u32::MAX - 1, u32::MAX]);
@@ -180,8 +185,8 @@ fn both(random: &mut Random, before: &plain::Script) -> (Script, InUse) {
 
 /// A list of compiles at any block numbers. After each, every block that was named runs as the last
 /// shop accepted there means, and parses as the original does.
-fn check_list(tally: &mut Tally, random: &mut Random, case: &Case) {
-    let (mut ours, mut theirs) = both(random, &case.before);
+fn check_list(tally: &mut Tally, random: &mut Random, case: &Case, start: Both) {
+    let (mut ours, mut theirs) = start;
     let mut last: Vec<(u32, &[Slot])> = Vec::new();
     for step in &case.steps {
         if !check_compile(
@@ -211,14 +216,19 @@ fn check_list(tally: &mut Tally, random: &mut Random, case: &Case) {
 pub fn lists(tally: &mut Tally, random: &mut Random, count: usize) {
     for _ in 0..count {
         let case = compile_cases::case(random);
-        check_list(tally, random, &case);
+        let start = if random.once_in(2) {
+            marked(random, &case.before)
+        } else {
+            read(&case.before)
+        };
+        check_list(tally, random, &case, start);
     }
 }
 
 /// Compiles that just fit and that just do not.
 pub fn compile_limits(tally: &mut Tally, random: &mut Random) {
     for case in record::limits::compile_cases() {
-        check_list(tally, random, &case);
+        check_list(tally, random, &case, read(&case.before));
     }
 }
 

@@ -78,6 +78,20 @@ fn differs_a_block_not_code_gets_blocks_pushed_by_the_original() {
 }
 
 #[test]
+fn differs_an_appended_block_is_linked_by_the_original() {
+    let mut in_use = InUse::new(one_return());
+    assert_eq!(in_use.compile(&sheet(), 0, &[]), Ok(()));
+    let mut script = in_use.script.clone();
+    // 17 comes before 8 (document 02, A.2).
+    for shop in [vec![], vec![slot(99, 1, &[])]] {
+        assert_eq!(in_use.compile(&sheet(), 1, &shop), Err(Refusal(17)));
+    }
+    assert_eq!(in_use.script, script);
+    assert_eq!(calls::compile(&sheet(), &mut script, 1, &[]), Ok(()));
+    assert_eq!(script.blocks.len(), 43);
+}
+
+#[test]
 fn agrees_contradictions_drop_within_one_condition_only() {
     agree(
         "03 01 01 03 0D 0B 02 00 02 03 01 01 02 00 0B D8 09 0B 00 00 00 01 01 02 00 0B D8 09 0B 00 00 00",

@@ -54,7 +54,7 @@ pub fn case(random: &mut Random) -> Case {
         blocks,
     };
     let before = maker.script();
-    let count = maker.random.pick(&[0, 1, 1, 1, 1, 1, 1, 2, 2, 3]);
+    let count = maker.random.pick(&[0, 1, 1, 1, 1, 1, 2, 2, 3, 4]);
     let calls = (0..count).map(|_| call(&mut maker)).collect();
     answered(sheet, before, calls)
 }
@@ -66,7 +66,7 @@ fn call(maker: &mut Maker) -> (u32, Vec<Slot>) {
         0 => blocks,
         1 => u32::MAX,
         // A block that an earlier compile of the list may have appended.
-        2 => blocks + maker.random.below(40) as u32,
+        2..=4 => blocks + maker.random.below(40) as u32,
         _ => maker.block() as u32,
     };
     let doubtful = maker.random.once_in(8);
