@@ -10,7 +10,7 @@ compile-arrays-requires : tie.Need-compile-arrays-requires
 compile-arrays-requires c κs = search needs
 
 returns : tie.Need-returns
-returns c = rw (c .before .before .before .before .before .before .sheet-by .ensures) at (c .before .compile-arrays .ensures)
+returns c = rw (c .before .before .before .before .before .before .before .sheet-by .ensures) at (c .before .compile-arrays .ensures)
 
 pub lk-compile-spec : {M : Type 1} → statement M
 lk-compile-spec = tie.close (tie.spec sheet-by-requires compile-arrays-requires returns)
