@@ -74,12 +74,14 @@ module _ (h : Sheet) (k : Born) (c : Call) where
   unfolding compiledIn
   refused-stays d = rw (ne-eqb (compileRefusalIn h k c) 0 d)
 
-  -- at a block whose mark is not 0 the answer is that of 1 to 7, else 17
-  pub later-answer : (bornAt k (c .setup) ≡ 0 → ⊥) → compileRefusalIn h k c ≡ firstOf (callIn h (k .memory) (c .setup) ∷ bornLater ∷ [])
+  -- at a block whose mark is not 0 the answer is that of 1 to 7, else 17, and nothing changes
+  pub later-refused : (bornAt k (c .setup) ≡ 0 → ⊥) → (compileRefusalIn h k c ≡ firstOf (callIn h (k .memory) (c .setup) ∷ bornLater ∷ [])) × (compiledIn h k c ≡ k)
   unfolding compileRefusalIn compileChecks callIn
-  later-answer d =
-      rw (ne-eqb (bornAt k (c .setup)) 0 d)
-      (by (callIn h (k .memory) (c .setup)) (shopRefusal h (c .shop) ∷ check (hasRoom discLimits (scriptOf (k .memory)) (freshBlocks h (scriptOf (k .memory)) c)) noRoom ∷ []))
+  later-refused d = (
+    rw (ne-eqb (bornAt k (c .setup)) 0 d)
+    (by (callIn h (k .memory) (c .setup)) (shopRefusal h (c .shop) ∷ check (hasRoom discLimits (scriptOf (k .memory)) (freshBlocks h (scriptOf (k .memory)) c)) noRoom ∷ [])),
+    refused-stays (λ z. d (passed-in z .born))
+  )
     where
       by : (a : ℕ) (ns : List ℕ) → firstOf (a ∷ bornLater ∷ ns) ≡ firstOf (a ∷ bornLater ∷ [])
       by zero ns = refl

@@ -62,8 +62,8 @@ pub record Delivered (h : Sheet) (k : Born) (xs : List Made) : Type 0 where
   pub runs : (b : ℕ) (ys : List Slot) → lastAt made k xs b ≡ some ys → (s : Save) → saveRefusal h s ≡ 0 → (budget : ℕ) (r : code.Ran) (v′ : List ℤ)
       → ranOf r v′ ≡ runIn h (afterAll made k xs .memory) b s budget → RanWell h s ys budget r v′
   -- a run that is not refused ends the same with any other budget
-  pub same : (b : ℕ) (ys : List Slot) → lastAt made k xs b ≡ some ys → (s : Save) → saveRefusal h s ≡ 0 → (budget more : ℕ) (r q : code.Ran) (v w : List ℤ)
-      → ranOf r v ≡ runIn h (afterAll made k xs .memory) b s budget → ranOf q w ≡ runIn h (afterAll made k xs .memory) b s more → r .refusal ≡ 0 → q .refusal ≡ 0 → ranOf r v ≡ ranOf q w
+  pub same : (b : ℕ) (ys : List Slot) → lastAt made k xs b ≡ some ys → (s : Save) → saveRefusal h s ≡ 0 → (budget other : ℕ) (r q : code.Ran) (v w : List ℤ)
+      → ranOf r v ≡ runIn h (afterAll made k xs .memory) b s budget → ranOf q w ≡ runIn h (afterAll made k xs .memory) b s other → r .refusal ≡ 0 → q .refusal ≡ 0 → ranOf r v ≡ ranOf q w
   -- the parser reads there exactly that shop in normal form
   pub parses : (b : ℕ) (ys : List Slot) → lastAt made k xs b ≡ some ys → (r : ParsedShop) → ParsedAs (parseIn h (afterAll made k xs .memory) b) r
       → (r .refusal ≡ 0) × (slotsOf (r .shop) ≡ normalShop h ys)
@@ -120,9 +120,9 @@ module _ (h : Sheet) where
             few = λ o. subst (λ (n : ℕ). n ≤ runBlocks) (sym (ap (λ (q : Ran). q .entered) p)) (a .few budget (sym z ∙ o));
             means = λ o. subst (Means h s ys (s .variables)) (sym (ap (λ (q : Ran). q .variables) p)) (a .means budget (sym z ∙ o));
           };
-      same = λ b ys e s f budget more r q v w p u o i.
+      same = λ b ys e s f budget other r q v w p u o i.
           let a = runs-at b ys e s f in
-          p ∙ a .same budget (sym (ap (λ (x : Ran). x .answer) p) ∙ o) ∙ sym (u ∙ a .same more (sym (ap (λ (x : Ran). x .answer) u) ∙ i));
+          p ∙ a .same budget (sym (ap (λ (x : Ran). x .answer) p) ∙ o) ∙ sym (u ∙ a .same other (sym (ap (λ (x : Ran). x .answer) u) ∙ i));
       parses = λ b ys e r p.
           let q : parseIn h (afterAll made k xs .memory) b ≡ record { answer = 0; slots = normalShop h ys }
           = ap (λ (t : Born). parseIn h (t .memory) b) (followed .after) ∙ demand .parses b ys (last-is b ∙ e) in

@@ -31,7 +31,7 @@ use Rattle.memory.specs.RecordLaws.{judged-sound, block-at, length-blocksIn, pr
 use Rattle.model.specs.Preview.{previewCall}
 use Rattle.preview.specs.Agree.{Agrees, preview-agrees}
 use Rattle.memory.specs.Transfer.{accepted-script, compile-transfer}
-use Rattle.engine.specs.Born.{Later, LongBorn, later-answer, later-once, later-start, none-appended, passed-in, refused-stays}
+use Rattle.engine.specs.Born.{Later, LongBorn, later-once, later-refused, later-start, none-appended, passed-in, refused-stays}
 
 -- the clauses of demand 3, in the terms of the calls on a record
 pub record Demand3In (h : Sheet) (k : Born) (cs : List Call) : Type 0 where
@@ -163,8 +163,8 @@ module _ (h : Sheet) where
           later = λ c p q.
               let marked = subst (Later (k .memory .count)) (sym (trace .after)) (marked-all k long ds (trace .accepted)) in
               let passes = call-same h (end .memory) fin stands-end (c .setup) ∙ appended-passes h sc ds (c .setup) (omega arith) (omega arith) in
-              let a : compileRefusalIn h end c ≡ bornLater = later-answer h end c (marked .marked (c .setup) p q) ∙ ap (λ (r : ℕ). firstOf (r ∷ bornLater ∷ [])) passes in
-              (a, refused-stays h end c (λ z. omega arith));
+              let a = later-refused h end c (marked .marked (c .setup) p q) in
+              (a .0 ∙ ap (λ (r : ℕ). firstOf (r ∷ bornLater ∷ [])) passes, a .1);
         }
 
   -- ---- a record that is refused stays as it is: no compile on it is accepted

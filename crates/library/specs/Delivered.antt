@@ -68,8 +68,8 @@ pub record Delivered (h : Sheet) (k : Born) (xs : List Made) : Type 0 where
   pub runs : (b : ℕ) (ys : List Slot) → lastAt made k xs b ≡ some ys → (s : Save) → saveRefusal h s ≡ 0 → (budget : ℕ) (r : Ran) (v : List ℤ)
       → ranAs r v ≡ runIn h (afterAll made k xs .memory) b s budget → engine.RanWell h s ys budget (ranBy r) v
   -- one that is not refused ends the same with any other budget
-  pub same : (b : ℕ) (ys : List Slot) → lastAt made k xs b ≡ some ys → (s : Save) → saveRefusal h s ≡ 0 → (budget more : ℕ) (r q : Ran) (v w : List ℤ)
-      → ranAs r v ≡ runIn h (afterAll made k xs .memory) b s budget → ranAs q w ≡ runIn h (afterAll made k xs .memory) b s more → r .refusal ≡ 0 → q .refusal ≡ 0 → ranAs r v ≡ ranAs q w
+  pub same : (b : ℕ) (ys : List Slot) → lastAt made k xs b ≡ some ys → (s : Save) → saveRefusal h s ≡ 0 → (budget other : ℕ) (r q : Ran) (v w : List ℤ)
+      → ranAs r v ≡ runIn h (afterAll made k xs .memory) b s budget → ranAs q w ≡ runIn h (afterAll made k xs .memory) b s other → r .refusal ≡ 0 → q .refusal ≡ 0 → ranAs r v ≡ ranAs q w
   -- lk_parse leaves there the arrays of exactly that shop in normal form
   pub parses : (b : ℕ) (ys : List Slot) → lastAt made k xs b ≡ some ys → (n : ℕ) (t : Arrays) → ParsedInto (parseIn h (afterAll made k xs .memory) b) n t
       → (n ≡ 0) × (shopOf t ≡ normalShop h ys)
@@ -125,7 +125,7 @@ module _ (h : Sheet) (k : Born) (xs : List Made) (long : LongBorn k) (promised :
   pub delivered : Delivered h k xs
   delivered = record {
     runs = λ b ys e s f budget r v p. demand .runs b ys (last-is b ∙ e) s f budget (ranBy r) v (p ∙ run-at b s budget);
-    same = λ b ys e s f budget more r q v w p u o i. demand .same b ys (last-is b ∙ e) s f budget more (ranBy r) (ranBy q) v w (p ∙ run-at b s budget) (u ∙ run-at b s more) o i;
+    same = λ b ys e s f budget other r q v w p u o i. demand .same b ys (last-is b ∙ e) s f budget other (ranBy r) (ranBy q) v w (p ∙ run-at b s budget) (u ∙ run-at b s other) o i;
     parses = λ b ys e n t p.
         demand .parses b ys (last-is b ∙ e) (record { refusal = n; shop = shopFrom t })
         (subst (λ (g : Born). ParsedAs (parseIn h (g .memory) b) (record { refusal = n; shop = shopFrom t })) (followed .after) (p .stands));
