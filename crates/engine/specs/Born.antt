@@ -79,8 +79,8 @@ module _ (h : Sheet) (k : Born) (c : Call) where
   unfolding compileRefusalIn compileChecks callIn
   later-refused d = (
     rw (ne-eqb (bornAt k (c .setup)) 0 d)
-    (by (callIn h (k .memory) (c .setup)) (shopRefusal h (c .shop) ∷ check (hasRoom discLimits (scriptOf (k .memory)) (freshBlocks h (scriptOf (k .memory)) c)) noRoom ∷ [])),
-    refused-stays (λ z. d (passed-in z .born))
+        (by (callIn h (k .memory) (c .setup)) (shopRefusal h (c .shop) ∷ check (hasRoom discLimits (scriptOf (k .memory)) (freshBlocks h (scriptOf (k .memory)) c)) noRoom ∷ [])),
+    refused-stays (λ z. d (passed-in z .born)),
   )
     where
       by : (a : ℕ) (ns : List ℕ) → firstOf (a ∷ bornLater ∷ ns) ≡ firstOf (a ∷ bornLater ∷ [])
