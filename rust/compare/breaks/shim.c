@@ -83,3 +83,12 @@ lk_previewed lk_preview(const uint8_t *attached, size_t attached_len, uint16_t a
     inner_lk_preview(&answer, &a, atcs, timer5, timer10, timer15, items, limits, codes, lens, &c, &h, &f, &t, &v);
     return answer;
 }
+
+void inner_lk_with_slots(slice *, slice *, slice *, slice *, int32_t *, int16_t *, uint64_t *, uint8_t *);
+
+void lk_with_slots(const int32_t *items, size_t items_len, const int16_t *limits, size_t limits_len,
+                   const uint64_t *codes, size_t codes_len, const uint8_t *lens, size_t lens_len, int32_t *to_items,
+                   int16_t *to_limits, uint64_t *to_codes, uint8_t *to_lens) {
+    slice i = {items, items_len}, l = {limits, limits_len}, c = {codes, codes_len}, n = {lens, lens_len};
+    inner_lk_with_slots(&i, &l, &c, &n, to_items, to_limits, to_codes, to_lens);
+}
