@@ -21,7 +21,21 @@ pub struct Others {
 }
 
 fn main() {
-    // the negations: 0 and 1 are a pair, 2 and 3 another
+    negations();
+    own_companions();
+    companions_apart();
+    one_way();
+    io::print_decimal(libc::STDOUT_FILENO, wide(first_wrong()));
+    io::write_all(
+        libc::STDOUT_FILENO,
+        b" sets, each under 625 tables of companions\n",
+    );
+}
+
+// ---- the cases
+
+// The negations: 0 and 1 are a pair, 2 and 3 another.
+fn negations() {
     show(
         Words {
             a: 2,
@@ -37,7 +51,10 @@ fn main() {
             s: 2,
         },
     );
-    // each entry its own companion
+}
+
+// Each entry its own companion.
+fn own_companions() {
     show(
         Words {
             a: 2,
@@ -53,7 +70,10 @@ fn main() {
             s: 3,
         },
     );
-    // companions that are in no set
+}
+
+// Companions that are in no set.
+fn companions_apart() {
     show(
         Words {
             a: 2,
@@ -69,7 +89,10 @@ fn main() {
             s: 4,
         },
     );
-    // 0 names 1, which does not name 0
+}
+
+// 0 names 1, which does not name 0.
+fn one_way() {
     show(
         Words {
             a: 2,
@@ -84,11 +107,6 @@ fn main() {
             r: 4,
             s: 4,
         },
-    );
-    io::print_decimal(libc::STDOUT_FILENO, wide(first_wrong()));
-    io::write_all(
-        libc::STDOUT_FILENO,
-        b" sets, each under 625 tables of companions\n",
     );
 }
 
