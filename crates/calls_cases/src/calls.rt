@@ -143,10 +143,10 @@ pub fn compiled(
     t: &mut [u32; 16],
 ) -> Kept {
     let held = kept.counts;
-    let before = sum_births(births, kept.compiles, sum(ws, val, cw, bw, held));
+    let before = sum_births(births, mixed(sum(ws, val, cw, bw, held), kept.compiles));
     let c = compile_by(a, ws, val, cw, bw, births, kept);
     let k = c.counts;
-    let after = sum_births(births, c.compiles, sum(ws, val, cw, bw, k));
+    let after = sum_births(births, mixed(sum(ws, val, cw, bw, k), c.compiles));
     tell_counts(t, c.refusal, k);
     t[4] = root_of(bw, low16(a[8]));
     t[5] = bit(before == after);
@@ -219,8 +219,8 @@ fn sum_numbers(s: &[i32], from: u64) -> u64 {
     h
 }
 
-fn sum_births(s: &[u32], compiles: u32, from: u64) -> u64 {
-    let mut h = mixed(from, compiles);
+fn sum_births(s: &[u32], from: u64) -> u64 {
+    let mut h = from;
     let mut i: usize = 0;
     while i < s.len() {
         h = mixed(h, s[i]);
