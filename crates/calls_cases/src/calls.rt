@@ -1,5 +1,6 @@
 // Each call with the numbers of a line, and what it answered as numbers: compile, parse, run beside preview, judge, and an image read or written.
 use crate::changes::low8;
+use crate::changes::size;
 use compile::Compiled;
 use compile::births::start_anew;
 use compile::compile;
@@ -237,7 +238,7 @@ fn mixed(h: u64, x: u32) -> u64 {
 
 // The mark of a place of a block, and the count of accepted compiles.
 pub fn asked(here: bool, a: &[u32; 224], births: &Births, compiles: u32, t: &mut [u32; 16]) {
-    let i = a[1] as usize;
+    let i = size(a[1]);
     if here && i < BLOCKS {
         t[0] = births[i];
         t[1] = compiles;

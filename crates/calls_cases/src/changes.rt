@@ -74,7 +74,7 @@ fn set_word(words: &mut [u16], i: usize, x: u32) {
 
 // M: the mark of a place of a block.
 pub fn mark(op: u8, a: &[u32; 224], births: &mut Births) {
-    let i = a[1] as usize;
+    let i = size(a[1]);
     if op == b'M' && i < BLOCKS {
         births[i] = a[2];
     }
@@ -98,7 +98,7 @@ fn repeated(a: &[u32; 224], image: &mut [u8; 65600]) -> usize {
     at
 }
 
-fn size(x: u32) -> usize {
+pub fn size(x: u32) -> usize {
     x as usize
 }
 
