@@ -5,6 +5,7 @@ ghost use Rattle.memory.specs.View.{bornOf};
 ghost use Rattle.shop.specs.Shapes.{sheetOf};
 ghost use Rattle.shop_arrays.specs.Arrays.{arraysIn, shopFrom};
 ghost use Rattle.compile.specs.Answer.{callOf, CompiledAs};
+
 pub mod births;
 
 use births::birth_of;

@@ -12,8 +12,8 @@ use image_read::read_script;
 use image_write::write_script;
 use libc::STDIN_FILENO;
 use libc::STDOUT_FILENO;
-use memory::BLOCKS;
 use memory::BLOCK_WORDS;
+use memory::BLOCKS;
 use memory::Births;
 use memory::BlockWords;
 use memory::COMMAND_WORDS;
@@ -403,7 +403,19 @@ fn one_compile(
     let shop = given.shop;
     let at = BlockNo(setup.value as u32);
     let n = t.compiles;
-    let c = compile(attached, sheet, ws, val, cw, bw, births, counts, n, at, shop);
+    let c = compile(
+        attached,
+        sheet,
+        ws,
+        val,
+        cw,
+        bw,
+        births,
+        counts,
+        n,
+        at,
+        shop,
+    );
     let left = c.counts;
     Listed {
         counts: left,
