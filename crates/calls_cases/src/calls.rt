@@ -2,7 +2,7 @@
 use crate::changes::low8;
 use crate::changes::size;
 use compile::Compiled;
-use compile::births::start_anew;
+use births::start_anew;
 use compile::compile;
 use image_read::Image;
 use image_read::read_script;

@@ -18,7 +18,7 @@ ghost use Rattle.parse.specs.Answer.{ParsedInto};
 ghost use Rattle.preview.specs.Shown.{previewedOf};
 ghost use Rattle.shop_with_slots.specs.Twenty.{twenty};
 ghost use Rattle.capi.specs.Answers.{countsBy, countsIn, sheetBy, readAs, ranAs, previewedAs};
-use compile::births::start_anew;
+use births::start_anew;
 use compile::compile_arrays;
 use image_read::Image;
 use image_read::read_script;

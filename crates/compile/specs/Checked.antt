@@ -8,7 +8,7 @@ use lib.Dec.{eqb}
 use lib.ListN.{length, replicate}
 use lib.Seq.{sets}
 use borrow.Author.Tests.{eq-eqb, ne-eqb}
-use Rattle.model.specs.Limits.{slotCount, blockLimit}
+use Rattle.model.specs.Limits.{slotCount}
 use Rattle.model.specs.Refusal.{firstOf, check, bornLater}
 use Rattle.model.specs.Sheet as Model
 use Rattle.model.specs.Sheet.{all}
@@ -20,7 +20,7 @@ use Rattle.model.specs.RecordCalls.{Born, bornAt, oneCompile, callIn, compileRe
 use Rattle.model.specs.Laws.Checks.{first-passed, passed}
 use Rattle.model.specs.Laws.Judged.{room-low}
 use Rattle.memory.specs.Sound.{Room}
-use Rattle.memory.specs.Transfer.{blocks-counted, judged-kept}
+use Rattle.memory.specs.Transfer.{blocks-counted}
 use Rattle.shop.specs.Shapes.{slotsOf}
 use Rattle.shop.specs.Sets.{AllExact}
 use Rattle.shop.specs.Slots.{shop-exact, with-all}
@@ -38,10 +38,6 @@ commands-kept m = refl
 pub nodes-kept : (m : Memory) → scriptOf m .nodes ≡ m .coded .nodes .count
 unfolding scriptOf
 nodes-kept m = refl
-
--- a block that passed 6, of a record that passed 2 to 5, is below the limit
-pub setup-low : (h : Model.Sheet) (m : Memory) (b : ℕ) → callIn h m b ≡ 0 → b < blockLimit
-setup-low h m b e = let p = call-passed h m b e in omega (arith, p .inside, judged-kept m (p .blocks) (p .rest) (p .judged) .0)
 
 module _ (h : Model.Sheet) (k : Born) (b : ℕ) (s : Shop) (twenty : length (s .slots) ≡ slotCount) where
   abbrev m : Memory

@@ -1,3 +1,2 @@
 pub mod Answer
-pub mod Births
 pub mod Checked

@@ -6,8 +6,6 @@ ghost use Rattle.shop.specs.Shapes.{sheetOf};
 ghost use Rattle.shop_arrays.specs.Arrays.{arraysIn, shopFrom};
 ghost use Rattle.compile.specs.Answer.{callOf, CompiledAs};
 
-pub mod births;
-
 use births::birth_of;
 use births::mark_births;
 use births::one_compile;

@@ -55,7 +55,7 @@ module _ (h : Sheet) (s : Save) (xs : List Slot) (answers : ℕ → Ran) (v : Se
       by (yes q) = v .served budget q
       by (no q) = let z : answers budget .answer ≡ 15 = v .starved budget (omega arith) in absurd (omega arith)
 
-  runs-as : RunsAs h s xs answers
+  pub runs-as : RunsAs h s xs answers
   runs-as = record {
     not-refused = λ budget q. ap (λ r. r .answer) (v .served budget (omega (arith, v .few)));
     few = λ budget a. rw (ends budget a) (v .few);

@@ -58,6 +58,10 @@ countFirst = 620
 abbrev pub mostCompiles : ℕ
 mostCompiles = 4294967295
 
+-- 02, A.4: the root blocks that a reclaim may be given
+abbrev pub rootLimit : ℕ
+rootLimit = 256
+
 -- demand 3: the blocks after which the run of a compiled shop has reached Return
 abbrev pub runBlocks : ℕ
 runBlocks = 82

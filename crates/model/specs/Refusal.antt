@@ -59,6 +59,10 @@ sliceShort = 16
 abbrev pub bornLater : ℕ
 bornLater = 17
 
+-- 02, A.4: a reclaim whose list of roots is too long, or with a root that is not a block
+abbrev pub badRoots : ℕ
+badRoots = 18
+
 -- a check refuses with its number where its test fails
 abbrev pub check : Bool → ℕ → ℕ
 check true n = accepted

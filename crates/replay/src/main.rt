@@ -3,7 +3,7 @@ ghost use mathlib.Core.Path.{_≡_};
 ghost use Prim.Native.Nat.{_+_, _≤_, _<_};
 ghost use lib.ListN.{length};
 ghost use Rattle.replay.specs.Tally.{Fair, one};
-use compile::births::start_anew;
+use births::start_anew;
 use compile::compile;
 use image_numbers::Num;
 use image_numbers::read_number;

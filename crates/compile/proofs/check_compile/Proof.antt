@@ -10,7 +10,7 @@ use Rattle.memory.specs.Transfer.{blocks-counted}
 use Rattle.model.specs.Memory.{scriptOf}
 use Rattle.memory.specs.View.{bornOf}
 use Rattle.model.specs.RecordCalls.{Born}
-use Rattle.compile.specs.Checked.{setup-low, refused-call, refused-born, refused-shop, refused-room, accepted, exact-slots, commands-kept, nodes-kept}
+use Rattle.compile.specs.Checked.{refused-call, refused-born, refused-shop, refused-room, accepted, exact-slots, commands-kept, nodes-kept}
 use Rattle.compile.proofs.check_compile.Statement.{statement}
 use Rattle.compile.proofs.check_compile.Tie as tie
 
@@ -27,9 +27,6 @@ check-call-requires c κs = search needs
 
 returns : tie.Need-returns
 returns c = refused-call _ _ _ _ (size (c .before .before .before)) _ (c .before .check-call .ensures) (c .if1 .taken)
-
-birth-of-requires : tie.Need-birth-of-requires
-birth-of-requires c κs = setup-low _ _ _ (sym (c .before .check-call .ensures) ∙ c .if1 .left)
 
 returns-2 : tie.Need-returns-2
 returns-2 c =
@@ -78,7 +75,6 @@ check-compile-spec =
     (tie.spec
     check-call-requires
     returns
-    birth-of-requires
     returns-2
     check-arrays-requires
     returns-3

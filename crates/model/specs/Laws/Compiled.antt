@@ -55,11 +55,11 @@ and-false true = refl
 and-false false = refl
 
 module _ (h : Sheet) (sc : Script) (c : Call) where
-  length-linked : length (appended h sc c .blocks) ≡ length (sc .blocks) + length (freshBlocks h sc c)
+  pub length-linked : length (appended h sc c .blocks) ≡ length (sc .blocks) + length (freshBlocks h sc c)
   unfolding appended
   length-linked = simp (length-set, length-append)
 
-  fresh-linked : (m : ℕ) → m ≤ length (sc .blocks) → c .setup < length (sc .blocks) → Linked h m (appended h sc c .blocks) (c .setup) (withSlots (c .shop))
+  pub fresh-linked : (m : ℕ) → m ≤ length (sc .blocks) → c .setup < length (sc .blocks) → Linked h m (appended h sc c .blocks) (c .setup) (withSlots (c .shop))
   unfolding appended shopBlocks
   fresh-linked m low b-in =
       let n : ℕ = length (sc .blocks) in

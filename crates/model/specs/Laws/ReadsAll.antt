@@ -70,7 +70,7 @@ module _ (h : Sheet) (n : ℕ) (bs : List Block) (b : ℕ) (xs : List Slot) (b-l
   unfolding parse parseBlock visited redirect root empties fresh-marks
   first = rw (unmarked b, link .link .eq, parseBlock)
 
-  linked-parse : ReadSo (readBack h) xs (parse h bs b)
+  pub linked-parse : ReadSo (readBack h) xs (parse h bs b)
   unfolding root
   linked-parse =
       let g = ended in

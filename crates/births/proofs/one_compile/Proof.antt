@@ -1,8 +1,8 @@
--- `compile::births::one_compile` meets its contract. Assumes nothing.
+-- `births::one_compile` meets its contract. Assumes nothing.
 use borrow.Author.Needs.{needs}
-use Rattle.compile.specs.Births.{compile-more, compile-stays}
-use Rattle.compile.proofs.births.one_compile.Statement.{statement}
-use Rattle.compile.proofs.births.one_compile.Tie as tie
+use Rattle.births.specs.Births.{compile-more, compile-stays}
+use Rattle.births.proofs.one_compile.Statement.{statement}
+use Rattle.births.proofs.one_compile.Tie as tie
 
 add-result : tie.Need-add-result
 add-result c = search needs

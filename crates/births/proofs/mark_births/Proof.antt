@@ -1,11 +1,11 @@
--- `compile::births::mark_births` meets its contract: the invariant says which marks are still to be written. Assumes nothing.
+-- `births::mark_births` meets its contract: the invariant says which marks are still to be written. Assumes nothing.
 use mathlib.Core.Path.{_≡_, refl, sym, _∙_}
 use Prim.Native.Nat.{_-_, _≤_}
 use native.Mathlib.Omega.{arith}
 use borrow.Author.Needs.{needs}
-use Rattle.compile.specs.Births.{marksUpTo, marks-one, marks-none}
-use Rattle.compile.proofs.births.mark_births.Statement.{statement}
-use Rattle.compile.proofs.births.mark_births.Tie as tie
+use Rattle.births.specs.Births.{marksUpTo, marks-one, marks-none}
+use Rattle.births.proofs.mark_births.Statement.{statement}
+use Rattle.births.proofs.mark_births.Tie as tie
 
 abbrev Inv-loop : tie.InvT-loop
 Inv-loop births₀ from to mark b₀ births b = (b ≤ to) × (marksUpTo births₀ b₀ to mark ≡ marksUpTo births b to mark)

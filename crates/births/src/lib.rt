@@ -1,6 +1,6 @@
 // Where each block came from (02, A.2): its birth mark, the marks of the blocks that a compile appends, and the count of accepted compiles.
 ghost use mathlib.Core.Path.{_≡_};
-ghost use Prim.Native.Nat.{_-_, _≤_, _<_};
+ghost use Prim.Native.Nat.{_-_, _≤_};
 ghost use lib.ListN.{getD, replicate};
 ghost use lib.Seq.{sets};
 ghost use Rattle.model.specs.Limits.{blockLimit};
@@ -19,11 +19,16 @@ pub fn start_anew(births: &mut Births)
     *births = [0; BLOCKS];
 }
 
+// The mark of block b, 0 where there is no place for such a block.
 pub fn birth_of(births: &Births, b: BlockNo) -> u32
-    requires { ⌜ b .0 < blockLimit ⌝ }
     ensures { λ r. ⌜ r ≡ getD (now (births .entry)) (b .0) 0 ⌝ }
 {
-    births[b.0 as usize]
+    let marks: &[u32] = births;
+    let i = b.0 as usize;
+    if i < marks.len() {
+        return marks[i];
+    }
+    0
 }
 
 // The blocks from one number up to another, which is not among them.

@@ -1,0 +1,3 @@
+pub mod Rename
+pub mod Reclaim
+pub mod Changes

@@ -1,0 +1,1 @@
+// Taking back dead blocks, on trees: definitions and theorems only (specs/).

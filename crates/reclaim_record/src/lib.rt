@@ -1,0 +1,1 @@
+// Taking back dead blocks, on a script record: definitions and theorems only (specs/).
