@@ -15,14 +15,12 @@ use borrow.Author.Tests.{ltb-true, le-leb}
 use Rattle.model.specs.Refusal.{firstOf}
 use Rattle.model.specs.Signed.{inRange}
 use Rattle.model.specs.Sheet.{Sheet, sheetOk, saveOk, all, isCount, isBit}
-use Rattle.model.specs.Script.{Block}
-use Rattle.model.specs.Reading.{got, refused}
+use Rattle.model.specs.Reading.{refused}
 use Rattle.model.specs.Judge.{setupRefusal, sharedRefusal}
 use Rattle.model.specs.Memory.{Memory, scriptOf}
 use Rattle.model.specs.Record.{judgedRecord}
-use Rattle.model.specs.RecordCalls.{callIn}
+use Rattle.model.specs.RecordCalls.{callIn, recordRefusal}
 use Rattle.checks.specs.Calls.{saveOf}
-use Rattle.checks.specs.Passed.{refused-above}
 use Rattle.shop.specs.Shapes.{sheetOf}
 use Rattle.shop.specs.declared.Sheet as code
 use Rattle.judge_record.specs.Stages.{Accepted, JudgedAs}
@@ -70,17 +68,17 @@ module _ (h : Sheet) (m : Memory) (b : ℕ) where
   unfolding callIn sharedRefusal
   call-sheet e = rw e
 
-  pub call-refused : (k : ℕ) → sheetOk h ≡ true → judgedRecord m ≡ refused k → k ≡ callIn h m b
+  pub call-refused : (k : ℕ) → sheetOk h ≡ true → k ≡ recordRefusal m → (k ≡ 0 → ⊥) → k ≡ callIn h m b
   unfolding callIn sharedRefusal
-  call-refused k e p = rw (e, p) (go k (refused-above m k p))
+  call-refused k e p n = rw (e, ← p) (go k n)
     where
-      go : (k : ℕ) → 0 < k → k ≡ firstOf (k ∷ setupRefusal (scriptOf m) b ∷ [])
-      go zero l = absurd (omega arith)
-      go (suc k) l = refl
+      go : (k : ℕ) → (k ≡ 0 → ⊥) → k ≡ firstOf (k ∷ setupRefusal (scriptOf m) b ∷ [])
+      go zero n = absurd (n refl)
+      go (suc k) n = refl
 
-  pub call-setup : (k : ℕ) (bs : List Block) (r : List ℕ) → sheetOk h ≡ true → judgedRecord m ≡ got bs r → k ≡ setupRefusal (scriptOf m) b → k ≡ callIn h m b
+  pub call-setup : (k : ℕ) → sheetOk h ≡ true → recordRefusal m ≡ 0 → k ≡ setupRefusal (scriptOf m) b → k ≡ callIn h m b
   unfolding callIn sharedRefusal
-  call-setup k bs r e p q = rw (e, p) (q ∙ go (setupRefusal (scriptOf m) b))
+  call-setup k e p q = rw (e, p) (q ∙ go (setupRefusal (scriptOf m) b))
     where
       go : (k : ℕ) → k ≡ firstOf (k ∷ [])
       go zero = refl

@@ -1,5 +1,5 @@
 -- What a call knows where 1 to 7 do not refuse: the sheet, the record and its block are what the rest of the call wants. Assumes nothing.
-use mathlib.Core.Path.{_≡_, refl, sym, ap, _∙_, subst}
+use mathlib.Core.Path.{_≡_, refl, sym, ap, _∙_}
 use mathlib.Core.Bool.{Bool, true, false}
 use mathlib.Core.List.{List, [], _∷_}
 use Prim.Native.Nat.{ℕ, zero, suc, _+_, _*_, _≤_, _<_}
@@ -8,17 +8,19 @@ use native.Mathlib.Decide.{decLe, ℕ-discrete}
 use lib.Dec.{ltb}
 use lib.ListN.{getD, length}
 use borrow.Author.Tests.{lt-ltb, le-ltb}
+use Rattle.model.specs.Limits.{blockLimit}
 use Rattle.model.specs.Refusal.{firstOf, check}
 use Rattle.model.specs.Sheet.{Sheet, sheetOk, sheetRefusal}
 use Rattle.model.specs.Script.{Block, blockAt, isCode}
-use Rattle.model.specs.Reading.{got, refused, refusalOf}
+use Rattle.model.specs.Reading.{got, refusalOf}
 use Rattle.model.specs.Judge.{setupRefusal}
 use Rattle.model.specs.Memory.{Memory, blockWord, blockBy, blockIn, scriptOf}
 use Rattle.model.specs.Record.{judgedRecord}
-use Rattle.model.specs.Laws.Refused.{Proper, accepts}
-use Rattle.model.specs.RecordCalls.{callIn}
+use Rattle.model.specs.Laws.Refused.{accepts}
+use Rattle.model.specs.RecordCalls.{callIn, recordRefusal}
 use Rattle.model.specs.Laws.Checks.{passed, shared-passed}
 use Rattle.memory.specs.RecordLaws.{length-blocksIn, block-at, proper-record}
+use Rattle.memory.specs.Transfer.{judged-kept}
 
 -- ---- checks 6 and 7
 
@@ -58,10 +60,10 @@ module _ (m : Memory) (b : ℕ) where
     unfolding blockBy
     setup-code e = answered true (kind-at 1 e)
 
--- ---- a refused record has a number above 0
+-- ---- 2 to 5 passed: the kept count of blocks is within its limit
 
-pub refused-above : (m : Memory) (k : ℕ) → judgedRecord m ≡ refused k → 0 < k
-refused-above m k e = subst Proper e (proper-record m)
+pub record-kept : (m : Memory) → recordRefusal m ≡ 0 → m .count ≤ blockLimit
+record-kept m e = let a = accepts (judgedRecord m) (proper-record m) e in judged-kept m (a .value) (a .rest) (a .was) .0
 
 -- ---- all of them passed
 

@@ -9,7 +9,7 @@ ghost use Rattle.model.specs.Sheet.{all, isCount, isBit, saveOk};
 ghost use Rattle.model.specs.Judge.{setupRefusal};
 ghost use Rattle.model.specs.Memory.{Coded, scriptOf};
 ghost use Rattle.shop.specs.Shapes.{sheetOf};
-ghost use Rattle.model.specs.RecordCalls.{callIn};
+ghost use Rattle.model.specs.RecordCalls.{callIn, recordRefusal};
 ghost use Rattle.memory.specs.View.{memoryOf};
 ghost use Rattle.checks.specs.Calls.{saveOf, blocksOver};
 use judge_plain::is_plain;
@@ -131,7 +131,27 @@ fn check_setup(bw: &BlockWords, blocks: u16, start: BlockNo) -> u8
 
 // ---- the call
 
-// Checks 1, 2 to 5, 6 and 7, in this order: the number of the first that refuses, or 0. Most records are plainly fine; the others are judged.
+// Checks 2 to 5. Most records are plainly fine; the others are judged.
+pub fn check_record(
+    ws: &NodeWords,
+    val: &Values,
+    cw: &CommandWords,
+    bw: &BlockWords,
+    counts: Counts,
+) -> u8
+    ensures { λ r. ⌜ r ≡ recordRefusal (memoryOf (now (ws .entry)) (now (val .entry)) (now (cw .entry)) (now (bw .entry)) counts) ⌝ }
+{
+    if is_plain(ws, val, cw, bw, counts) {
+        return 0;
+    }
+    let j = judge_record(ws, val, cw, bw, counts);
+    match j {
+        Judged::Fine(_) => 0,
+        Judged::No(k) => k,
+    }
+}
+
+// Checks 1, 2 to 5, 6 and 7, in this order: the number of the first that refuses, or 0.
 pub fn check_call(
     attached: &[u8],
     sheet: Sheet,
@@ -147,12 +167,9 @@ pub fn check_call(
     if !check_sheet(attached, sheet) {
         return 1;
     }
-    if is_plain(ws, val, cw, bw, counts) {
-        return check_setup(bw, counts.blocks, start);
+    let refused = check_record(ws, val, cw, bw, counts);
+    if refused != 0 {
+        return refused;
     }
-    let j = judge_record(ws, val, cw, bw, counts);
-    match j {
-        Judged::Fine(_) => check_setup(bw, counts.blocks, start),
-        Judged::No(k) => k,
-    }
+    check_setup(bw, counts.blocks, start)
 }
