@@ -8,3 +8,4 @@ pub mod Reclaimed
 pub mod Renames
 pub mod Moved
 pub mod Answers
+pub mod Twice

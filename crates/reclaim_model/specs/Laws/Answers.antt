@@ -44,8 +44,11 @@ module _ (h : Sheet) (m : BornScript) (rs : List ℕ) (e : reclaimRefusal m rs �
   unfolding runChecked
   run-survives s budget =
       let j = reclaim-passed m rs e .judged in
-      rw (reclaim-done m rs e, checks-survive,
-      run-renamed (λ k. getD (lives m rs) k false ≡ true) (rank (lives m rs)) s (m .script .blocks) (keptOnly (lives m rs) m .script .blocks) (reclaim-renamed m rs j) budget b (s .variables) live)
+      rw (
+        reclaim-done m rs e,
+        checks-survive,
+        run-renamed (λ k. getD (lives m rs) k false ≡ true) (rank (lives m rs)) s (m .script .blocks) (keptOnly (lives m rs) m .script .blocks) (reclaim-renamed m rs j) budget b (s .variables) live,
+      )
 
   pub parse-survives : parseCall h (reclaimed m rs .script) (rank (lives m rs) b) ≡ parseCall h (m .script) b
   unfolding parseChecked

@@ -185,7 +185,7 @@ every-at P ks k a (List·Memᴰ·head e) = rw e (a .0)
 every-at P ks k a (List·Memᴰ·tail {x} {xs} p) = every-at P xs k (a .1) p
 
 -- what is no block has no links
-no-links : (x : Block) (k : ℕ) → x ≡ placeholder → List·Memᴰ k (linksOf x) → ⊥
+pub no-links : (x : Block) (k : ℕ) → x ≡ placeholder → List·Memᴰ k (linksOf x) → ⊥
 unfolding linksOf
 no-links x k e m = List·Memᴰ·not-nil (rw e at m)
 
