@@ -16,8 +16,8 @@ use Rattle.model.specs.Script.{Block, placeholder, blockAt}
 use Rattle.model.specs.Judge.{counted, scriptRefusal}
 use Rattle.model.specs.Laws.Checks.{and-left, and-right}
 use Rattle.model.specs.Laws.Sound.{SoundBlock, SoundBlocks}
-use Rattle.reclaim_model.specs.Rename.{linksOf, Every, renameBlock}
-use Rattle.reclaim_model.specs.Reclaim.{rootsOk, survivors, rank, newNumber, keptBlocks}
+use Rattle.reclaim_model.specs.Rename.{linksOf, renameBlock}
+use Rattle.reclaim_model.specs.Reclaim.{survivors, rank, newNumber, keptBlocks}
 use Rattle.reclaim_model.specs.Changes.{BornScript, lives, keptOnly, reclaimRefusal, reclaimed}
 use Rattle.reclaim_model.specs.Laws.Renames.{links-map, rename-agree, rename-same}
 use Rattle.reclaim_model.specs.Laws.Reached.{Leads, root, onward, no-links, reached-long, reached-root, reached-only, reached-all}
