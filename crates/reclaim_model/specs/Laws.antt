@@ -1,0 +1,11 @@
+pub mod Marks
+pub mod RenamedRun
+pub mod Walked
+pub mod RenamedParse
+pub mod Reached
+pub mod Survivors
+pub mod Reclaimed
+pub mod Renames
+pub mod Moved
+pub mod Answers
+pub mod Twice
