@@ -1,0 +1,10 @@
+pub mod Marks
+pub mod Born
+pub mod RenamedRun
+pub mod Walked
+pub mod RenamedParse
+pub mod Reached
+pub mod Survivors
+pub mod Reclaimed
+pub mod Renames
+pub mod Lower
