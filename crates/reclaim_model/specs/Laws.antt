@@ -1,5 +1,4 @@
 pub mod Marks
-pub mod Born
 pub mod RenamedRun
 pub mod Walked
 pub mod RenamedParse
@@ -7,4 +6,6 @@ pub mod Reached
 pub mod Survivors
 pub mod Reclaimed
 pub mod Renames
+pub mod Born
 pub mod Lower
+pub mod Carried

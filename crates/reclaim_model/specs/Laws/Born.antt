@@ -6,7 +6,7 @@ use mathlib.Core.List.{List, [], _∷_}
 use Prim.Native.Nat.{ℕ, zero, suc, _+_, _-_, _≤_, _<_}
 use native.Mathlib.Omega.{arith}
 use lib.Dec.{ltb, eqb}
-use lib.ListN.{length, length-append, replicate, length-replicate, getD-replicate, List·getD-append}
+use lib.ListN.{getD, length, length-append, replicate, length-replicate, getD-replicate, List·getD-append}
 use lib.Seq.{getD-append-add}
 use borrow.Author.Tests.{ne-eqb}
 use Rattle.model.specs.Limits.{mostCompiles}
@@ -18,7 +18,10 @@ use Rattle.model.specs.Compile.{Call, compileChecks, compileRefusal, discLimits
 use Rattle.model.specs.RecordCalls.{oneCompile}
 use Rattle.model.specs.Laws.Checks.{CompilePassed, compile-passed}
 use Rattle.model.specs.Laws.Compiled.{length-linked}
-use Rattle.reclaim_model.specs.Changes.{BornScript, birthAt, compileRefusalBorn, appendedBorn, compiledBorn}
+use Rattle.reclaim_model.specs.Changes.{BornScript, birthAt, compileRefusalBorn, appendedBorn, compiledBorn, lives, keptOnly}
+use Rattle.reclaim_model.specs.Reclaim.{rank}
+use Rattle.reclaim_model.specs.Laws.Reached.{reached-long}
+use Rattle.reclaim_model.specs.Laws.Survivors.{left-at}
 
 -- the next ordinal is not 0
 pub ordinal : (n : ℕ) → oneCompile n ≢ 0
@@ -90,3 +93,10 @@ module _ (h : Sheet) (k : BornScript) (c : Call) where
       let i = j - length (k .births) in
       let w : j ≡ length (k .births) + i = omega arith in
       rw w (getD-append-add (k .births) (replicate n (oneCompile (k .compiles))) i 0 ∙ getD-replicate n i (oneCompile (k .compiles)) 0 (omega (arith, length-linked h (k .script) c)))
+
+-- ---- a reclaim
+
+-- a survivor keeps its mark
+pub birth-left : (k : BornScript) (rs : List ℕ) → Borne k → (b : ℕ) → getD (lives k rs) b false ≡ true → birthAt (keptOnly (lives k rs) k) (rank (lives k rs) b) ≡ birthAt k b
+unfolding keptOnly
+birth-left k rs e b q = left-at (lives k rs) (k .births) 0 b (reached-long (k .script .blocks) rs ∙ sym e) q

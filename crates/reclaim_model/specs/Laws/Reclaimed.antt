@@ -11,9 +11,9 @@ use Rattle.model.specs.Judge.{counted, scriptRefusal}
 use Rattle.model.specs.Laws.Image.{FitsLink}
 use Rattle.model.specs.Laws.Sound.{SoundCommand, SoundCommands, SoundBlock, SoundBlocks, Held}
 use Rattle.model.specs.Laws.Judged.{accepted-held, held-accepted}
-use Rattle.reclaim_model.specs.Changes.{BornScript, lives, keptOnly}
 use Rattle.reclaim_model.specs.Rename.{target, withLink, targets, linksOf, Every, renameLink, renameCommand, renameBlock}
 use Rattle.reclaim_model.specs.Reclaim.{survivors, rank, keptBlocks}
+use Rattle.reclaim_model.specs.Changes.{BornScript, lives, keptOnly}
 use Rattle.reclaim_model.specs.Laws.RenamedRun.{Renamed, IsLink, has-link, drop-link}
 use Rattle.reclaim_model.specs.Laws.RenamedParse.{Numbered}
 use Rattle.reclaim_model.specs.Laws.Reached.{mark-on, mark-in, reached-long, reached-closed}

@@ -1,6 +1,6 @@
 -- What is left of a list keeps its order, and the new numbers say where. Assumes nothing.
 use mathlib.Core.Path.{_≡_, refl, sym, ap}
-use mathlib.Core.Bool.{Bool, true, false}
+use mathlib.Core.Bool.{Bool, true, false, true≢false}
 use mathlib.Core.List.{List, [], _∷_}
 use Prim.Native.Nat.{ℕ, zero, suc, _≤_, _<_}
 use native.Mathlib.Omega.{arith}
@@ -9,9 +9,6 @@ use lib.ListN.{getD, length}
 use Rattle.model.specs.Script.{sumOf}
 use Rattle.reclaim_model.specs.Reclaim.{survivors, rank}
 use Rattle.reclaim_model.specs.Laws.Reached.{mark-in}
-
-true≢false : true ≡ false → ⊥
-true≢false e = let z : _≡_ {A = ℕ} 0 1 = cc in omega arith
 
 -- the length of what is left is the number of all that survive
 pub length-left : {A : Type 0} (ms : List Bool) (xs : List A) → length ms ≡ length xs → length (survivors ms xs) ≡ rank ms (length ms)
