@@ -6,6 +6,10 @@ pub mod Reached
 pub mod Survivors
 pub mod Reclaimed
 pub mod Renames
+pub mod Moved
+pub mod Answers
+pub mod Twice
 pub mod Born
 pub mod Lower
 pub mod Carried
+pub mod Mixed
