@@ -13,3 +13,4 @@ pub mod Born
 pub mod Lower
 pub mod Carried
 pub mod Mixed
+pub mod Others
