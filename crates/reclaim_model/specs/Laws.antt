@@ -14,3 +14,4 @@ pub mod Lower
 pub mod Carried
 pub mod Mixed
 pub mod Others
+pub mod Later

@@ -49,7 +49,7 @@ module _ (h : Sheet) (k : BornScript) (P : Left) (refused : P k (λ b. some b) (
       by true e = keeps rs (eqb-true _ _ e)
       by false e = refused
 
-borne-left : (k : BornScript) (rs : List ℕ) → Borne k → Borne (keptOnly (lives k rs) k)
+pub borne-left : (k : BornScript) (rs : List ℕ) → Borne k → Borne (keptOnly (lives k rs) k)
 unfolding keptOnly keptBlocks
 borne-left k rs e =
     let long = reached-long (k .script .blocks) rs in
