@@ -108,7 +108,7 @@ module _ (h : Sheet) where
         (λ c z j l. origin-compile c z j l (decLe (length (k .script .blocks)) j))
         (λ rs z j l. inl (origin-reclaim rs j l))
 
-  pub origin-all : (xs : List Change) (k : BornScript) → Borne k → (b′ : ℕ) → b′ < length (afterAll (changes h) k xs .script .blocks) → Origin k (afterAll (changes h) k xs) (nowAt (changes h) k xs) b′
+  origin-all : (xs : List Change) (k : BornScript) → Borne k → (b′ : ℕ) → b′ < length (afterAll (changes h) k xs .script .blocks) → Origin k (afterAll (changes h) k xs) (nowAt (changes h) k xs) b′
   unfolding afterAll nowAt
   origin-all [] k e b′ l = inl (record { from = b′; inside = l; now = refl })
   origin-all (x ∷ xs) k e b′ l = by (origin-all xs (changed h k x) (borne-once h k e x) b′ l)
@@ -124,3 +124,12 @@ module _ (h : Sheet) where
       by : Origin (changed h k x) (afterAll (changes h) (changed h k x) xs) there b′ → Origin k (afterAll (changes h) (changed h k x) xs) (λ b. following (numberAfter k x b) there) b′
       by (inl w) = back w (origin-once k e x (w .from) (w .inside))
       by (inr p) = inr p
+
+  -- a block that was none of the start
+  pub later-of : (k : BornScript) (xs : List Change) → Borne k → (b′ : ℕ) → b′ < length (afterAll (changes h) k xs .script .blocks)
+      → ((b : ℕ) → b < length (k .script .blocks) → nowAt (changes h) k xs b ≢ some b′) → Later h (afterAll (changes h) k xs) b′
+  later-of k xs e b′ l d = by (origin-all xs k e b′ l)
+    where
+      by : Origin k (afterAll (changes h) k xs) (nowAt (changes h) k xs) b′ → Later h (afterAll (changes h) k xs) b′
+      by (inl w) = absurd (d (w .from) (w .inside) (w .now))
+      by (inr p) = p
