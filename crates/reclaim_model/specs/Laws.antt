@@ -15,3 +15,4 @@ pub mod Carried
 pub mod Mixed
 pub mod Others
 pub mod Later
+pub mod Counted
