@@ -9,3 +9,10 @@ pub mod Renames
 pub mod Moved
 pub mod Answers
 pub mod Twice
+pub mod Born
+pub mod Lower
+pub mod Carried
+pub mod Mixed
+pub mod Others
+pub mod Later
+pub mod Counted

@@ -3,3 +3,4 @@ pub mod Reclaim
 pub mod Changes
 pub mod Laws
 pub mod Cases
+pub mod Demand

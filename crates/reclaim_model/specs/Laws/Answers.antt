@@ -30,7 +30,7 @@ checks-alike zero st st′ p q = rw (p, q)
 checks-alike (suc n) st st′ p q = refl
 
 module _ (h : Sheet) (m : BornScript) (rs : List ℕ) (e : reclaimRefusal m rs ≡ 0) (b : ℕ) (live : getD (lives m rs) b false ≡ true) where
-  checks-survive : callRefusal h (keptOnly (lives m rs) m .script) (rank (lives m rs) b) ≡ callRefusal h (m .script) b
+  pub checks-survive : callRefusal h (keptOnly (lives m rs) m .script) (rank (lives m rs) b) ≡ callRefusal h (m .script) b
   unfolding sharedRefusal
   checks-survive =
       let j = reclaim-passed m rs e .judged in
