@@ -1,5 +1,5 @@
 -- A judged record with its marks does what its script with its marks does: calls, compiles, reclaims and lists of them (02, A.2 and A.4). Assumes nothing.
-use mathlib.Core.Path.{_≡_, refl, sym, ap, _∙_, subst}
+use mathlib.Core.Path.{_≡_, refl, sym, ap, ap₂, _∙_, subst}
 use mathlib.Core.Bool.{Bool, true, false, cond}
 use mathlib.Core.List.{List, [], _∷_, _++_, map-id}
 use Prim.Native.Nat.{ℕ, zero, suc, _+_, _≤_, _<_}
@@ -29,7 +29,7 @@ use Rattle.model.specs.Laws.Judged.{accepted-held, room-low}
 use Rattle.model.specs.Laws.Lists.{Follows, Followed, along-any, follows-all}
 use Rattle.memory.specs.Sound.{Sound, Long, Room}
 use Rattle.memory.specs.PutBlocks.{put-sound}
-use Rattle.memory.specs.RecordLaws.{block-at}
+use Rattle.memory.specs.RecordLaws.{block-at, judged-sound}
 use Rattle.memory.specs.Transfer.{accepted-record, accepted-script, blocks-counted, compile-transfer}
 use Rattle.reclaim_model.specs.Reclaim.{keptBlocks, survivors}
 use Rattle.reclaim_model.specs.Changes.{BornScript, birthAt, compileRefusalBorn, appendedBorn, compiledBorn, reclaimRefusal, lives, keptOnly, reclaimed, Change, compile, reclaim, changeRefusal, changed, numberAfter, changes}
@@ -47,6 +47,20 @@ pub record Stands (k : Born) (m : BornScript) : Type 0 where
   -- marks past the blocks mean nothing
   pub births-are : take (length (m .script .blocks)) (k .births) ≡ m .births
   pub compiles-are : k .compiles ≡ m .compiles
+
+-- the lengths of the lent arrays
+pub record LongBorn (k : Born) : Type 0 where
+  pub memory : Long (k .memory)
+  pub births : length (k .births) ≡ blockLimit
+
+-- what a record holds, as trees
+abbrev pub bornScript : Born → BornScript
+bornScript k = record { script = scriptOf (k .memory); births = take (length (scriptOf (k .memory) .blocks)) (k .births); compiles = k .compiles }
+
+pub judged-stands : (k : Born) → LongBorn k → (bs : List Block) (r : List ℕ) → judgedRecord (k .memory) ≡ got bs r → Stands k (bornScript k)
+judged-stands k l bs r e =
+    let j = judged-sound (k .memory) bs r e in
+    record { judged = e ∙ ap₂ got (sym (j .blocks-are)) (j .all); is = refl; long = l .memory; births-long = l .births; births-are = refl; compiles-are = refl }
 
 -- ---- blocks put into a record with nothing in it
 
