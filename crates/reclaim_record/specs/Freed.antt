@@ -23,7 +23,7 @@ use Rattle.reclaim_model.specs.Laws.Survivors.{rank-most}
 use Rattle.reclaim_model.specs.Laws.Reclaimed.{commands-same, length-kept, nodes-renamed, reclaim-held, reclaim-judged, sum-map}
 use Rattle.reclaim_record.specs.Calls.{reclaimRefusalIn, livesIn, keptOnlyIn, reclaimedIn}
 use Rattle.reclaim_record.specs.Stands.{bornScript, fresh-put}
-use Rattle.reclaim_record.specs.Moved.{was-judged}
+use Rattle.reclaim_record.specs.Checks.{was-judged}
 
 -- the kept counts after a reclaim
 pub record RoomAgain (k : Born) (rs : List ℕ) : Type 0 where
