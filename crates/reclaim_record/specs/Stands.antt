@@ -152,7 +152,7 @@ module _ (k : Born) (m : BornScript) (st : Stands k m) where
 
     -- ---- compiles
 
-    refusal-same : (c : Call) → compileRefusalIn h k c ≡ compileRefusalBorn h m c
+    pub refusal-same : (c : Call) → compileRefusalIn h k c ≡ compileRefusalBorn h m c
     unfolding compileRefusalIn compileRefusalBorn
     refusal-same c = rw (passes, st .is) (birth-asked h (scriptRefusal (m .script)) (bornAt k (c .setup)) (birthAt m (c .setup)) (m .script) c (birth-same (c .setup)))
 
