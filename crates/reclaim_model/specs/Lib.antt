@@ -2,4 +2,5 @@ pub mod Rename
 pub mod Reclaim
 pub mod Changes
 pub mod Laws
+pub mod Cases
 pub mod Demand

@@ -1,6 +1,6 @@
 -- The blocks of a compiled shop, wherever later compiles and reclaims have put them. Assumes nothing.
 use mathlib.Core.Path.{_≡_, refl, sym, ap, _∙_, subst}
-use mathlib.Core.Bool.{Bool, true, false, _&&_, _||_, cond}
+use mathlib.Core.Bool.{Bool, true, false, _&&_, _||_}
 use mathlib.Core.Logic.{_≢_, _⊎_, inl, inr}
 use mathlib.Core.List.{List, _++_}
 use Prim.Native.Nat.{ℕ, _≤_, _<_}
@@ -13,12 +13,12 @@ use borrow.Author.Tests.{eqb-true, leb-true, eq-eqb, le-leb}
 use Rattle.model.specs.Limits.{slotCount}
 use Rattle.model.specs.Sheet.{Sheet, sheetOk, sheetRefusal, all}
 use Rattle.model.specs.Shop.{Slot, slotOk, withSlots}
-use Rattle.model.specs.Script.{Block, Script, placeholder, blockAt}
+use Rattle.model.specs.Script.{Block, placeholder, blockAt}
 use Rattle.model.specs.Judge.{scriptRefusal}
 use Rattle.model.specs.Compile.{Call, appended, freshBlocks, redirect, rootOf, slotsBlocks}
 use Rattle.model.specs.Laws.Checks as Checks
 use Rattle.model.specs.Laws.Checks.{and-left, and-right}
-use Rattle.model.specs.Laws.Compiled.{Linked, fresh-linked, length-linked, lastOf-is}
+use Rattle.model.specs.Laws.Compiled.{Linked, fresh-linked, lastOf-is}
 use Rattle.model.specs.Laws.Judged.{kept-judged}
 use Rattle.model.specs.Laws.FitTests.{SheetLow, sheet-low}
 use Rattle.model.specs.Laws.FitBlocks.{from-slots, length-padded}

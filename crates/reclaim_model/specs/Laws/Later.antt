@@ -1,6 +1,6 @@
 -- Lists of compiles and reclaims: a block of the end was one of the start, or the list appended it, and then it bears a mark other than 0 and passes the checks of a call. Assumes nothing.
 use mathlib.Core.Path.{_≡_, refl, sym, ap, _∙_, subst}
-use mathlib.Core.Bool.{true, false}
+use mathlib.Core.Bool.{true}
 use mathlib.Core.Logic.{_≢_, _⊎_, inl, inr}
 use mathlib.Core.Option.{Option, none, some}
 use mathlib.Core.List.{List, [], _∷_}

@@ -1,24 +1,20 @@
 -- Lists of compiles and reclaims: a call is refused, appends or keeps only what the roots reach; the last shop accepted at a block is carried to its new number, and blocks of the start keep their marks. Assumes nothing.
 use mathlib.Core.Path.{_≡_, refl, sym, _∙_, subst}
 use mathlib.Core.Bool.{Bool, true, false, cond, _&&_}
-use mathlib.Core.Logic.{_≢_}
 use mathlib.Core.Option.{Option, none, some}
-use mathlib.Core.List.{List, [], _∷_}
+use mathlib.Core.List.{List, []}
 use Prim.Native.Nat.{ℕ, _<_}
 use native.Mathlib.Omega.{arith}
 use lib.Dec.{eqb}
 use lib.ListN.{getD, length, length-map}
 use borrow.Author.Tests.{eqb-true, eqb-false}
-use Rattle.model.specs.Refusal.{badRoots, check}
 use Rattle.model.specs.Sheet.{Sheet}
 use Rattle.model.specs.Shop.{Slot, withSlots}
-use Rattle.model.specs.Judge.{scriptRefusal}
 use Rattle.model.specs.Compile.{Call}
-use Rattle.model.specs.Lists.{afterAll, lastAt, lastFrom, latest, nowAt}
-use Rattle.model.specs.Laws.Checks.{first-passed}
+use Rattle.model.specs.Lists.{afterAll, lastAt, latest, nowAt}
 use Rattle.model.specs.Laws.Lists.{along-any, kept-all, none≢some}
 use Rattle.reclaim_model.specs.Rename.{renameBlock}
-use Rattle.reclaim_model.specs.Reclaim.{keptBlocks, newNumber, rank, rootsOk, survivors}
+use Rattle.reclaim_model.specs.Reclaim.{keptBlocks, newNumber, rank, survivors}
 use Rattle.reclaim_model.specs.Changes.{BornScript, birthAt, compileRefusalBorn, appendedBorn, compiledBorn, reclaimRefusal, lives, keptOnly, reclaimed, Change, compile, reclaim, changeRefusal, changed, numberAfter, changes}
 use Rattle.reclaim_model.specs.Laws.Born.{Borne, appended-borne, birth-kept, birth-left, grown}
 use Rattle.reclaim_model.specs.Laws.Reached.{reached-long}

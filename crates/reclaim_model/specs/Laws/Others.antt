@@ -17,7 +17,7 @@ use Rattle.model.specs.Lists.{acceptedAt, afterAll, following, lastAt, lastFrom
 use Rattle.model.specs.Laws.Lists.{along-any, kept-all, none≢some}
 use Rattle.reclaim_model.specs.Rename.{linksOf, Every, renameBlock}
 use Rattle.reclaim_model.specs.Reclaim.{newNumber, rank}
-use Rattle.reclaim_model.specs.Changes.{BornScript, compileRefusalBorn, appendedBorn, reclaimRefusal, lives, keptOnly, Change, changed, givenTo, numberAfter, changes}
+use Rattle.reclaim_model.specs.Changes.{BornScript, appendedBorn, reclaimRefusal, lives, keptOnly, Change, changed, givenTo, numberAfter, changes}
 use Rattle.reclaim_model.specs.Laws.Born.{grown}
 use Rattle.reclaim_model.specs.Laws.Reclaimed.{every-both, reclaim-passed, reclaim-renamed, reclaim-numbered}
 use Rattle.reclaim_model.specs.Laws.Renames.{links-map, every-map, every-all, rename-twice, rename-same}
