@@ -30,7 +30,7 @@ use Rattle.reclaim_model.specs.Changes.{BornScript, birthAt, compileRefu
 use Rattle.reclaim_model.specs.Laws.Born.{Borne, later-refused}
 use Rattle.reclaim_model.specs.Laws.RenamedRun.{run-renamed}
 use Rattle.reclaim_model.specs.Laws.RenamedParse.{parse-renamed}
-use Rattle.reclaim_model.specs.Laws.Carried.{Carried}
+use Rattle.reclaim_model.specs.Laws.Carried.{Carried, Kept}
 use Rattle.reclaim_model.specs.Laws.Mixed.{carried-all, birth-all}
 use Rattle.reclaim_model.specs.Laws.Others.{AsWas, as-was}
 use Rattle.reclaim_model.specs.Laws.Later.{later-of}
@@ -65,24 +65,24 @@ module _ (h : Sheet) (k : BornScript) (b : ℕ) (ys : List Slot) (a : Carried h 
   -- so that a preview of the shop agrees with its run
   pub carried-run : (s : Save) → Fits s → (v : List ℤ) → 0 < length v → Served h s ys v (λ budget. run (k .script .blocks) s budget b v)
   carried-run s f v p =
-      let r = linked-run h (a .first) (a .old) (a .setup) ys (a .link) s f v p (a .twenty) in
-      subst (Served h s ys v) (fun-ext (λ budget. sym (run-renamed (λ j. a .keep j ≡ true) (a .f) s (a .old) bs (a .renamed) budget (a .setup) v (a .here)) ∙ ap (λ j. run bs s budget j v) (a .now))) r
+      let r = linked-run h (a .first) (a .old .blocks) (a .setup) ys (a .shop .link) s f v p (a .shop .twenty) in
+      subst (Served h s ys v) (fun-ext (λ budget. sym (run-renamed (Kept (a .keep)) (a .f) s (a .old .blocks) bs (a .renamed) budget (a .setup) v (a .here)) ∙ ap (λ j. run bs s budget j v) (a .now))) r
 
   carried-parse : ReadSo (normal h) ys (parse h (k .script .blocks) b)
   carried-parse =
-      let r = linked-normal h (a .first) (a .old) (a .setup) ys (a .low) (a .link) (a .twenty) (sheet-fits h (a .sheet)) (a .ok) in
-      let e = parse-renamed h (λ j. a .keep j ≡ true) (a .f) (a .old) bs (a .renamed) (a .numbered) (a .setup) (a .here) in
+      let r = linked-normal h (a .first) (a .old .blocks) (a .setup) ys (a .shop .low) (a .shop .link) (a .shop .twenty) (sheet-fits h (a .shop .sheet)) (a .shop .ok) in
+      let e = parse-renamed h (Kept (a .keep)) (a .f) (a .old .blocks) bs (a .renamed) (a .numbered) (a .setup) (a .here) in
       subst (λ (j : ℕ). ReadSo (normal h) ys (parse h bs j)) (a .now) (record { answer = e .1 ∙ r .answer; slots = e .0 ∙ r .slots })
 
   carried-code : isCode (blockAt (k .script .blocks) b) ≡ true
   unfolding renameBlock redirect
-  carried-code = ap isCode (ap (blockAt bs) (sym (a .now)) ∙ a .renamed .same (a .setup) (a .here) ∙ ap (renameBlock (a .f)) (a .link .link .eq))
+  carried-code = ap isCode (ap (blockAt bs) (sym (a .now)) ∙ a .renamed .same (a .setup) (a .here) ∙ ap (renameBlock (a .f)) (a .shop .link .link .eq))
 
   carried-passes : callRefusal h (k .script) b ≡ 0
   unfolding sharedRefusal
   carried-passes =
       let l : b < length bs = subst (λ (j : ℕ). j < length bs) (a .now) (a .numbered .inside′ (a .setup) (a .here)) in
-      rw (a .sheet, a .judged, lt-ltb b (length bs) l, carried-code)
+      rw (a .shop .sheet, a .judged, lt-ltb b (length bs) l, carried-code)
 
   run-call : (s : Save) → saveRefusal h s ≡ 0 → (budget : ℕ) → runCall h (k .script) b s budget ≡ run (k .script .blocks) s budget b (s .variables)
   unfolding runChecked
@@ -92,7 +92,7 @@ module _ (h : Sheet) (k : BornScript) (b : ℕ) (ys : List Slot) (a : Carried h 
   run-at s f =
       let long = save-long h s f in
       let v = carried-run s (save-fits h s f) (s .variables) (omega arith) in
-      subst (RunsAs h s ys) (fun-ext (λ budget. sym (run-call s f budget))) (runs-as h s ys _ v (a .twenty) long)
+      subst (RunsAs h s ys) (fun-ext (λ budget. sym (run-call s f budget))) (runs-as h s ys _ v (a .shop .twenty) long)
 
   parse-at : parseCall h (k .script) b ≡ record { answer = 0; slots = normalShop h ys }
   unfolding parseChecked

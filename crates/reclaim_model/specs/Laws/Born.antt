@@ -5,7 +5,7 @@ use mathlib.Core.Logic.{_≢_}
 use mathlib.Core.List.{List, [], _∷_}
 use Prim.Native.Nat.{ℕ, zero, suc, _+_, _-_, _≤_, _<_}
 use native.Mathlib.Omega.{arith}
-use lib.Dec.{ltb, eqb}
+use lib.Dec.{ltb}
 use lib.ListN.{getD, length, length-append, replicate, length-replicate, getD-replicate, List·getD-append}
 use lib.Seq.{getD-append-add}
 use borrow.Author.Tests.{ne-eqb}
@@ -47,11 +47,7 @@ module _ (h : Sheet) (k : BornScript) (c : Call) where
   unfolding compileRefusalBorn
   accepted-plain e = sym (ap (λ (n : ℕ). compileChecks h (scriptRefusal (k .script)) n (k .script) c) (passed-born e .born)) ∙ e
 
-  pub accepted-is : compileRefusalBorn h k c ≡ 0 → compiledBorn h k c ≡ appendedBorn h k c
-  unfolding compiledBorn
-  accepted-is e = rw e
-
-  pub refused-is : compileRefusalBorn h k c ≢ 0 → compiledBorn h k c ≡ k
+  refused-is : compileRefusalBorn h k c ≢ 0 → compiledBorn h k c ≡ k
   unfolding compiledBorn
   refused-is d = rw (ne-eqb (compileRefusalBorn h k c) 0 d)
 

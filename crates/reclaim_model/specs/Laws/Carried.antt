@@ -1,6 +1,6 @@
 -- The blocks of a compiled shop, wherever later compiles and reclaims have put them. Assumes nothing.
 use mathlib.Core.Path.{_≡_, refl, sym, ap, _∙_, subst}
-use mathlib.Core.Bool.{Bool, true, false, _&&_, _||_, cond}
+use mathlib.Core.Bool.{Bool, true, false, _&&_, _||_}
 use mathlib.Core.Logic.{_≢_, _⊎_, inl, inr}
 use mathlib.Core.List.{List, _++_}
 use Prim.Native.Nat.{ℕ, _≤_, _<_}
@@ -11,14 +11,15 @@ use lib.ListN.{getD, length, List·getD-append}
 use lib.Seq.{getD-set-other}
 use borrow.Author.Tests.{eqb-true, leb-true, eq-eqb, le-leb}
 use Rattle.model.specs.Limits.{slotCount}
-use Rattle.model.specs.Sheet.{Sheet, sheetOk, sheetRefusal, all}
+use Rattle.model.specs.Sheet.{Sheet, sheetOk, all}
 use Rattle.model.specs.Shop.{Slot, slotOk, withSlots}
 use Rattle.model.specs.Script.{Block, Script, placeholder, blockAt}
 use Rattle.model.specs.Judge.{scriptRefusal}
 use Rattle.model.specs.Compile.{Call, appended, freshBlocks, redirect, rootOf, slotsBlocks}
 use Rattle.model.specs.Laws.Checks as Checks
 use Rattle.model.specs.Laws.Checks.{and-left, and-right}
-use Rattle.model.specs.Laws.Compiled.{Linked, fresh-linked, length-linked, lastOf-is}
+use Rattle.model.specs.Laws.Calls.{ShopAt}
+use Rattle.model.specs.Laws.Compiled.{Linked, fresh-linked, lastOf-is}
 use Rattle.model.specs.Laws.Judged.{kept-judged}
 use Rattle.model.specs.Laws.FitTests.{SheetLow, sheet-low}
 use Rattle.model.specs.Laws.FitBlocks.{from-slots, length-padded}
@@ -37,23 +38,19 @@ Kept keep j = keep j ≡ true
 
 -- block b is the setup block of xs: its compile left it and the blocks of xs in `old`, and those that `keep` names are still there under the numbers of f
 pub record Carried (h : Sheet) (k : BornScript) (b : ℕ) (xs : List Slot) : Type 0 where
-  pub old : List Block
-  pub setup : ℕ
   pub first : ℕ
-  pub low : setup < first
-  pub link : Linked h first old setup xs
+  pub old : Script
+  pub setup : ℕ
+  pub shop : ShopAt h first old setup xs
   pub keep : ℕ → Bool
   pub f : ℕ → ℕ
   pub here : keep setup ≡ true
   pub now : f setup ≡ b
-  pub renamed : Renamed (Kept keep) f old (k .script .blocks)
-  pub numbered : Numbered (Kept keep) f (length old) (length (k .script .blocks))
+  pub renamed : Renamed (Kept keep) f (old .blocks) (k .script .blocks)
+  pub numbered : Numbered (Kept keep) f (length (old .blocks)) (length (k .script .blocks))
   -- none of them but the setup block can be named by a compile
   pub born : (j : ℕ) → keep j ≡ true → j ≢ setup → birthAt k (f j) ≢ 0
   pub judged : scriptRefusal (k .script) ≡ 0
-  pub sheet : sheetRefusal h ≡ 0
-  pub ok : all (slotOk h) xs ≡ true
-  pub twenty : length xs ≡ slotCount
 
 -- ---- a compile at another block
 
@@ -78,11 +75,10 @@ module _ (h : Sheet) (k : BornScript) (b : ℕ) (xs : List Slot) (borne : Borne 
 
     pub carried-compile : Carried h (appendedBorn h k c) b xs
     carried-compile = record {
+      first = a .first;
       old = a .old;
       setup = a .setup;
-      first = a .first;
-      low = a .low;
-      link = a .link;
+      shop = a .shop;
       keep = a .keep;
       f = a .f;
       here = a .here;
@@ -95,9 +91,6 @@ module _ (h : Sheet) (k : BornScript) (b : ℕ) (xs : List Slot) (borne : Borne 
       };
       born = λ j p d q. a .born j p d (sym (birth-kept h k c borne (a .f j) (a .numbered .inside′ j p)) ∙ q);
       judged = appended-judged h k c z;
-      sheet = a .sheet;
-      ok = a .ok;
-      twenty = a .twenty;
     }
 
   -- ---- a reclaim that the block survives
@@ -120,23 +113,22 @@ module _ (h : Sheet) (k : BornScript) (b : ℕ) (xs : List Slot) (borne : Borne 
         let r = reclaim-renamed k rs (a .judged) in
         let u = reclaim-numbered k rs (a .judged) in
         record {
+          first = a .first;
           old = a .old;
           setup = a .setup;
-          first = a .first;
-          low = a .low;
-          link = a .link;
+          shop = a .shop;
           keep = both;
           f = λ j. rank (lives k rs) (a .f j);
           here = to-both (a .setup) (a .here) (ap (λ j. getD (lives k rs) j false) (a .now) ∙ e);
           now = ap (rank (lives k rs)) (a .now);
           renamed = record {
             links = λ j p.
-                every-both (Kept (a .keep)) (λ i. Lives (a .f i)) (Kept both) to-both (linksOf (blockAt (a .old) j)) (a .renamed .links j (of-both j p .0))
-                (every-map (a .f) Lives (linksOf (blockAt (a .old) j))
-                (subst (λ (is : List ℕ). Every Lives is) (ap linksOf (a .renamed .same j (of-both j p .0)) ∙ links-map (a .f) (blockAt (a .old) j)) (r .links (a .f j) (of-both j p .1))));
+                every-both (Kept (a .keep)) (λ i. Lives (a .f i)) (Kept both) to-both (linksOf (blockAt (a .old .blocks) j)) (a .renamed .links j (of-both j p .0))
+                (every-map (a .f) Lives (linksOf (blockAt (a .old .blocks) j))
+                (subst (λ (is : List ℕ). Every Lives is) (ap linksOf (a .renamed .same j (of-both j p .0)) ∙ links-map (a .f) (blockAt (a .old .blocks) j)) (r .links (a .f j) (of-both j p .1))));
             same = λ j p.
                 r .same (a .f j) (of-both j p .1) ∙ ap (renameBlock (rank (lives k rs))) (a .renamed .same j (of-both j p .0))
-                ∙ rename-twice (rank (lives k rs)) (a .f) (blockAt (a .old) j);
+                ∙ rename-twice (rank (lives k rs)) (a .f) (blockAt (a .old .blocks) j);
           };
           numbered = record {
             inside = λ j p. a .numbered .inside j (of-both j p .0);
@@ -145,9 +137,6 @@ module _ (h : Sheet) (k : BornScript) (b : ℕ) (xs : List Slot) (borne : Borne 
           };
           born = λ j p d q. a .born j (of-both j p .0) d (sym (birth-left k rs borne (a .f j) (of-both j p .1)) ∙ q);
           judged = reclaim-judged k rs (a .judged);
-          sheet = a .sheet;
-          ok = a .ok;
-          twenty = a .twenty;
         }
 
 -- ---- right after the compile
@@ -234,11 +223,10 @@ carried-fresh h k c borne z =
     let len = length-padded slotCount (c .shop) in
     let inside = fresh-inside h n bs (c .setup) xs a f (t .slots) len (omega (arith, t .inside, grown h k c)) in
     record {
-      old = bs;
-      setup = c .setup;
       first = n;
-      low = t .inside;
-      link = a;
+      old = appendedBorn h k c .script;
+      setup = c .setup;
+      shop = record { low = t .inside; link = a; twenty = len; ok = t .slots; sheet = t .sheet; judged = appended-judged h k c z };
       keep = isIn (c .setup) (a .home) (rootOf h (a .home) 0 xs);
       f = λ j. j;
       here = in-true (c .setup) (a .home) (rootOf h (a .home) 0 xs) (c .setup) (inl refl);
@@ -247,9 +235,6 @@ carried-fresh h k c borne z =
       numbered = record { inside = inside; inside′ = inside; apart = λ i j p q w. w };
       born = λ j p d q. ordinal (k .compiles) (sym (birth-new h k c borne j (above a j (true-in (c .setup) (a .home) (rootOf h (a .home) 0 xs) j p) d) (inside j p)) ∙ q);
       judged = appended-judged h k c z;
-      sheet = t .sheet;
-      ok = t .slots;
-      twenty = len;
     }
   where
     above : (a : Linked h (length (k .script .blocks)) (appendedBorn h k c .script .blocks) (c .setup) (withSlots (c .shop))) (j : ℕ)

@@ -1,6 +1,6 @@
 -- Lists of compiles and reclaims: a block of the end was one of the start, or the list appended it, and then it bears a mark other than 0 and passes the checks of a call. Assumes nothing.
 use mathlib.Core.Path.{_≡_, refl, sym, ap, _∙_, subst}
-use mathlib.Core.Bool.{true, false}
+use mathlib.Core.Bool.{true}
 use mathlib.Core.Logic.{_≢_, _⊎_, inl, inr}
 use mathlib.Core.Option.{Option, none, some}
 use mathlib.Core.List.{List, [], _∷_}
@@ -37,9 +37,9 @@ pub record Later (h : Sheet) (k : BornScript) (b : ℕ) : Type 0 where
 
 module _ (h : Sheet) (k : BornScript) (c : Call) (z : compileRefusalBorn h k c ≡ 0) where
   -- what is code after a compile passes
-  appended-passes : (j : ℕ) → (j < length (k .script .blocks) → isCode (blockAt (k .script .blocks) j) ≡ true) → j < length (appendedBorn h k c .script .blocks)
+  code-passes : (j : ℕ) → (j < length (k .script .blocks) → isCode (blockAt (k .script .blocks) j) ≡ true) → j < length (appendedBorn h k c .script .blocks)
       → callRefusal h (appendedBorn h k c .script) j ≡ 0
-  appended-passes j was l = passes (appended-judged h k c z) (code-appended l)
+  code-passes j was l = passes (appended-judged h k c z) (code-appended l)
     where
       code-appended : j < length (appendedBorn h k c .script .blocks) → isCode (blockAt (appendedBorn h k c .script .blocks) j) ≡ true
       code-appended l = unfold appendedBorn in code-once h (k .script) c j was l
@@ -48,7 +48,7 @@ module _ (h : Sheet) (k : BornScript) (c : Call) (z : compileRefusalBorn h k c �
       passes q t = unfold sharedRefusal in rw (passed-born h k c z .sheet, q, lt-ltb j (length (appendedBorn h k c .script .blocks)) l, t) refl
 
   later-new : Borne k → (j : ℕ) → length (k .script .blocks) ≤ j → j < length (appendedBorn h k c .script .blocks) → Later h (appendedBorn h k c) j
-  later-new e j p l = record { born = λ q. ordinal (k .compiles) (sym (birth-new h k c e j p l) ∙ q); passes = appended-passes j (λ u. absurd (omega arith)) l }
+  later-new e j p l = record { born = λ q. ordinal (k .compiles) (sym (birth-new h k c e j p l) ∙ q); passes = code-passes j (λ u. absurd (omega arith)) l }
 
   later-kept : Borne k → (j : ℕ) → Later h k j → Later h (appendedBorn h k c) j
   later-kept e j p =
@@ -56,7 +56,7 @@ module _ (h : Sheet) (k : BornScript) (c : Call) (z : compileRefusalBorn h k c �
       let l = setup-inside (k .script) j s in
       record {
         born = λ q. p .born (sym (birth-kept h k c e j l) ∙ q);
-        passes = appended-passes j (λ u. setup-code (k .script) j s) (omega (arith, grown h k c));
+        passes = code-passes j (λ u. setup-code (k .script) j s) (omega (arith, grown h k c));
       }
 
 module _ (h : Sheet) where
@@ -69,20 +69,22 @@ module _ (h : Sheet) where
       (λ n. let w : b ≡ j = cc in subst (λ (i : ℕ). Stays k i o) w p)
       (λ c z n. let w : b ≡ j = cc in subst (λ (i : ℕ). Stays (appendedBorn h k c) i o) w (appended-borne h k c (p .0), later-kept h k c z (p .0) b (p .1)))
       (λ rs z n.
-          let s = survives (lives k rs) b j n in
-          subst (λ (i : ℕ). Stays (keptOnly (lives k rs) k) i o) (s .1)
-          (borne-left k rs (p .0), record {
-            born = λ q. p .1 .born (sym (birth-left k rs (p .0) b (s .0)) ∙ q);
-            passes = checks-survive h k rs z b (s .0) ∙ p .1 .passes;
-          })) x n
+      let s = survives (lives k rs) b j n in
+      subst (λ (i : ℕ). Stays (keptOnly (lives k rs) k) i o) (s .1) (
+        borne-left k rs (p .0),
+        record {
+          born = λ q. p .1 .born (sym (birth-left k rs (p .0) b (s .0)) ∙ q);
+          passes = checks-survive h k rs z b (s .0) ∙ p .1 .passes;
+        },
+      )) x n
 
 -- ---- where a block comes from
 
 -- what is block b′ now was block `from` of k
-pub record From (k : BornScript) (number : ℕ → Option ℕ) (b′ : ℕ) : Type 0 where
-  pub from : ℕ
-  pub inside : from < length (k .script .blocks)
-  pub now : number from ≡ some b′
+record From (k : BornScript) (number : ℕ → Option ℕ) (b′ : ℕ) : Type 0 where
+  from : ℕ
+  inside : from < length (k .script .blocks)
+  now : number from ≡ some b′
 
 module _ (h : Sheet) where
   abbrev Origin : BornScript → BornScript → (ℕ → Option ℕ) → ℕ → Type 0

@@ -1,24 +1,20 @@
 -- Lists of compiles and reclaims: a call is refused, appends or keeps only what the roots reach; the last shop accepted at a block is carried to its new number, and blocks of the start keep their marks. Assumes nothing.
 use mathlib.Core.Path.{_≡_, refl, sym, _∙_, subst}
 use mathlib.Core.Bool.{Bool, true, false, cond, _&&_}
-use mathlib.Core.Logic.{_≢_}
 use mathlib.Core.Option.{Option, none, some}
-use mathlib.Core.List.{List, [], _∷_}
+use mathlib.Core.List.{List, []}
 use Prim.Native.Nat.{ℕ, _<_}
 use native.Mathlib.Omega.{arith}
 use lib.Dec.{eqb}
 use lib.ListN.{getD, length, length-map}
 use borrow.Author.Tests.{eqb-true, eqb-false}
-use Rattle.model.specs.Refusal.{badRoots, check}
 use Rattle.model.specs.Sheet.{Sheet}
 use Rattle.model.specs.Shop.{Slot, withSlots}
-use Rattle.model.specs.Judge.{scriptRefusal}
 use Rattle.model.specs.Compile.{Call}
-use Rattle.model.specs.Lists.{afterAll, lastAt, lastFrom, latest, nowAt}
-use Rattle.model.specs.Laws.Checks.{first-passed}
+use Rattle.model.specs.Lists.{afterAll, lastAt, latest, nowAt}
 use Rattle.model.specs.Laws.Lists.{along-any, kept-all, none≢some}
 use Rattle.reclaim_model.specs.Rename.{renameBlock}
-use Rattle.reclaim_model.specs.Reclaim.{keptBlocks, newNumber, rank, rootsOk, survivors}
+use Rattle.reclaim_model.specs.Reclaim.{keptBlocks, newNumber, rank, survivors}
 use Rattle.reclaim_model.specs.Changes.{BornScript, birthAt, compileRefusalBorn, appendedBorn, compiledBorn, reclaimRefusal, lives, keptOnly, reclaimed, Change, compile, reclaim, changeRefusal, changed, numberAfter, changes}
 use Rattle.reclaim_model.specs.Laws.Born.{Borne, appended-borne, birth-kept, birth-left, grown}
 use Rattle.reclaim_model.specs.Laws.Reached.{reached-long}
@@ -76,16 +72,16 @@ module _ (h : Sheet) where
   Standing k b none = Unit {0}
   Standing k b (some ys) = Carried h k b ys
 
-  module _ (k : BornScript) (e : Borne k) (b j : ℕ) where
+  module _ (k : BornScript) (e : Borne k) (b : ℕ) where
     standing-compile : (c : Call) → compileRefusalBorn h k c ≡ 0 → (o : Option (List Slot)) → Standing k b o
         → (t : Bool) → eqb (c .setup) b ≡ t → Standing (appendedBorn h k c) b (cond t (some (withSlots (c .shop))) o)
     standing-compile c z o p true q = subst (λ (i : ℕ). Carried h (appendedBorn h k c) i (withSlots (c .shop))) (eqb-true (c .setup) b q) (carried-fresh h k c e z)
     standing-compile c z none p false q = tt
     standing-compile c z (some ys) p false q = carried-compile h k b ys e p c z (eqb-false (c .setup) b q)
 
-    standing-reclaim : (rs : List ℕ) (o : Option (List Slot)) → Standing k b o → (getD (lives k rs) b false ≡ true) × (rank (lives k rs) b ≡ j) → Standing (keptOnly (lives k rs) k) j o
-    standing-reclaim rs none p s = tt
-    standing-reclaim rs (some ys) p s = subst (λ (i : ℕ). Carried h (keptOnly (lives k rs) k) i ys) (s .1) (carried-reclaim h k b ys e p rs (s .0))
+    standing-reclaim : (rs : List ℕ) (o : Option (List Slot)) (j : ℕ) → Standing k b o → (getD (lives k rs) b false ≡ true) × (rank (lives k rs) b ≡ j) → Standing (keptOnly (lives k rs) k) j o
+    standing-reclaim rs none j p s = tt
+    standing-reclaim rs (some ys) j p s = subst (λ (i : ℕ). Carried h (keptOnly (lives k rs) k) i ys) (s .1) (carried-reclaim h k b ys e p rs (s .0))
 
   abbrev Held : BornScript → ℕ → Option (List Slot) → Type 0
   Held k b o = Borne k × Standing k b o
@@ -95,10 +91,10 @@ module _ (h : Sheet) where
       by-answer h k (λ m number last. number b ≡ some j → Held m j (last b o))
       (λ n. let z : b ≡ j = cc in subst (λ (i : ℕ). Held k i o) z p)
       (λ c z n.
-          let w : b ≡ j = cc in
-          subst (λ (i : ℕ). Held (appendedBorn h k c) i (cond (eqb (c .setup) b) (some (withSlots (c .shop))) o)) w
-          (appended-borne h k c (p .0), standing-compile k (p .0) b j c z o (p .1) (eqb (c .setup) b) refl))
-      (λ rs z n. (borne-left k rs (p .0), standing-reclaim k (p .0) b j rs o (p .1) (survives (lives k rs) b j n))) x n
+      let w : b ≡ j = cc in
+      subst (λ (i : ℕ). Held (appendedBorn h k c) i (cond (eqb (c .setup) b) (some (withSlots (c .shop))) o)) w
+      (appended-borne h k c (p .0), standing-compile k (p .0) b c z o (p .1) (eqb (c .setup) b) refl))
+      (λ rs z n. (borne-left k rs (p .0), standing-reclaim k (p .0) b rs o j (p .1) (survives (lives k rs) b j n))) x n
 
   module _ (k : BornScript) (xs : List Change) (e : Borne k) where
     pub carried-all : (b b′ : ℕ) (ys : List Slot) → nowAt (changes h) k xs b ≡ some b′ → lastAt (changes h) k xs b ≡ some ys → Carried h (afterAll (changes h) k xs) b′ ys
@@ -107,7 +103,7 @@ module _ (h : Sheet) where
 
 -- ---- marks
 
--- a block of the list's script stays one and keeps its mark v
+-- b is a block, and v its mark
 abbrev Bears : ℕ → BornScript → ℕ → Option (List Slot) → Type 0
 Bears v k b o = Borne k × (b < length (k .script .blocks)) × (birthAt k b ≡ v)
 
@@ -117,13 +113,13 @@ module _ (h : Sheet) (v : ℕ) where
       by-answer h k (λ m number last. number b ≡ some j → Bears v m j o)
       (λ n. let z : b ≡ j = cc in subst (λ (i : ℕ). Bears v k i o) z p)
       (λ c z n.
-          let w : b ≡ j = cc in
-          let l = p .1 in
-          subst (λ (i : ℕ). Bears v (appendedBorn h k c) i o) w (appended-borne h k c (p .0), omega (arith, grown h k c), birth-kept h k c (p .0) b (p .1) ∙ p .2))
+      let w : b ≡ j = cc in
+      let l = p .1 in
+      subst (λ (i : ℕ). Bears v (appendedBorn h k c) i o) w (appended-borne h k c (p .0), omega (arith, grown h k c), birth-kept h k c (p .0) b (p .1) ∙ p .2))
       (λ rs z n.
-          let s = survives (lives k rs) b j n in
-          subst (λ (i : ℕ). Bears v (keptOnly (lives k rs) k) i o) (s .1)
-          (borne-left k rs (p .0), reclaim-numbered k rs (reclaim-passed k rs z .judged) .inside′ b (s .0), birth-left k rs (p .0) b (s .0) ∙ p .2)) x n
+      let s = survives (lives k rs) b j n in
+      subst (λ (i : ℕ). Bears v (keptOnly (lives k rs) k) i o) (s .1)
+      (borne-left k rs (p .0), reclaim-numbered k rs (reclaim-passed k rs z .judged) .inside′ b (s .0), birth-left k rs (p .0) b (s .0) ∙ p .2)) x n
 
 -- "survivors keep their birth marks", an emptied setup block too
 pub birth-all : (h : Sheet) (k : BornScript) (xs : List Change) → Borne k → (b b′ : ℕ) → b < length (k .script .blocks) → nowAt (changes h) k xs b ≡ some b′

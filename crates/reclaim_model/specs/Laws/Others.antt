@@ -17,7 +17,7 @@ use Rattle.model.specs.Lists.{acceptedAt, afterAll, following, lastAt, lastFrom
 use Rattle.model.specs.Laws.Lists.{along-any, kept-all, none≢some}
 use Rattle.reclaim_model.specs.Rename.{linksOf, Every, renameBlock}
 use Rattle.reclaim_model.specs.Reclaim.{newNumber, rank}
-use Rattle.reclaim_model.specs.Changes.{BornScript, compileRefusalBorn, appendedBorn, reclaimRefusal, lives, keptOnly, Change, changed, givenTo, numberAfter, changes}
+use Rattle.reclaim_model.specs.Changes.{BornScript, appendedBorn, reclaimRefusal, lives, keptOnly, Change, changed, givenTo, numberAfter, changes}
 use Rattle.reclaim_model.specs.Laws.Born.{grown}
 use Rattle.reclaim_model.specs.Laws.Reclaimed.{every-both, reclaim-passed, reclaim-renamed, reclaim-numbered}
 use Rattle.reclaim_model.specs.Laws.Renames.{links-map, every-map, every-all, rename-twice, rename-same}
@@ -62,12 +62,15 @@ module _ (h : Sheet) (k : BornScript) (b j : ℕ) (l : b < length (k .script .bl
       let s = survives (lives k rs) b j n in
       let judged = reclaim-passed k rs z .judged in
       let r = reclaim-renamed k rs judged in
-      rw (← s .1) (reclaim-numbered k rs judged .inside′ b (s .0), record {
-        follow = rank (lives k rs);
-        same = r .same b (s .0);
-        links = every-both (λ i. getD (lives k rs) i false ≡ true) (λ i. getD (lives k rs) i false ≡ true) (λ i. newNumber (lives k rs) i ≡ some (rank (lives k rs) i))
-            (λ i p q. rw p) (linksOf (blockAt (k .script .blocks) b)) (r .links b (s .0)) (r .links b (s .0));
-      })
+      rw (← s .1) (
+        reclaim-numbered k rs judged .inside′ b (s .0),
+        record {
+          follow = rank (lives k rs);
+          same = r .same b (s .0);
+          links = every-both (λ i. getD (lives k rs) i false ≡ true) (λ i. getD (lives k rs) i false ≡ true) (λ i. newNumber (lives k rs) i ≡ some (rank (lives k rs) i))
+              (λ i p q. rw p) (linksOf (blockAt (k .script .blocks) b)) (r .links b (s .0)) (r .links b (s .0));
+        },
+      )
 
   -- where a compile leaves that no shop was accepted, it names another block
   other-named : (c : Call) → cond (eqb (c .setup) b) (some (withSlots (c .shop))) none ≡ none → b ≢ c .setup
@@ -107,7 +110,7 @@ module _ (h : Sheet) where
       there = nowAt (changes h) (changed h k x) xs
 
       by : ((j : ℕ) → j < length (changed h k x .script .blocks) → nowAt (changes h) (changed h k x) xs j ≡ some b′ → lastAt (changes h) (changed h k x) xs j ≡ none
-              → AsWas there (blockAt (changed h k x .script .blocks) j) (blockAt (afterAll (changes h) (changed h k x) xs .script .blocks) b′))
+          → AsWas there (blockAt (changed h k x .script .blocks) j) (blockAt (afterAll (changes h) (changed h k x) xs .script .blocks) b′))
           → (o : Option ℕ) → numberAfter k x b ≡ o → following o (λ j. nowAt (changes h) (changed h k x) xs j) ≡ some b′
           → (a : Option (List Slot)) → latest (changes h) k x b none ≡ a → following o (λ j. lastFrom (changes h) a (changed h k x) xs j) ≡ none
           → AsWas (λ j. following (numberAfter k x j) there) (blockAt (k .script .blocks) b) (blockAt (afterAll (changes h) (changed h k x) xs .script .blocks) b′)
