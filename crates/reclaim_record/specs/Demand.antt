@@ -99,7 +99,7 @@ module _ (h : Sheet) (k : Born) (m : BornScript) (st : Stands k m) (xs : List Ch
         subst (RunsAs h s ys) (fun-ext (λ budget. sym (run-same end fin (ends .after) h b′ s budget))) (whole .runs b b′ ys (now-is b b′ e) (sym (ends .last none b) ∙ l) s g);
     parses = λ b b′ ys e l. parse-same end fin (ends .after) h b′ ∙ whole .parses b b′ ys (now-is b b′ e) (sym (ends .last none b) ∙ l);
     given = λ b b′ ys e l.
-        let a = carried-all h m xs (borne k m st) b b′ ys (now-is b b′ e) (sym (ends .last none b) ∙ l) in
+        let a = carried-all h m xs (borne k m st) b b′ ys (now-is b b′ e) (sym (ends .last none b) ∙ l) .shop in
         record { sheet = a .sheet; twenty = a .twenty; ok = a .ok };
     others = λ b b′ l e q.
         rw (block-same k m st b l, block-same end fin (ends .after) b′ (omega (arith, n′, inside b b′ l e)))
