@@ -1,11 +1,11 @@
 -- The checks of a reclaim on a record: 18 before any other, what an accepted one passed, and that a refused one changes nothing (02, A.4). Assumes nothing.
 use mathlib.Core.Path.{_≡_, refl}
-use mathlib.Core.Bool.{Bool, true, false, _&&_}
+use mathlib.Core.Bool.{Bool, true, false, cond, _&&_}
 use mathlib.Core.Option.{some}
 use mathlib.Core.List.{List, [], _∷_, List·Memᴰ, List·Memᴰ·head, List·Memᴰ·tail}
 use Prim.Native.Nat.{ℕ, _≤_, _<_}
 use native.Mathlib.Omega.{arith}
-use lib.Dec.{leb, ltb}
+use lib.Dec.{eqb, leb, ltb}
 use lib.ListN.{length}
 use borrow.Author.Tests.{le-ltb, lt-leb, ne-eqb}
 use Rattle.model.specs.Limits.{rootLimit}
@@ -18,7 +18,7 @@ use Rattle.model.specs.Laws.Refused.{Accepts, accepts}
 use Rattle.memory.specs.RecordLaws.{proper-record}
 use Rattle.reclaim_model.specs.Reclaim.{rootsOk}
 use Rattle.reclaim_model.specs.Changes.{reclaim}
-use Rattle.reclaim_record.specs.Calls.{reclaimRefusalIn, reclaimedIn, movedIn, numberAfterIn}
+use Rattle.reclaim_record.specs.Calls.{reclaimRefusalIn, livesIn, keptOnlyIn, reclaimedIn, movedIn, numberAfterIn}
 
 module _ (k : Born) (rs : List ℕ) where
   -- whatever the record is
@@ -58,3 +58,12 @@ module _ (k : Born) (rs : List ℕ) where
   pub refused-stays : (reclaimRefusalIn k rs ≡ 0 → ⊥) → Nothing
   unfolding reclaimedIn movedIn numberAfterIn
   refused-stays d = let e = ne-eqb (reclaimRefusalIn k rs) 0 d in record { record-is = rw e; moved = λ ns. rw e; number = λ b. rw e }
+
+  -- "the script its count of accepted compiles", accepted or refused
+  pub compiles-kept : reclaimedIn k rs .compiles ≡ k .compiles
+  unfolding reclaimedIn keptOnlyIn
+  compiles-kept = by (eqb (reclaimRefusalIn k rs) 0)
+    where
+      by : (a : Bool) → cond a (keptOnlyIn (livesIn k rs) k) k .compiles ≡ k .compiles
+      by true = refl
+      by false = refl

@@ -1,5 +1,6 @@
 -- Demand 3 on a script record in memory for lists that mix compiles and reclaims, on any content of the arrays, counts and marks (02, A.4). Assumes nothing.
 use mathlib.Core.Path.{_≡_, refl, sym, ap, _∙_, subst, fun-ext}
+use mathlib.Core.Bool.{true}
 use mathlib.Core.Logic.{_≢_}
 use mathlib.Core.Option.{Option, none, some}
 use mathlib.Core.List.{List, [], _∷_}
@@ -7,10 +8,11 @@ use Prim.Native.Nat.{ℕ, zero, suc, _<_}
 use native.Mathlib.Omega.{arith}
 use lib.ListN.{length}
 use borrow.Author.Tests.{ne-eqb}
+use Rattle.model.specs.Limits.{slotCount}
 use Rattle.model.specs.Refusal.{bornLater, firstOf}
 use Rattle.model.specs.Save.{Save}
-use Rattle.model.specs.Sheet.{Sheet, saveRefusal}
-use Rattle.model.specs.Shop.{Slot}
+use Rattle.model.specs.Sheet.{Sheet, all, saveRefusal, sheetRefusal}
+use Rattle.model.specs.Shop.{Slot, slotOk}
 use Rattle.model.specs.Script.{Block, blockAt}
 use Rattle.model.specs.Reading.{Answer, got, refused, refusalOf}
 use Rattle.model.specs.Memory.{blockIn}
@@ -26,13 +28,19 @@ use Rattle.memory.specs.RecordLaws.{proper-record}
 use Rattle.reclaim_model.specs.Rename.{linksOf}
 use Rattle.reclaim_model.specs.Changes.{BornScript, Change, compile, reclaim, changes}
 use Rattle.reclaim_model.specs.Demand.{Demand3Mixed, demand-3-mixed}
-use Rattle.reclaim_model.specs.Laws.Mixed.{birth-all}
+use Rattle.reclaim_model.specs.Laws.Mixed.{birth-all, carried-all}
 use Rattle.reclaim_model.specs.Laws.Others.{AsWas}
 use Rattle.reclaim_model.specs.Laws.Renames.{every-all, rename-same}
 use Rattle.reclaim_record.specs.Calls.{changeRefusalIn, changedIn, changesIn, numberAfterIn}
 use Rattle.reclaim_record.specs.Checks.{refused-stays, was-judged}
 use Rattle.reclaim_record.specs.Compiles.{compile-stays, later-refused, passed-in}
 use Rattle.reclaim_record.specs.Stands.{LongBorn, Stands, birth-same, block-same, borne, bornScript, count-same, followed, judged-stands, parse-same, refusal-same, run-same}
+
+-- a shop that passed 1 and 8
+pub record Given (h : Sheet) (ys : List Slot) : Type 0 where
+  pub sheet : sheetRefusal h ≡ 0
+  pub twenty : length ys ≡ slotCount
+  pub ok : all (slotOk h) ys ≡ true
 
 -- the clauses of demand 3, in the terms of the calls on a record; b is a block of the start, b′ its number after the list
 pub record Demand3MixedIn (h : Sheet) (k : Born) (xs : List Change) : Type 0 where
@@ -42,6 +50,8 @@ pub record Demand3MixedIn (h : Sheet) (k : Born) (xs : List Change) : Type 0 whe
   -- the parser reads there exactly that shop in normal form
   pub parses : (b b′ : ℕ) (ys : List Slot) → nowAt (changesIn h) k xs b ≡ some b′ → lastAt (changesIn h) k xs b ≡ some ys
       → parseIn h (afterAll (changesIn h) k xs .memory) b′ ≡ record { answer = 0; slots = normalShop h ys }
+  -- that shop was accepted under this very sheet, so that a preview of it is not refused
+  pub given : (b b′ : ℕ) (ys : List Slot) → nowAt (changesIn h) k xs b ≡ some b′ → lastAt (changesIn h) k xs b ≡ some ys → Given h ys
   -- every other surviving block of the start is as it was but for its number and the links, which go where the blocks are now that they named
   pub others : (b b′ : ℕ) → b < k .memory .count → nowAt (changesIn h) k xs b ≡ some b′ → lastAt (changesIn h) k xs b ≡ none
       → AsWas (nowAt (changesIn h) k xs) (blockIn (k .memory) b) (blockIn (afterAll (changesIn h) k xs .memory) b′)
@@ -64,20 +74,20 @@ module _ (h : Sheet) (k : Born) (m : BornScript) (st : Stands k m) (xs : List Ch
   abbrev fin : BornScript
   fin = afterAll (changes h) m xs
 
-  all : Followed (changesIn h) (changes h) Stands k m xs xs
-  all = followed h k m st xs
+  ends : Followed (changesIn h) (changes h) Stands k m xs xs
+  ends = followed h k m st xs
 
   n : k .memory .count ≡ length (m .script .blocks)
   n = count-same k m st
 
   n′ : afterAll (changesIn h) k xs .memory .count ≡ length (afterAll (changes h) m xs .script .blocks)
-  n′ = count-same end fin (all .after)
+  n′ = count-same end fin (ends .after)
 
   whole : Demand3Mixed h m xs
   whole = demand-3-mixed h m xs (borne k m st)
 
   now-is : (b b′ : ℕ) → nowAt (changesIn h) k xs b ≡ some b′ → nowAt (changes h) m xs b ≡ some b′
-  now-is b b′ e = sym (all .now b) ∙ e
+  now-is b b′ e = sym (ends .now b) ∙ e
 
   -- a survivor is a block
   inside : (b b′ : ℕ) → b < k .memory .count → nowAt (changesIn h) k xs b ≡ some b′ → b′ < length (afterAll (changes h) m xs .script .blocks)
@@ -86,17 +96,20 @@ module _ (h : Sheet) (k : Born) (m : BornScript) (st : Stands k m) (xs : List Ch
   judged-demand : Demand3MixedIn h k xs
   judged-demand = record {
     runs = λ b b′ ys e l s g.
-        subst (RunsAs h s ys) (fun-ext (λ budget. sym (run-same end fin (all .after) h b′ s budget))) (whole .runs b b′ ys (now-is b b′ e) (sym (all .last none b) ∙ l) s g);
-    parses = λ b b′ ys e l. parse-same end fin (all .after) h b′ ∙ whole .parses b b′ ys (now-is b b′ e) (sym (all .last none b) ∙ l);
+        subst (RunsAs h s ys) (fun-ext (λ budget. sym (run-same end fin (ends .after) h b′ s budget))) (whole .runs b b′ ys (now-is b b′ e) (sym (ends .last none b) ∙ l) s g);
+    parses = λ b b′ ys e l. parse-same end fin (ends .after) h b′ ∙ whole .parses b b′ ys (now-is b b′ e) (sym (ends .last none b) ∙ l);
+    given = λ b b′ ys e l.
+        let a = carried-all h m xs (borne k m st) b b′ ys (now-is b b′ e) (sym (ends .last none b) ∙ l) .shop in
+        record { sheet = a .sheet; twenty = a .twenty; ok = a .ok };
     others = λ b b′ l e q.
-        rw (block-same k m st b l, block-same end fin (all .after) b′ (omega (arith, n′, inside b b′ l e)))
-        (subst (λ (number : ℕ → Option ℕ). AsWas number (blockAt (m .script .blocks) b) (blockAt (fin .script .blocks) b′)) (fun-ext (λ j. sym (all .now j)))
-        (whole .others b b′ (omega (arith, n)) (now-is b b′ e) (sym (all .last none b) ∙ q)));
+        rw (block-same k m st b l, block-same end fin (ends .after) b′ (omega (arith, n′, inside b b′ l e)))
+        (subst (λ (number : ℕ → Option ℕ). AsWas number (blockAt (m .script .blocks) b) (blockAt (fin .script .blocks) b′)) (fun-ext (λ j. sym (ends .now j)))
+        (whole .others b b′ (omega (arith, n)) (now-is b b′ e) (sym (ends .last none b) ∙ q)));
     births = λ b b′ l e.
-        birth-same end fin (all .after) b′ (inside b b′ l e) ∙ whole .births b b′ (omega (arith, n)) (now-is b b′ e) ∙ sym (birth-same k m st b (omega (arith, n)));
+        birth-same end fin (ends .after) b′ (inside b b′ l e) ∙ whole .births b b′ (omega (arith, n)) (now-is b b′ e) ∙ sym (birth-same k m st b (omega (arith, n)));
     later = λ c l d.
-        let p = whole .later c (omega (arith, n′)) (λ b i e. d b (omega (arith, n)) (all .now b ∙ e)) in
-        ((λ e. p .0 (sym (birth-same end fin (all .after) (c .setup) (omega (arith, n′))) ∙ e)), refusal-same end fin (all .after) h c ∙ p .1);
+        let p = whole .later c (omega (arith, n′)) (λ b i e. d b (omega (arith, n)) (ends .now b ∙ e)) in
+        ((λ e. p .0 (sym (birth-same end fin (ends .after) (c .setup) (omega (arith, n′))) ∙ e)), refusal-same end fin (ends .after) h c ∙ p .1);
     marked = λ c d. later-refused h end c d;
   }
 
@@ -138,6 +151,7 @@ module _ (h : Sheet) (k : Born) (e : ℕ) (bad : judgedRecord (k .memory) ≡ re
   refused-demand xs = record {
     runs = λ b b′ ys n l s g. absurd (none≢some (sym (u .last b) ∙ l));
     parses = λ b b′ ys n l. absurd (none≢some (sym (u .last b) ∙ l));
+    given = λ b b′ ys n l. absurd (none≢some (sym (u .last b) ∙ l));
     others = λ b b′ l n q.
         let w = same b b′ n in
         record {
