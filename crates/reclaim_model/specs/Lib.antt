@@ -1,3 +1,4 @@
 pub mod Rename
 pub mod Reclaim
 pub mod Changes
+pub mod Laws

@@ -1,0 +1,5 @@
+pub mod Words
+pub mod Queue
+pub mod Pieces
+pub mod Follow
+pub mod Marks
