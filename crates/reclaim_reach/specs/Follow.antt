@@ -8,14 +8,10 @@ use native.Mathlib.Decide.{ℕ-discrete}
 use lib.ListN.{getD, length, replicate}
 use Rattle.model.specs.Limits.{blockLimit}
 use Rattle.reclaim_model.specs.Rename.{Every}
-use Rattle.reclaim_model.specs.Laws.Marks.{all-one}
 use Rattle.reclaim_model.specs.Laws.Reclaimed.{every-both}
 use Rattle.reclaim_reach.specs.Words.{Low}
-use Rattle.reclaim_reach.specs.Queue.{Queue, queueIn, markedAll, IsLive, Queued, queued-none, all-grown, all-live, all-only}
+use Rattle.reclaim_reach.specs.Queue.{Queue, queueIn, markedAll, IsLive, Queued, none-live, queued-none, all-grown, all-live, all-only}
 use Rattle.reclaim_reach.specs.Pieces.{Marking}
-
-true≢false : true ≡ false → ⊥
-true≢false e = let z : _≡_ {A = ℕ} 0 1 = cc in omega arith
 
 pub every-to : (P Q : ℕ → Type 0) → ((k : ℕ) → P k → Q k) → (ks : List ℕ) → Every P ks → Every Q ks
 every-to P Q h ks a = every-both P P Q (λ k p q. h k p) ks a a
@@ -30,14 +26,15 @@ module _ (ls : ℕ → List ℕ) (P : ℕ → Type 0) (rs : List ℕ) where
     pub only : (b : ℕ) → IsLive q b → P b
     pub links : (i : ℕ) → i < done → Every (IsLive q) (ls (getD (q .todo) i 0))
 
-  pub follow-start : (todo : List ℕ) (q : Queue) → length todo ≡ blockLimit → Every P rs → Every Low rs → Marking (queueIn (replicate blockLimit false) todo 0) rs q → Followed 0 q
-  follow-start todo q l a w g =
-      let q₀ = queueIn (replicate blockLimit false) todo 0 in
+  pub follow-start : (live : List Bool) (todo : List ℕ) (q : Queue) → live ≡ replicate blockLimit false → length todo ≡ blockLimit → Every P rs → Every Low rs → Marking (queueIn live todo 0) rs q
+      → Followed 0 q
+  follow-start live todo q none l a w g =
+      let q₀ = queueIn live todo 0 in
       record {
         queued = g .queued;
         upto = omega arith;
-        roots = rw (g .is) (all-live q₀ rs (queued-none todo l) w);
-        only = rw (g .is) (all-only P q₀ rs (λ b e. absurd (true≢false (sym e ∙ all-one false blockLimit b))) a);
+        roots = rw (g .is) (all-live q₀ rs (queued-none live none todo l) w);
+        only = rw (g .is) (all-only P q₀ rs (λ b e. absurd (none-live live none b e)) a);
         links = λ i p. absurd (omega arith);
       }
 

@@ -1,3 +1,4 @@
+pub mod Roots
 pub mod Words
 pub mod Queue
 pub mod Pieces

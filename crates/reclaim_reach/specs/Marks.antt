@@ -6,9 +6,9 @@ use Prim.Native.Nat.{ℕ, zero, suc, _+_, _*_, _≤_, _<_}
 use native.Mathlib.Omega.{arith}
 use native.Mathlib.Nat.{add-zero}
 use native.Mathlib.Decide.{decLe}
-use lib.ListN.{getD, length, take, List·getD-eq-default}
+use lib.ListN.{getD, length, replicate, take, List·getD-eq-default}
 use lib.Seq.{getD-take, length-take-le}
-use Rattle.model.specs.Limits.{commandLimit}
+use Rattle.model.specs.Limits.{blockLimit, commandLimit}
 use Rattle.model.specs.Script.{Block, placeholder, blockAt}
 use Rattle.model.specs.Reading.{got}
 use Rattle.model.specs.Memory.{Memory, memoryIn, scriptOf, blockWord}
@@ -22,8 +22,9 @@ use Rattle.reclaim_model.specs.Reclaim.{reached}
 use Rattle.reclaim_model.specs.Laws.Reached.{Leads, root, onward, mark-in, every-at, marks-are, reached-long, reached-root, reached-closed, reached-only}
 use Rattle.reclaim_model.specs.Laws.Reclaimed.{every-both, links-below, sound-at}
 use Rattle.reclaim_reach.specs.Words.{linksAt, links-are, Low, Safe, SafeAt}
-use Rattle.reclaim_reach.specs.Queue.{Queue, IsLive}
-use Rattle.reclaim_reach.specs.Follow.{Followed, every-to, closed}
+use Rattle.reclaim_reach.specs.Queue.{Queue, queueIn, IsLive, Queued}
+use Rattle.reclaim_reach.specs.Pieces.{Marking}
+use Rattle.reclaim_reach.specs.Follow.{Followed, every-to, follow-start, next-is, follow-next, closed}
 
 -- the blocks of a record with these commands and blocks, whatever its expressions: no link depends on one
 abbrev pub blocksOf : List ℕ → List ℕ → ℕ → List Block
@@ -113,25 +114,41 @@ module _ (cw bw : List ℕ) (n : ℕ) (s : Safe cw bw n) (rs : List ℕ) where
   each Q [] h = tt
   each Q (k ∷ ks) h = (h k (List·Memᴰ·head refl), each Q ks (λ j p. h j (List·Memᴰ·tail p)))
 
-  pub roots-led : Every (λ r. r < n) rs → Every (LedTo cw bw n rs) rs
+  roots-led : Every (λ r. r < n) rs → Every (LedTo cw bw n rs) rs
   roots-led a = each P rs (λ k p. (every-at (λ r. r < n) rs k a p, root p))
 
-  pub below-low : (ks : List ℕ) → Every (λ k. k < n) ks → Every Low ks
+  below-low : (ks : List ℕ) → Every (λ k. k < n) ks → Every Low ks
   below-low ks a = every-to (λ k. k < n) Low (λ k l. omega (arith, s .few)) ks a
 
   module _ (b : ℕ) (p : LedTo cw bw n rs b) where
-    pub safe-at : SafeAt cw bw b
+    safe-at : SafeAt cw bw b
     safe-at = record { fits = s .fits b (p .0); low = below-low (linksAt cw bw b) (s .inside b (p .0)) }
 
-    pub links-led : Every (LedTo cw bw n rs) (linksAt cw bw b)
+    links-led : Every (LedTo cw bw n rs) (linksAt cw bw b)
     links-led =
         each P (linksAt cw bw b)
         (λ k q. (every-at (λ j. j < n) (linksAt cw bw b) k (s .inside b (p .0)) q, onward (p .1) (subst (List·Memᴰ k) (sym (links-in words b (p .0))) q)))
 
-  module _ (done : ℕ) (q : Queue) (f : Followed (linksAt cw bw) (LedTo cw bw n rs) rs done q) (end : q .count ≤ done) where
-    ms : List Bool
-    ms = q .live
+  -- the roots into a queue that is empty
+  pub roots-low : Every (λ r. r < n) rs → Every Low rs
+  roots-low a = below-low rs a
 
+  pub reach-start : (live : List Bool) (todo : List ℕ) (q : Queue) → Every (λ r. r < n) rs → live ≡ replicate blockLimit false → length todo ≡ blockLimit → Marking (queueIn live todo 0) rs q
+      → Followed (linksAt cw bw) (LedTo cw bw n rs) rs 0 q
+  reach-start live todo q a none l g = follow-start (linksAt cw bw) P rs live todo q none l (roots-led a) (below-low rs a) g
+
+  -- block b, whose turn it is
+  module _ (done : ℕ) (q : Queue) (f : Followed (linksAt cw bw) (LedTo cw bw n rs) rs done q) (l : done < q .count) (b : ℕ) (is : b ≡ getD (q .todo) done 0) where
+    led : LedTo cw bw n rs b
+    led = subst P (sym is) (next-is (linksAt cw bw) P rs done q f l)
+
+    pub reach-asks : Queued q × (b < blockLimit) × SafeAt cw bw b
+    reach-asks = let u = led .0 in (f .queued, omega (arith, s .few), safe-at b led)
+
+    pub reach-next : (r : Queue) → Marking q (linksAt cw bw b) r → Followed (linksAt cw bw) (LedTo cw bw n rs) rs (done + 1) r
+    reach-next r g = follow-next (linksAt cw bw) P rs done q f b r l is (links-led b led) (safe-at b led .low) g
+
+  module _ (done : ℕ) (q : Queue) (f : Followed (linksAt cw bw) (LedTo cw bw n rs) rs done q) (end : q .count ≤ done) where
     room : n ≤ length (q .live)
     room = omega (arith, s .few, f .queued .long)
 

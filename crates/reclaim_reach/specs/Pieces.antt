@@ -13,7 +13,7 @@ use Rattle.model.specs.Memory.{linkIn}
 use Rattle.reclaim_model.specs.Rename.{withLink, Every}
 use Rattle.reclaim_model.specs.Laws.RenamedRun.{IsLink, has-link, drop-link}
 use Rattle.reclaim_reach.specs.Words.{namesBlock, targetBy, targetAt, targetsAt, linksBy, linksAt, Low, SafeAt}
-use Rattle.reclaim_reach.specs.Queue.{Queue, queueIn, marked, markedAll, IsLive, Queued, marked-on, marked-off, queued-one, all-queued}
+use Rattle.reclaim_reach.specs.Queue.{Queue, queueIn, marked, markedAll, IsLive, Queued, marked-on, marked-off, free, queued-one, all-queued}
 
 -- what a piece of marking leaves
 pub record Marking (q : Queue) (ks : List ℕ) (r : Queue) : Type 0 where
@@ -31,12 +31,18 @@ module _ (q : Queue) (i k : ℕ) (h : Queued q) (is : i ≡ k) where
   unfolding markedAll
   marked-before e = record { is = sym (marked-on q k (rw (← is) e)); queued = h }
 
-  pub marked-now : k < blockLimit → getD (q .live) i false ≡ false → Marking q (k ∷ []) (queueIn (set (q .live) i true) (set (q .todo) (q .count) k) (q .count + 1))
-  unfolding markedAll
-  marked-now l e =
-      let off : getD (q .live) k false ≡ false = ap (λ (j : ℕ). getD (q .live) j false) (sym is) ∙ e in
-      subst (λ (j : ℕ). Marking q (k ∷ []) (queueIn (set (q .live) j true) (set (q .todo) (q .count) k) (q .count + 1))) (sym is)
-      (record { is = sym (marked-off q k off); queued = queued-one q k h l off })
+  module _ (l : k < blockLimit) (e : getD (q .live) i false ≡ false) where
+    off : getD (q .live) k false ≡ false
+    off = ap (λ (j : ℕ). getD (q .live) j false) (sym is) ∙ e
+
+    pub room-now : q .count < blockLimit
+    room-now = free q k h l off
+
+    pub marked-now : Marking q (k ∷ []) (queueIn (set (q .live) i true) (set (q .todo) (q .count) k) (q .count + 1))
+    unfolding markedAll
+    marked-now =
+        subst (λ (j : ℕ). Marking q (k ∷ []) (queueIn (set (q .live) j true) (set (q .todo) (q .count) k) (q .count + 1))) (sym is)
+        (record { is = sym (marked-off q k off); queued = queued-one q k h l off })
 
 -- a word of next or else
 pub link-none : (q : Queue) (w : ℕ) → Queued q → w ≡ 0 → Marking q (withLink (linkIn w) []) q

@@ -51,14 +51,18 @@ true≢false : true ≡ false → ⊥
 true≢false e = let z : _≡_ {A = ℕ} 0 1 = cc in omega arith
 
 -- nothing marked
-pub queued-none : (todo : List ℕ) → length todo ≡ blockLimit → Queued (queueIn (replicate blockLimit false) todo 0)
-queued-none todo l = record {
-  long = length-replicate blockLimit false;
-  wide = l;
-  room = omega (arith, unmarked-replicate blockLimit);
-  held = λ i h. absurd (omega arith);
-  listed = λ b e. absurd (true≢false (sym e ∙ all-one false blockLimit b));
-}
+module _ (live : List Bool) (none : live ≡ replicate blockLimit false) where
+  pub none-live : (b : ℕ) → getD live b false ≡ true → ⊥
+  none-live b e = true≢false (sym e ∙ ap (λ (ms : List Bool). getD ms b false) none ∙ all-one false blockLimit b)
+
+  pub queued-none : (todo : List ℕ) → length todo ≡ blockLimit → Queued (queueIn live todo 0)
+  queued-none todo l = record {
+    long = ap length none ∙ length-replicate blockLimit false;
+    wide = l;
+    room = omega (arith, ap unmarked none ∙ unmarked-replicate blockLimit);
+    held = λ i h. absurd (omega arith);
+    listed = λ b e. absurd (none-live b e);
+  }
 
 module _ (q : Queue) (k : ℕ) where
   pub marked-on : IsLive q k → marked q k ≡ q
