@@ -35,9 +35,6 @@ pub record Reaching (cw bw : List ℕ) (n : ℕ) (rs : List ℕ) (live : List Bo
   pub is : take n live ≡ reached (blocksOf cw bw n) rs
   pub past : (b : ℕ) → n ≤ b → getD live b false ≡ false
 
-true≢false : true ≡ false → ⊥
-true≢false e = let z : _≡_ {A = ℕ} 0 1 = cc in omega arith
-
 -- a mark that is there is there whatever stands past the end
 mark-any : (ms : List Bool) (k : ℕ) → getD ms k false ≡ true → getD ms k true ≡ true
 mark-any [] k e = refl

@@ -19,7 +19,7 @@ use memory::CommandWords;
 use memory::index_of;
 
 // How many roots a reclaim may name.
-pub const ROOTS: usize = 256;
+const ROOTS: usize = 256;
 
 // A mark for each place of a block.
 pub type Marks = [bool; BLOCKS];
@@ -29,6 +29,7 @@ pub type Todo = [u16; BLOCKS];
 
 // ---- the check of the roots
 
+// A count beside the roots, which are as wide as any block number that a caller may name.
 fn wide(x: u16) -> u32
     ensures { λ r. ⌜ r ≡ x ⌝ }
 {
@@ -161,10 +162,10 @@ fn mark_roots(roots: &[u32], live: &mut Marks, todo: &mut Todo) -> usize
     ensures { λ r. ⌜ Marking (queueIn (now (live .entry)) (now (todo .entry)) 0) (now (roots .entry)) (queueIn (now (live .exit)) (now (todo .exit)) r) ⌝ }
 {
     let mut end: usize = 0;
-    let mut i: usize = 0;
-    while i < roots.len() {
-        end = mark(live, todo, end, root_no(roots[i]));
-        i += 1;
+    let mut at: usize = 0;
+    while at < roots.len() {
+        end = mark(live, todo, end, root_no(roots[at]));
+        at += 1;
     }
     end
 }
@@ -177,7 +178,7 @@ fn known(todo: &Todo) -> usize
     all.len()
 }
 
-// Marks what the roots reach by next, else and command targets; `live` holds no mark before.
+// Marks what the roots reach by next, else and command targets; `live` holds no mark before. How many blocks there are only the contract asks: no link leads past them.
 pub fn reach_roots(
     cw: &CommandWords,
     bw: &BlockWords,

@@ -1,54 +1,40 @@
+-- `mark_target` meets its contract. A command that names no block, or a mark. Assumes nothing.
 use borrow.Author.Tests.{not-true, not-false}
 use Rattle.reclaim_reach.specs.Pieces.{target-none, target-low, target-some}
 use borrow.Author.Needs.{needs}
 use Rattle.reclaim_reach.proofs.mark_target.Statement.{statement}
 use Rattle.reclaim_reach.proofs.mark_target.Tie as tie
-use Rattle.reclaim_reach.proofs.mark_target.Reads as reads
-use Rattle.reclaim_reach.proofs.mark_target.Lts as lts
-use Rattle.reclaim_reach.proofs.mark.Reads as mark-reads
-use Rattle.reclaim_reach.proofs.names_block.Reads as names-block-reads
 
--- src/lib.rt:101:24
 mul-names-block : tie.Need-mul-names-block
 mul-names-block c = search needs
 
--- src/lib.rt:101:21
 mul-names-block-2 : tie.Need-mul-names-block-2
 mul-names-block-2 c = search needs
 
--- src/lib.rt:101:21
 element-copy-out-names-block : tie.Need-element-copy-out-names-block
 element-copy-out-names-block c = search needs
 
--- src/lib.rt:101:9
 names-block-requires : tie.Need-names-block-requires
 names-block-requires c κs = search needs
 
--- src/lib.rt:102:9
 returns : tie.Need-returns
 returns c = target-none (c .before .before .before .args .cw .now) (c .before .before .before .args .i) _ (c .before .names-block .ensures) _ (c .before .before .before .pre .0) (not-true _ (c .if1 .taken))
 
--- src/lib.rt:104:28
 mul-mark : tie.Need-mul-mark
 mul-mark c = search needs
 
--- src/lib.rt:104:28
 add-mark : tie.Need-add-mark
 add-mark c = search needs
 
--- src/lib.rt:104:25
 mul-mark-2 : tie.Need-mul-mark-2
 mul-mark-2 c = search needs
 
--- src/lib.rt:104:25
 element-copy-out-mark : tie.Need-element-copy-out-mark
 element-copy-out-mark c = search needs
 
--- src/lib.rt:104:5
 mark-requires : tie.Need-mark-requires
 mark-requires c κs = (c .before .before .before .before .before .before .pre .0, target-low (c .before .before .before .before .before .before .args .cw .now) (c .before .before .before .before .before .before .args .i) _ (c .before .before .before .before .names-block .ensures) (not-false _ (c .before .before .before .if1 .left)) (c .before .before .before .before .before .before .pre .2))
 
--- src/lib.rt:97:1
 returns-2 : tie.Need-returns-2
 returns-2 c = target-some (c .before .before .before .before .before .before .before .args .cw .now) (c .before .before .before .before .before .before .before .args .i) _ (c .before .before .before .before .before .names-block .ensures) _ _ (not-false _ (c .before .before .before .before .if1 .left)) (c .mark .ensures)
 

@@ -1,21 +1,17 @@
+-- `names_block` meets its contract. The three codes whose command names a block. Assumes nothing.
 use borrow.Author.Tests.{eq-eqb, ne-eqb}
 use Rattle.reclaim_reach.specs.Words.{namesBlock}
 use Rattle.reclaim_reach.proofs.names_block.Statement.{statement}
 use Rattle.reclaim_reach.proofs.names_block.Tie as tie
-use Rattle.reclaim_reach.proofs.names_block.Reads as reads
-use Rattle.reclaim_reach.proofs.names_block.Lts as lts
 
--- src/lib.rt:88:9
 returns : tie.Need-returns
 unfolding namesBlock
 returns c = rw (eq-eqb _ 1 (c .if1 .taken))
 
--- src/lib.rt:91:9
 returns-2 : tie.Need-returns-2
 unfolding namesBlock
 returns-2 c = rw (ne-eqb _ 1 (c .before .if1 .left), eq-eqb _ 3 (c .if2 .taken))
 
--- src/lib.rt:84:1
 returns-3 : tie.Need-returns-3
 unfolding namesBlock
 returns-3 c = rw (ne-eqb _ 1 (c .before .if1 .left), ne-eqb _ 3 (c .if2 .left))

@@ -1,3 +1,4 @@
+-- `reach_roots` meets its contract. The invariant says what the followed part of the queue has done, the measure is how much of its array is left. Assumes nothing.
 use mathlib.Core.Path.{subst, sym}
 use Prim.Native.Nat.{_-_}
 use Rattle.model.specs.Limits.{blockLimit}
@@ -9,12 +10,6 @@ use native.Mathlib.Omega.{arith}
 use borrow.Author.Needs.{needs}
 use Rattle.reclaim_reach.proofs.reach_roots.Statement.{statement}
 use Rattle.reclaim_reach.proofs.reach_roots.Tie as tie
-use Rattle.reclaim_reach.proofs.reach_roots.Reads as reads
-use Rattle.reclaim_reach.proofs.reach_roots.Lts as lts
-use Rattle.memory.proofs.index_of.Reads as index-of-reads
-use Rattle.reclaim_reach.proofs.known.Reads as known-reads
-use Rattle.reclaim_reach.proofs.mark_links.Reads as mark-links-reads
-use Rattle.reclaim_reach.proofs.mark_roots.Reads as mark-roots-reads
 
 abbrev Inv-loop : tie.InvT-loop
 Inv-loop cw bw blocks roots live₀ todo₀ -all end₀ done₀ live todo end done = Followed (linksAt cw bw) (LedTo cw bw blocks roots) roots done (queueIn live todo end)
@@ -22,47 +17,36 @@ Inv-loop cw bw blocks roots live₀ todo₀ -all end₀ done₀ live todo end do
 abbrev μ-loop : tie.MeasureT-loop
 μ-loop cw bw blocks roots live₀ todo₀ -all end₀ done₀ live todo end done = blockLimit - done
 
--- src/lib.rt:192:9
 known-requires : tie.Need-known-requires Inv-loop μ-loop
 known-requires c κs = search needs
 
--- src/lib.rt:193:9
 mark-roots-requires : tie.Need-mark-roots-requires Inv-loop μ-loop
 mark-roots-requires c κs = (queued-none _ (c .before .before .before .before .before .pre .2) _ (c .before .before .known .ensures), roots-low _ _ _ (c .before .before .before .before .before .pre .0) (c .before .before .before .before .before .args .roots .now) (c .before .before .before .before .before .pre .1))
 
--- src/lib.rt:195:5
 loop-holds : tie.Need-loop-holds Inv-loop μ-loop
 loop-holds c = reach-start _ _ _ (c .before .before .before .before .before .before .pre .0) _ _ _ _ (c .before .before .before .before .before .before .pre .1) (c .before .before .before .before .before .before .pre .2) (c .before .before .before .known .ensures) (c .mark-roots .ensures)
 
--- src/lib.rt:196:26
 mul-index-of : tie.Need-mul-index-of Inv-loop μ-loop
 mul-index-of c = search needs
 
--- src/lib.rt:196:26
 element-copy-out-index-of : tie.Need-element-copy-out-index-of Inv-loop μ-loop
 element-copy-out-index-of c = omega (arith, c .before .loop .inv .queued .room, c .loop-test .taken)
 
--- src/lib.rt:196:13
 index-of-requires : tie.Need-index-of-requires Inv-loop μ-loop
 index-of-requires c κs = search needs
 
--- src/lib.rt:197:9
 mark-links-requires : tie.Need-mark-links-requires Inv-loop μ-loop
 mark-links-requires c κs = reach-asks _ _ _ (c .before .before .before .before .before .before .before .before .before .before .before .before .pre .0) _ _ _ (c .before .before .before .before .before .loop .inv) (c .before .before .before .before .loop-test .taken) _ (c .before .before .index-of .ensures)
 
--- src/lib.rt:198:9
 add-done : tie.Need-add-done Inv-loop μ-loop
 add-done c = omega (arith, c .before .before .before .before .before .before .loop .inv .queued .room, c .before .before .before .before .before .loop-test .taken)
 
--- src/lib.rt:195:5
 loop-less : tie.Need-loop-less Inv-loop μ-loop
 loop-less c = omega (arith, c .before .before .before .before .before .before .loop .inv .queued .room, c .before .before .before .before .before .loop-test .taken)
 
--- src/lib.rt:195:5
 loop-again : tie.Need-loop-again Inv-loop μ-loop
 loop-again c = reach-next _ _ _ (c .before .before .before .before .before .before .before .before .before .before .before .before .before .pre .0) _ _ _ (c .before .before .before .before .before .before .loop .inv) (c .before .before .before .before .before .loop-test .taken) _ (c .before .before .before .index-of .ensures) _ (c .mark-links .ensures)
 
--- src/lib.rt:181:1
 returns : tie.Need-returns Inv-loop μ-loop
 returns c = reaching _ _ _ (c .before .before .before .before .before .before .before .before .pre .0) _ _ _ (c .before .loop .inv) (c .loop-test .left)
 

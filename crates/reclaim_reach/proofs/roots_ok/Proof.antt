@@ -1,3 +1,4 @@
+-- `roots_ok` meets its contract. The invariant: those before i passed. The measure is how many are left. Assumes nothing.
 use Prim.Native.Nat.{_-_}
 use lib.ListN.{length}
 use Rattle.reclaim_reach.specs.Roots.{Tested, too-many, test-start, test-more, test-stop, test-done}
@@ -5,9 +6,6 @@ use native.Mathlib.Omega.{arith}
 use borrow.Author.Needs.{needs}
 use Rattle.reclaim_reach.proofs.roots_ok.Statement.{statement}
 use Rattle.reclaim_reach.proofs.roots_ok.Tie as tie
-use Rattle.reclaim_reach.proofs.roots_ok.Reads as reads
-use Rattle.reclaim_reach.proofs.roots_ok.Lts as lts
-use Rattle.reclaim_reach.proofs.wide.Reads as wide-reads
 
 abbrev Inv-loop : tie.InvT-loop
 Inv-loop roots blocks count i₀ i = Tested blocks roots i
@@ -15,43 +13,33 @@ Inv-loop roots blocks count i₀ i = Tested blocks roots i
 abbrev μ-loop : tie.MeasureT-loop
 μ-loop roots blocks count i₀ i = length roots - i
 
--- src/lib.rt:43:9
 returns : tie.Need-returns Inv-loop μ-loop
 returns c = too-many (c .before .before .args .blocks) (c .before .before .args .roots .now) (c .if1 .taken)
 
--- src/lib.rt:45:9
 wide-requires : tie.Need-wide-requires Inv-loop μ-loop
 wide-requires c κs = search needs
 
--- src/lib.rt:47:5
 loop-holds : tie.Need-loop-holds Inv-loop μ-loop
 loop-holds c = test-start _ _ (c .before .if1 .left)
 
--- src/lib.rt:48:21
 mul-if2 : tie.Need-mul-if2 Inv-loop μ-loop
 mul-if2 c = search needs
 
--- src/lib.rt:48:21
 shared-slice-read-if2 : tie.Need-shared-slice-read-if2 Inv-loop μ-loop
 shared-slice-read-if2 c = search needs
 
--- src/lib.rt:49:13
 returns-2 : tie.Need-returns-2 Inv-loop μ-loop
 returns-2 c = test-stop (c .before .before .before .before .before .before .before .args .blocks) (c .before .before .before .before .before .before .before .args .roots .now) _ (c .before .before .before .loop .inv) (c .before .before .loop-test .taken) (let w = c .before .before .before .before .wide .ensures in let u = c .if2 .taken in omega arith)
 
--- src/lib.rt:51:9
 add-i : tie.Need-add-i Inv-loop μ-loop
 add-i c = search needs
 
--- src/lib.rt:47:5
 loop-less : tie.Need-loop-less Inv-loop μ-loop
 loop-less c = omega (arith, c .before .before .loop-test .taken)
 
--- src/lib.rt:47:5
 loop-again : tie.Need-loop-again Inv-loop μ-loop
 loop-again c = test-more _ _ _ (c .before .before .before .loop .inv) (c .before .before .loop-test .taken) (let w = c .before .before .before .before .wide .ensures in let u = c .if2 .left in omega arith)
 
--- src/lib.rt:39:1
 returns-3 : tie.Need-returns-3 Inv-loop μ-loop
 returns-3 c = test-done (c .before .before .before .before .before .args .blocks) (c .before .before .before .before .before .args .roots .now) _ (c .before .loop .inv) (c .loop-test .left)
 
