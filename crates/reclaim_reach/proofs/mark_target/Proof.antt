@@ -1,0 +1,55 @@
+-- `mark_target` meets its contract. A command that names no block, or a mark. Assumes nothing.
+use borrow.Author.Tests.{not-true, not-false}
+use Rattle.reclaim_reach.specs.Pieces.{target-none, target-low, target-some}
+use borrow.Author.Needs.{needs}
+use Rattle.reclaim_reach.proofs.mark_target.Statement.{statement}
+use Rattle.reclaim_reach.proofs.mark_target.Tie as tie
+
+mul-names-block : tie.Need-mul-names-block
+mul-names-block c = search needs
+
+mul-names-block-2 : tie.Need-mul-names-block-2
+mul-names-block-2 c = search needs
+
+element-copy-out-names-block : tie.Need-element-copy-out-names-block
+element-copy-out-names-block c = search needs
+
+names-block-requires : tie.Need-names-block-requires
+names-block-requires c κs = search needs
+
+returns : tie.Need-returns
+returns c = target-none (c .before .before .before .args .cw .now) (c .before .before .before .args .i) _ (c .before .names-block .ensures) _ (c .before .before .before .pre .0) (not-true _ (c .if1 .taken))
+
+mul-mark : tie.Need-mul-mark
+mul-mark c = search needs
+
+add-mark : tie.Need-add-mark
+add-mark c = search needs
+
+mul-mark-2 : tie.Need-mul-mark-2
+mul-mark-2 c = search needs
+
+element-copy-out-mark : tie.Need-element-copy-out-mark
+element-copy-out-mark c = search needs
+
+mark-requires : tie.Need-mark-requires
+mark-requires c κs = (c .before .before .before .before .before .before .pre .0, target-low (c .before .before .before .before .before .before .args .cw .now) (c .before .before .before .before .before .before .args .i) _ (c .before .before .before .before .names-block .ensures) (not-false _ (c .before .before .before .if1 .left)) (c .before .before .before .before .before .before .pre .2))
+
+returns-2 : tie.Need-returns-2
+returns-2 c = target-some (c .before .before .before .before .before .before .before .args .cw .now) (c .before .before .before .before .before .before .before .args .i) _ (c .before .before .before .before .before .names-block .ensures) _ _ (not-false _ (c .before .before .before .before .if1 .left)) (c .mark .ensures)
+
+pub mark-target-spec : {M : Type 1} → statement M
+mark-target-spec =
+    tie.close
+    (tie.spec
+    mul-names-block
+    mul-names-block-2
+    element-copy-out-names-block
+    names-block-requires
+    returns
+    mul-mark
+    add-mark
+    mul-mark-2
+    element-copy-out-mark
+    mark-requires
+    returns-2)
