@@ -1,23 +1,27 @@
--- Demand 3 over the exported calls: any list of compiles as they were made and answered, at any block numbers, then a run and a parse as they were answered. Each call comes in by its own promise. Assumes nothing.
+-- Demand 3 over the exported calls: any list of compiles and reclaims as they were made and answered, at any block numbers, then a run and a parse as they were answered. Each call comes in by its own promise. Assumes nothing.
 use mathlib.Core.Path.{_≡_, refl, sym, ap, _∙_, subst}
-use mathlib.Core.Option.{none, some}
-use mathlib.Core.List.{List, map}
+use mathlib.Core.Bool.{Bool, true, false, cond}
+use mathlib.Core.Logic.{_≢_}
+use mathlib.Core.Option.{Option, none, some}
+use mathlib.Core.List.{List, [], _∷_, map}
 use Prim.Native.Nat.{ℕ, _≤_, _<_}
 use lib.IntN.{ℤ}
+use lib.Dec.{eqb}
+use lib.ListN.{getD}
+use borrow.Author.Tests.{eqb-true}
 use Rattle.model.specs.Limits.{runBlocks}
 use Rattle.model.specs.Refusal.{bornLater}
 use Rattle.model.specs.Save.{Save}
 use Rattle.model.specs.Sheet.{Sheet, saveRefusal}
-use Rattle.model.specs.Shop.{Slot, withSlots}
+use Rattle.model.specs.Shop.{Slot}
 use Rattle.model.specs.Meaning.{Means}
 use Rattle.model.specs.Normal.{normalShop}
 use Rattle.model.specs.Run.{Ran}
 use Rattle.model.specs.Parse.{Parsed}
 use Rattle.model.specs.Memory.{blockIn}
-use Rattle.model.specs.Compile.{Call}
-use Rattle.model.specs.Lists.{Along, Step, afterAll, compiling, lastAt}
+use Rattle.model.specs.Lists.{Along, Step, afterAll, lastAt, nowAt}
 use Rattle.model.specs.Demand.{RunsAs}
-use Rattle.model.specs.RecordCalls.{Born, compileRefusalIn, compiledIn, runIn, parseIn, compilesIn}
+use Rattle.model.specs.RecordCalls.{Born, bornAt, runIn, parseIn}
 use Rattle.model.specs.Laws.Lists.{Follows, Followed, follows-all}
 use Rattle.shop.specs.declared.Shop.{Shop}
 use Rattle.shop.specs.Shapes.{slotsOf}
@@ -29,27 +33,55 @@ use Rattle.parse.specs.Answer.{answerOf, ParsedAs}
 use Rattle.model.specs.Preview.{previewCall}
 use Rattle.preview.specs.declared.Previewed.{Previewed}
 use Rattle.preview.specs.Shown.{previewedOf}
-use Rattle.preview.specs.Agree.{Agrees, AgreesCall, call-agrees}
-use Rattle.engine.specs.Born.{LongBorn}
-use Rattle.engine.specs.Records.{Demand3In, demand-3-in}
+use Rattle.preview.specs.Agree.{AgreesCall, call-agrees, preview-agrees}
+use Rattle.reclaim_model.specs.Reclaim.{movedWord, wordTells}
+use Rattle.reclaim_model.specs.Changes as change
+use Rattle.reclaim_model.specs.Laws.Others.{AsWas}
+use Rattle.reclaim_record.specs.Calls.{changeRefusalIn, changedIn, changesIn, movedIn, numberAfterIn, reclaimRefusalIn}
+use Rattle.reclaim_record.specs.Moved.{moved-tells}
+use Rattle.reclaim_record.specs.Stands.{LongBorn}
+use Rattle.reclaim_record.specs.Demand.{Demand3MixedIn, demand-3-mixed-in}
+use Rattle.reclaim.specs.Answer.{ReclaimedAs}
 
--- a compile as it was made: what was given, what it answered, the record after it with its marks and count
+-- what a call was given: a compile its setup block and its shop, a reclaim its roots and the array in which it tells
+pub data Asked : Type 0 where
+  compile : ℕ → Shop → Asked
+  reclaim : List ℕ → List ℕ → Asked
+
+-- a call as it was made: what it was given, what it answered, the record after it with its marks and count, and what a reclaim's array told
 pub record Made : Type 0 where
-  pub setup : ℕ
-  pub shop : Shop
+  pub asked : Asked
   pub refusal : ℕ
   pub after : Born
+  pub told : List ℕ
 
--- a list of them: what each answered and left is what is told of it
+abbrev pub asChange : Asked → change.Change
+asChange (compile b sh) = change.compile (callOf b sh)
+asChange (reclaim rs mv) = change.reclaim rs
+
+-- where a call says that a block is now: an accepted reclaim by its array
+abbrev pub tellsOf : Asked → ℕ → List ℕ → ℕ → Option ℕ
+tellsOf (compile b sh) r t j = some j
+tellsOf (reclaim rs mv) r t j = cond (eqb r 0) (wordTells (getD t j 0)) (some j)
+
+-- a list of them: what each answered, left and told is what is told of it
 abbrev pub made : Step Born Made
-made = compiling (λ k x. x .refusal) (λ k x. x .after) (λ x. x .setup) (λ x. withSlots (slotsOf (x .shop))) (λ k. k .memory .count)
+made = record {
+  refusal = λ k x. x .refusal;
+  next = λ k x. x .after;
+  names = λ x b. change.namesOf (asChange (x .asked)) b;
+  given = λ x. change.givenTo (asChange (x .asked));
+  count = λ k. k .memory .count;
+  now = λ k x b. tellsOf (x .asked) (x .refusal) (x .told) b;
+}
 
-abbrev pub asCall : Made → Call
-asCall x = callOf (x .setup) (x .shop)
-
--- x got the record k and answered as compile promises
+-- x got the record k and answered as compile and reclaim promise
 abbrev pub AsPromised : Sheet → Born → Made → Type 0
-AsPromised h k x = CompiledAs h k (asCall x) (x .refusal) (x .after)
+AsPromised h k x =
+    elim (x .asked) [
+      | compile b sh ↦ CompiledAs h k (callOf b sh) (x .refusal) (x .after)
+      | reclaim rs mv ↦ ReclaimedAs k rs mv (x .refusal) (x .after) (x .told)
+    ]
 
 -- a run answered r and left the variables v′, as run promises
 pub record RanWell (h : Sheet) (s : Save) (xs : List Slot) (budget : ℕ) (r : code.Ran) (v′ : List ℤ) : Type 0 where
@@ -57,85 +89,68 @@ pub record RanWell (h : Sheet) (s : Save) (xs : List Slot) (budget : ℕ) (r : c
   pub few : r .refusal ≡ 0 → r .entered ≤ runBlocks
   pub means : r .refusal ≡ 0 → Means h s xs (s .variables) v′
 
+-- b is a block of the start, b′ its number after the list
 pub record Delivered (h : Sheet) (k : Born) (xs : List Made) : Type 0 where
-  -- at any block where one was accepted, under any save that fits the sheet and any budget
-  pub runs : (b : ℕ) (ys : List Slot) → lastAt made k xs b ≡ some ys → (s : Save) → saveRefusal h s ≡ 0 → (budget : ℕ) (r : code.Ran) (v′ : List ℤ)
-      → ranOf r v′ ≡ runIn h (afterAll made k xs .memory) b s budget → RanWell h s ys budget r v′
+  -- from any surviving block where a compile was accepted, under any save that fits the sheet and any budget
+  pub runs : (b b′ : ℕ) (ys : List Slot) → nowAt made k xs b ≡ some b′ → lastAt made k xs b ≡ some ys → (s : Save) → saveRefusal h s ≡ 0 → (budget : ℕ) (r : code.Ran) (v′ : List ℤ)
+      → ranOf r v′ ≡ runIn h (afterAll made k xs .memory) b′ s budget → RanWell h s ys budget r v′
   -- a run that is not refused ends the same with any other budget
-  pub same : (b : ℕ) (ys : List Slot) → lastAt made k xs b ≡ some ys → (s : Save) → saveRefusal h s ≡ 0 → (budget other : ℕ) (r q : code.Ran) (v w : List ℤ)
-      → ranOf r v ≡ runIn h (afterAll made k xs .memory) b s budget → ranOf q w ≡ runIn h (afterAll made k xs .memory) b s other → r .refusal ≡ 0 → q .refusal ≡ 0 → ranOf r v ≡ ranOf q w
+  pub same : (b b′ : ℕ) (ys : List Slot) → nowAt made k xs b ≡ some b′ → lastAt made k xs b ≡ some ys → (s : Save) → saveRefusal h s ≡ 0
+      → (budget other : ℕ) (r q : code.Ran) (v w : List ℤ) → ranOf r v ≡ runIn h (afterAll made k xs .memory) b′ s budget
+      → ranOf q w ≡ runIn h (afterAll made k xs .memory) b′ s other → r .refusal ≡ 0 → q .refusal ≡ 0 → ranOf r v ≡ ranOf q w
   -- the parser reads there exactly that shop in normal form
-  pub parses : (b : ℕ) (ys : List Slot) → lastAt made k xs b ≡ some ys → (r : ParsedShop) → ParsedAs (parseIn h (afterAll made k xs .memory) b) r
+  pub parses : (b b′ : ℕ) (ys : List Slot) → nowAt made k xs b ≡ some b′ → lastAt made k xs b ≡ some ys → (r : ParsedShop) → ParsedAs (parseIn h (afterAll made k xs .memory) b′) r
       → (r .refusal ≡ 0) × (slotsOf (r .shop) ≡ normalShop h ys)
   -- with a budget of 82 blocks or more the run leaves what a preview of that shop answers
-  pub previews : (b : ℕ) (ys : List Slot) → lastAt made k xs b ≡ some ys → (s : Save) → saveRefusal h s ≡ 0 → (budget : ℕ) → runBlocks ≤ budget → (r : code.Ran) (v′ : List ℤ) (q : Previewed)
-      → ranOf r v′ ≡ runIn h (afterAll made k xs .memory) b s budget → q ≡ previewedOf (previewCall h ys s) → AgreesCall q v′
-  -- every block of the start where none was accepted is as it was
-  pub others : (b : ℕ) → b < k .memory .count → lastAt made k xs b ≡ none → blockIn (afterAll made k xs .memory) b ≡ blockIn (k .memory) b
-  -- a compile that names a block which the list appended is answered 17, and nothing changes
-  pub later : (x : Made) → AsPromised h (afterAll made k xs) x → k .memory .count ≤ x .setup → x .setup < afterAll made k xs .memory .count
-      → (x .refusal ≡ bornLater) × (x .after ≡ afterAll made k xs)
+  pub previews : (b b′ : ℕ) (ys : List Slot) → nowAt made k xs b ≡ some b′ → lastAt made k xs b ≡ some ys → (s : Save) → saveRefusal h s ≡ 0
+      → (budget : ℕ) → runBlocks ≤ budget → (r : code.Ran) (v′ : List ℤ) (q : Previewed)
+      → ranOf r v′ ≡ runIn h (afterAll made k xs .memory) b′ s budget → q ≡ previewedOf (previewCall h ys s) → AgreesCall q v′
+  -- every other surviving block of the start is as it was but for its number and the links, which go where the blocks are now that they named
+  pub others : (b b′ : ℕ) → b < k .memory .count → nowAt made k xs b ≡ some b′ → lastAt made k xs b ≡ none
+      → AsWas (nowAt made k xs) (blockIn (k .memory) b) (blockIn (afterAll made k xs .memory) b′)
+  -- every surviving block of the start keeps its mark
+  pub births : (b b′ : ℕ) → b < k .memory .count → nowAt made k xs b ≡ some b′ → bornAt (afterAll made k xs) b′ ≡ bornAt k b
+  -- a compile that names a block which was none of the start is answered 17, and nothing changes
+  pub later : (setup : ℕ) (shop : Shop) (n : ℕ) (after : Born) → CompiledAs h (afterAll made k xs) (callOf setup shop) n after → setup < afterAll made k xs .memory .count
+      → ((b : ℕ) → b < k .memory .count → nowAt made k xs b ≢ some setup) → (n ≡ bornLater) × (after ≡ afterAll made k xs)
 
 -- ---- from the promises to the definitions
 
+tells-told : (o : Option ℕ) → wordTells (movedWord o) ≡ o
+tells-told none = refl
+tells-told (some k) = refl
+
 module _ (h : Sheet) where
-  follows : Follows made (compilesIn h) asCall (AsPromised h) (λ k t. k ≡ t)
+  asked-refusal : (a : Asked) (k : Born) (x : Made) → x .asked ≡ a → AsPromised h k x → x .refusal ≡ changeRefusalIn h k (asChange a)
+  unfolding changeRefusalIn
+  asked-refusal (compile b sh) k x e p = (rw e at p) .answer
+  asked-refusal (reclaim rs mv) k x e p = (rw e at p) .answer
+
+  asked-next : (a : Asked) (k : Born) (x : Made) → x .asked ≡ a → AsPromised h k x → x .after ≡ changedIn h k (asChange a)
+  unfolding changedIn
+  asked-next (compile b sh) k x e p = (rw e at p) .is
+  asked-next (reclaim rs mv) k x e p = (rw e at p) .is
+
+  asked-now : (a : Asked) (k : Born) (x : Made) (j : ℕ) → x .asked ≡ a → AsPromised h k x → tellsOf a (x .refusal) (x .told) j ≡ numberAfterIn k (asChange a) j
+  unfolding numberAfterIn
+  asked-now (compile b sh) k x j e p = refl
+  asked-now (reclaim rs mv) k x j e p =
+      let q : ReclaimedAs k rs mv (x .refusal) (x .after) (x .told) = rw e at p in
+      rw (q .answer, q .tells) (by (eqb (reclaimRefusalIn k rs) 0) refl)
+    where
+      by : (t : Bool) → eqb (reclaimRefusalIn k rs) 0 ≡ t → cond t (wordTells (getD (movedIn k rs mv) j 0)) (some j) ≡ numberAfterIn k (change.reclaim rs) j
+      by true z = ap wordTells (moved-tells k rs mv (eqb-true _ _ z) j) ∙ tells-told (numberAfterIn k (change.reclaim rs) j)
+      by false z = rw z
+
+  abbrev call : Made → change.Change
+  call x = asChange (x .asked)
+
+  follows : Follows made (changesIn h) call (AsPromised h) (λ k t. k ≡ t)
   follows = record {
-    refusal = λ k t x e p. p .answer ∙ ap (λ (j : Born). compileRefusalIn h j (asCall x)) e;
-    next = λ k t x e p. p .is ∙ ap (λ (j : Born). compiledIn h j (asCall x)) e;
-    now = λ k t x b e p. refl;
+    refusal = λ k t x e p. asked-refusal (x .asked) k x refl p ∙ ap (λ (j : Born). changeRefusalIn h j (call x)) e;
+    next = λ k t x e p. asked-next (x .asked) k x refl p ∙ ap (λ (j : Born). changedIn h j (call x)) e;
+    now = λ k t x b e p. asked-now (x .asked) k x b refl p ∙ ap (λ (j : Born). numberAfterIn j (call x) b) e;
     names = λ x b. refl;
     given = λ x. refl;
     count = λ k t e. ap (λ (j : Born). j .memory .count) e;
   }
-
-  -- ---- demand 3
-
-  -- the first gets the record k, each later one the record as the one before returned or left it. long: the lengths of the lent arrays; nothing is asked of what they hold, marks and count are taken as they stand
-  module _ (k : Born) (xs : List Made) (long : LongBorn k) (promised : Along made (AsPromised h) k xs) where
-    abbrev calls : List Call
-    calls = map asCall xs
-
-    followed : Followed made (compilesIn h) (λ k t. k ≡ t) k k xs calls
-    followed = follows-all made (compilesIn h) asCall (AsPromised h) (λ k t. k ≡ t) follows k k refl xs promised
-
-    demand : Demand3In h k calls
-    demand = demand-3-in h k long calls
-
-    last-is : (b : ℕ) → lastAt (compilesIn h) k calls b ≡ lastAt made k xs b
-    last-is b = sym (followed .last none b)
-
-    runs-at : (b : ℕ) (ys : List Slot) → lastAt made k xs b ≡ some ys → (s : Save) → saveRefusal h s ≡ 0 → RunsAs h s ys (λ budget. runIn h (afterAll made k xs .memory) b s budget)
-    runs-at b ys e s f =
-        subst (λ (t : Born). RunsAs h s ys (λ budget. runIn h (t .memory) b s budget)) (sym (followed .after)) (demand .runs b ys (last-is b ∙ e) s f)
-
-    pub delivered : Delivered h k xs
-    unfolding answerOf
-    delivered = record {
-      runs = λ b ys e s f budget r v′ p.
-          let a = runs-at b ys e s f in
-          let z : r .refusal ≡ runIn h (afterAll made k xs .memory) b s budget .answer = ap (λ (q : Ran). q .answer) p in
-          record {
-            not-refused = λ l. z ∙ a .not-refused budget l;
-            few = λ o. subst (λ (n : ℕ). n ≤ runBlocks) (sym (ap (λ (q : Ran). q .entered) p)) (a .few budget (sym z ∙ o));
-            means = λ o. subst (Means h s ys (s .variables)) (sym (ap (λ (q : Ran). q .variables) p)) (a .means budget (sym z ∙ o));
-          };
-      same = λ b ys e s f budget other r q v w p u o i.
-          let a = runs-at b ys e s f in
-          p ∙ a .same budget (sym (ap (λ (x : Ran). x .answer) p) ∙ o) ∙ sym (u ∙ a .same other (sym (ap (λ (x : Ran). x .answer) u) ∙ i));
-      parses = λ b ys e r p.
-          let q : parseIn h (afterAll made k xs .memory) b ≡ record { answer = 0; slots = normalShop h ys }
-          = ap (λ (t : Born). parseIn h (t .memory) b) (followed .after) ∙ demand .parses b ys (last-is b ∙ e) in
-          let z : r .refusal ≡ 0 = ap (λ (a : ParsedShop). a .refusal) (p .is ∙ ap answerOf q) in
-          (z, p .slots z ∙ ap (λ (a : Parsed). a .slots) q);
-      previews = λ b ys e s f budget l r v′ q p u.
-          let a : Agrees (previewCall h ys s) v′
-          = subst (λ (x : Ran). Agrees (previewCall h ys s) (x .variables)) (ap (λ (t : Born). runIn h (t .memory) b s budget) (sym (followed .after)) ∙ sym p) (demand .previews b ys (last-is b ∙ e) s f budget l) in
-          subst (λ (x : Previewed). AgreesCall x v′) (sym u) (call-agrees (previewCall h ys s) v′ a);
-      others = λ b l e. ap (λ (t : Born). blockIn (t .memory) b) (followed .after) ∙ demand .others b l (last-is b ∙ e);
-      later = λ x p l u.
-          let q = follows .refusal (afterAll made k xs) (afterAll (compilesIn h) k calls) x (followed .after) p in
-          let t = follows .next (afterAll made k xs) (afterAll (compilesIn h) k calls) x (followed .after) p in
-          let a = demand .later (asCall x) l (subst (λ (j : Born). x .setup < j .memory .count) (followed .after) u) in
-          (q ∙ a .0, t ∙ a .1 ∙ sym (followed .after));
-    }

@@ -1,4 +1,2 @@
-pub mod Born
-pub mod Records
 pub mod Files
 pub mod Delivered

@@ -1,24 +1,18 @@
--- The preview and the run of a compiled shop agree: what a run leaves in the shop's variables is what the preview answers. Assumes nothing.
+-- The preview of a shop and variables that hold what the shop means agree. Assumes nothing.
 use mathlib.Core.Path.{_≡_, refl, sym, ap, _∙_}
-use mathlib.Core.Option.{some}
+use mathlib.Core.Bool.{true}
 use mathlib.Core.List.{List}
-use Prim.Native.Nat.{ℕ, _+_, _≤_, _<_}
+use Prim.Native.Nat.{ℕ, _+_, _<_}
 use native.Mathlib.Omega.{arith}
 use lib.IntN.{ℤ, pos, negsuc}
 use lib.ListN.{getD, length, length-map, List·getD-map}
-use Rattle.model.specs.Limits.{runBlocks, slotCount, itemFirst, countFirst}
+use Rattle.model.specs.Limits.{slotCount, itemFirst, countFirst}
 use Rattle.model.specs.Refusal.{check}
 use Rattle.model.specs.Save.{Save}
-use Rattle.model.specs.Sheet.{Sheet, saveRefusal, all}
+use Rattle.model.specs.Sheet.{Sheet, all, saveRefusal, sheetRefusal}
 use Rattle.model.specs.Shop.{Slot, emptySlot, slotOk, shopRefusal}
-use Rattle.model.specs.Script.{Script}
-use Rattle.model.specs.Compile.{Call}
-use Rattle.model.specs.Run.{runCall}
 use Rattle.model.specs.Meaning.{hidden, meaningOf, Means}
 use Rattle.model.specs.Preview.{Preview, previewCall}
-use Rattle.model.specs.Lists.{NoneAppended, afterAll, compiles, lastAt}
-use Rattle.model.specs.Laws.Calls.{accepted-all}
-use Rattle.model.specs.Demand.{demand-3}
 use Rattle.preview.specs.Shown.{meaningsOf, previewedOf}
 use Rattle.preview.specs.Accepted.{with-all, accepted-preview, items-are, counts-are}
 use Rattle.preview.specs.declared.Previewed.{Previewed}
@@ -41,18 +35,12 @@ means-agrees h s xs v e m = record {
   first = m .first;
 }
 
--- the run from any block where a compile was accepted, under any save that fits the sheet, with a budget of 82 blocks or more
-pub preview-agrees : (h : Sheet) (sc : Script) (cs : List Call) → NoneAppended (compiles h) (length (sc .blocks)) sc cs
-    → (b : ℕ) (xs : List Slot) → lastAt (compiles h) sc cs b ≡ some xs
-    → (s : Save) → saveRefusal h s ≡ 0 → (budget : ℕ) → runBlocks ≤ budget
-    → Agrees (previewCall h xs s) (runCall h (afterAll (compiles h) sc cs) b s budget .variables)
-preview-agrees h sc cs clean b xs e s f budget l =
-    let r = demand-3 h sc cs clean .runs b xs e s f in
-    let a = accepted-all h sc cs clean b xs e in
-    let n = a .twenty in
-    let k : shopRefusal h xs ≡ 0 = ap (λ ys. check (all (slotOk h) ys) 8) (with-all xs n) ∙ ap (λ t. check t 8) (a .ok) in
-    rw (accepted-preview h xs s n (a .sheet) k f)
-    (means-agrees h s xs (runCall h (afterAll (compiles h) sc cs) b s budget .variables) n (r .means budget (r .not-refused budget l)))
+-- of a shop that passed 1 and 8, under a save that fits the sheet: where variables hold what the shop means they hold what a preview answers
+pub preview-agrees : (h : Sheet) (xs : List Slot) → sheetRefusal h ≡ 0 → length xs ≡ slotCount → all (slotOk h) xs ≡ true
+    → (s : Save) → saveRefusal h s ≡ 0 → (v : List ℤ) → Means h s xs (s .variables) v → Agrees (previewCall h xs s) v
+preview-agrees h xs g n ok s f v m =
+    let k : shopRefusal h xs ≡ 0 = ap (λ ys. check (all (slotOk h) ys) 8) (with-all xs n) ∙ ap (λ t. check t 8) ok in
+    rw (accepted-preview h xs s n g k f) (means-agrees h s xs v n m)
 
 -- ---- the same of what the call hands out
 

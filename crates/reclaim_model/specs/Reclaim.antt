@@ -83,6 +83,11 @@ abbrev pub movedWord : Option ℕ → ℕ
 movedWord none = 0
 movedWord (some k) = suc k
 
+-- what such a word tells
+abbrev pub wordTells : ℕ → Option ℕ
+wordTells zero = none
+wordTells (suc k) = some k
+
 -- the words of the old blocks, n surviving before them
 unfoldable pub movedFrom : ℕ → List Bool → List ℕ
 movedFrom n [] = []
