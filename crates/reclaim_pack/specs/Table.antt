@@ -1,7 +1,8 @@
 -- New numbers as a table, targets renamed command by command, survivors' words moved together (02, A.4). Assumes nothing: these are definitions.
+use mathlib.Core.Path.{_≡_}
 use mathlib.Core.Bool.{Bool, false, cond}
 use mathlib.Core.List.{List}
-use Prim.Native.Nat.{ℕ, zero, suc, _+_, _*_, _≤_}
+use Prim.Native.Nat.{ℕ, zero, suc, _+_, _*_, _≤_, _<_}
 use lib.Dec.{ltb}
 use lib.ListN.{getD, set}
 use Rattle.model.specs.Limits.{blockLimit}
@@ -25,6 +26,10 @@ ranksTo live (suc n) rk = set (ranksTo live n rk) n (rankTo live n)
 -- a number of a block as the table has it; what is no block gets the number of all survivors
 unfoldable pub tableRank : List ℕ → ℕ → ℕ → ℕ → ℕ
 tableRank rk n total t = cond (ltb t n) (getD rk t 0) total
+
+-- the table holds the new number of each of n blocks
+abbrev pub Ranks : List Bool → ℕ → List ℕ → Type 0
+Ranks live n rk = (b : ℕ) → b < n → getD rk b 0 ≡ rankTo live b
 
 -- every number of the table fits, with room for one more
 abbrev pub Small : List ℕ → ℕ → ℕ → Type 0
