@@ -15,27 +15,24 @@ use Rattle.model.specs.Limits.{blockLimit, commandLimit}
 use Rattle.model.specs.Memory.{memoryIn, blockWords}
 use Rattle.memory.specs.PutBlocks.{FiveWords, five-long, five-other, five-hold}
 use Rattle.reclaim_model.specs.Reclaim.{rank}
-use Rattle.reclaim_model.specs.Laws.Survivors.{rank-grows}
+use Rattle.reclaim_model.specs.Laws.Survivors.{rank-grows, rank-most}
 use Rattle.reclaim_model.specs.Laws.Reached.{mark-in}
 use Rattle.reclaim_record.specs.Packed.{followCode, followLink, Packed}
-use Rattle.reclaim_pack.specs.Table.{plusIf, rankTo, ranksTo, tableRank, Small, followedAt, followedTo, packedAt, packedTo}
+use Rattle.reclaim_pack.specs.Table.{plusIf, rankTo, ranksTo, tableRank, Ranks, Small, followedAt, followedTo, packedAt, packedTo}
 use Rattle.reclaim_pack.specs.Laws.{rank-low}
 
 -- ---- the table holds the ranks
 
+rank-zero : (ms : List Bool) → 0 ≡ rank ms 0
+unfolding rank
+rank-zero [] = refl
+rank-zero (m ∷ ms) = refl
+
 rank-step : (ms : List Bool) (b : ℕ) → rank ms (suc b) ≡ plusIf (rank ms b) (getD ms b false)
 unfolding rank
 rank-step [] b = refl
-rank-step (true ∷ ms) zero = by ms
-  where
-    by : (ms : List Bool) → suc (rank ms zero) ≡ 0 + 1
-    by [] = refl
-    by (m ∷ ms) = refl
-rank-step (false ∷ ms) zero = by ms
-  where
-    by : (ms : List Bool) → rank ms zero ≡ 0
-    by [] = refl
-    by (m ∷ ms) = refl
+rank-step (true ∷ ms) zero = ap suc (sym (rank-zero ms))
+rank-step (false ∷ ms) zero = sym (rank-zero ms)
 rank-step (true ∷ ms) (suc b) = ap suc (rank-step ms b) ∙ by (getD ms b false)
   where
     by : (a : Bool) → suc (plusIf (rank ms b) a) ≡ plusIf (suc (rank ms b)) a
@@ -48,11 +45,6 @@ unfolding rank
 rank-past [] t l = refl
 rank-past (m ∷ ms) zero l = absurd (omega arith)
 rank-past (m ∷ ms) (suc t) l = ap (λ (k : ℕ). cond m (suc k) k) (rank-past ms t (omega arith))
-
-rank-zero : (ms : List Bool) → 0 ≡ rank ms 0
-unfolding rank
-rank-zero [] = refl
-rank-zero (m ∷ ms) = refl
 
 module _ (live : List Bool) (n : ℕ) (enough : n ≤ length live) where
   abbrev ms : List Bool
@@ -91,16 +83,12 @@ module _ (live : List Bool) (n : ℕ) (enough : n ≤ length live) where
   rank-below : (t : ℕ) → t ≤ n → rank (take n live) t ≤ t
   rank-below t l = omega (arith, rank-is t l, rank-low live t)
 
-  rank-few : (t : ℕ) → rank (take n live) t ≤ n
-  rank-few t = by (decLe n t)
-    where
-      by : Dec (n ≤ t) → rank (take n live) t ≤ n
-      by (yes d) = let long : length (take n live) ≡ n = length-take-le n live enough in omega (arith, rank-past ms t (omega arith), ap (rank ms) long, rank-below n (omega arith))
-      by (no d) = omega (arith, rank-below t (omega arith))
+  -- what tell_moved and pack ask of the table
+  pub table-ranks : (rk : List ℕ) → n ≤ length rk → Ranks live n (ranksTo live n rk)
+  table-ranks rk e b l = table-at rk n b l e
 
-  -- what follow and pack ask of the table
   pub table-small : (rk : List ℕ) → n ≤ length rk → n ≤ blockLimit → Small (ranksTo live n rk) n (rankTo live n)
-  table-small rk e l t = omega (arith, table-is rk e t, rank-few t)
+  table-small rk e l t = omega (arith, table-is rk e t, rank-most ms t, length-take-le n live enough)
 
   pub table-places : (rk : List ℕ) → n ≤ length rk → n ≤ blockLimit → (b : ℕ) → b < n → tableRank (ranksTo live n rk) n (rankTo live n) b < blockLimit
   table-places rk e l b q = omega (arith, table-is rk e b, rank-below b (omega arith))

@@ -2,34 +2,25 @@
 use borrow.Author.Needs.{needs}
 use Rattle.reclaim_pack.proofs.answer.keep_birth.Statement.{statement}
 use Rattle.reclaim_pack.proofs.answer.keep_birth.Tie as tie
-use Rattle.reclaim_pack.proofs.answer.keep_birth.Reads as reads
-use Rattle.reclaim_pack.proofs.answer.keep_birth.Lts as lts
 
--- src/answer.rt:61:21
 mul-births : tie.Need-mul-births
 mul-births c = search needs
 
--- src/answer.rt:61:21
 element-copy-out-births : tie.Need-element-copy-out-births
 element-copy-out-births c = search needs
 
--- src/answer.rt:61:9
 mul-births-2 : tie.Need-mul-births-2
 mul-births-2 c = search needs
 
--- src/answer.rt:61:9
 element-write-births : tie.Need-element-write-births
 element-write-births c = search needs
 
--- src/answer.rt:62:16
 add-result : tie.Need-add-result
 add-result c = search needs
 
--- src/answer.rt:62:9
 returns : tie.Need-returns
 returns c = (rw (c .before .if1 .taken), rw (c .before .if1 .taken))
 
--- src/answer.rt:56:1
 returns-2 : tie.Need-returns-2
 returns-2 c = search needs
 

@@ -3,18 +3,13 @@ use native.Mathlib.Numerals.{add-one}
 use borrow.Author.Needs.{needs}
 use Rattle.reclaim_pack.proofs.answer.moved_word.Statement.{statement}
 use Rattle.reclaim_pack.proofs.answer.moved_word.Tie as tie
-use Rattle.reclaim_pack.proofs.answer.moved_word.Reads as reads
-use Rattle.reclaim_pack.proofs.answer.moved_word.Lts as lts
 
--- src/answer.rt:35:16
 add-result : tie.Need-add-result
 add-result c = search needs
 
--- src/answer.rt:35:9
 returns : tie.Need-returns
 returns c = rw (c .if1 .taken) (add-one _)
 
--- src/answer.rt:30:1
 returns-2 : tie.Need-returns-2
 returns-2 c = search needs
 

@@ -8,12 +8,6 @@ use Rattle.reclaim_pack.specs.Answer.{Keeping, keep-start, keep-room, ke
 use borrow.Author.Needs.{needs}
 use Rattle.reclaim_pack.proofs.answer.pack_births.Statement.{statement}
 use Rattle.reclaim_pack.proofs.answer.pack_births.Tie as tie
-use Rattle.reclaim_pack.proofs.answer.pack_births.Reads as reads
-use Rattle.reclaim_pack.proofs.answer.pack_births.Lts as lts
-use Rattle.memory.proofs.index_of.Reads as index-of-reads
-use Rattle.reclaim_pack.proofs.answer.keep_birth.Reads as keep-birth-reads
-use Rattle.reclaim_pack.proofs.answer.known.Reads as known-reads
-use Rattle.reclaim_pack.proofs.answer.known_births.Reads as known-births-reads
 
 abbrev Inv-loop : tie.InvT-loop
 Inv-loop births₀ live blocks -all -marks end n₀ b₀ births n b = Keeping live blocks end (sets births₀ 0 (survivors (take blocks live) (take blocks births₀))) births n b
@@ -21,43 +15,33 @@ Inv-loop births₀ live blocks -all -marks end n₀ b₀ births n b = Keeping li
 abbrev μ-loop : tie.MeasureT-loop
 μ-loop births₀ live blocks -all -marks end n₀ b₀ births n b = end - b
 
--- src/answer.rt:72:9
 known-requires : tie.Need-known-requires Inv-loop μ-loop
 known-requires c κs = search needs
 
--- src/answer.rt:73:9
 known-births-requires : tie.Need-known-births-requires Inv-loop μ-loop
 known-births-requires c κs = search needs
 
--- src/answer.rt:74:9
 index-of-requires : tie.Need-index-of-requires Inv-loop μ-loop
 index-of-requires c κs = search needs
 
--- src/answer.rt:77:5
 loop-holds : tie.Need-loop-holds Inv-loop μ-loop
 loop-holds c = keep-start _ _ _ _ (c .index-of .ensures) (c .before .before .before .before .pre) (c .before .before .before .known .ensures) (c .before .known-births .ensures)
 
--- src/answer.rt:78:32
 element-copy-out-keep-birth : tie.Need-element-copy-out-keep-birth Inv-loop μ-loop
 element-copy-out-keep-birth c = search needs
 
--- src/answer.rt:78:9
 keep-birth-requires : tie.Need-keep-birth-requires Inv-loop μ-loop
 keep-birth-requires c κs = keep-room _ _ _ _ _ _ _ (c .before .before .before .loop .inv) (c .before .before .loop-test .taken)
 
--- src/answer.rt:79:9
 add-b : tie.Need-add-b Inv-loop μ-loop
 add-b c = search needs
 
--- src/answer.rt:77:5
 loop-less : tie.Need-loop-less Inv-loop μ-loop
 loop-less c = omega (arith, c .before .before .before .loop-test .taken)
 
--- src/answer.rt:77:5
 loop-again : tie.Need-loop-again Inv-loop μ-loop
 loop-again c = keep-next _ _ _ _ _ _ _ (c .before .before .before .before .loop .inv) (c .before .before .before .loop-test .taken) _ _ (c .keep-birth .ensures .0) (c .keep-birth .ensures .1)
 
--- src/answer.rt:68:1
 returns : tie.Need-returns Inv-loop μ-loop
 returns c = keep-end _ _ _ _ _ _ _ (c .before .loop .inv) (c .loop-test .left)
 
