@@ -21,7 +21,7 @@ use Rattle.model.specs.Parse.{Parsed}
 use Rattle.model.specs.Memory.{blockIn}
 use Rattle.model.specs.Lists.{Along, Step, afterAll, lastAt, nowAt}
 use Rattle.model.specs.Demand.{RunsAs}
-use Rattle.model.specs.RecordCalls.{Born, bornAt, runIn, parseIn}
+use Rattle.model.specs.RecordCalls.{Born, bornAt, compileRefusalIn, compiledIn, parseIn, runIn}
 use Rattle.model.specs.Laws.Lists.{Follows, Followed, follows-all}
 use Rattle.shop.specs.declared.Shop.{Shop}
 use Rattle.shop.specs.Shapes.{slotsOf}
@@ -34,6 +34,7 @@ use Rattle.model.specs.Preview.{previewCall}
 use Rattle.preview.specs.declared.Previewed.{Previewed}
 use Rattle.preview.specs.Shown.{previewedOf}
 use Rattle.preview.specs.Agree.{AgreesCall, call-agrees, preview-agrees}
+use Rattle.reclaim_model.specs.Rename.{Every, linksOf}
 use Rattle.reclaim_model.specs.Reclaim.{movedWord, wordTells}
 use Rattle.reclaim_model.specs.Changes as change
 use Rattle.reclaim_model.specs.Laws.Others.{AsWas}
@@ -154,3 +155,76 @@ module _ (h : Sheet) where
     given = λ x. refl;
     count = λ k t e. ap (λ (j : Born). j .memory .count) e;
   }
+
+  -- ---- demand 3
+
+  -- the first gets the record k, each later one the record as the one before returned or left it. long: the lengths of the lent arrays; nothing is asked of what they hold, marks and count are taken as they stand
+  module _ (k : Born) (xs : List Made) (long : LongBorn k) (promised : Along made (AsPromised h) k xs) where
+    abbrev calls : List change.Change
+    calls = map call xs
+
+    followed : Followed made (changesIn h) (λ k t. k ≡ t) k k xs calls
+    followed = follows-all made (changesIn h) call (AsPromised h) (λ k t. k ≡ t) follows k k refl xs promised
+
+    demand : Demand3MixedIn h k calls
+    demand = demand-3-mixed-in h k long calls
+
+    now-is : (b : ℕ) → nowAt (changesIn h) k calls b ≡ nowAt made k xs b
+    now-is b = sym (followed .now b)
+
+    last-is : (b : ℕ) → lastAt (changesIn h) k calls b ≡ lastAt made k xs b
+    last-is b = sym (followed .last none b)
+
+    runs-at : (b b′ : ℕ) (ys : List Slot) → nowAt made k xs b ≡ some b′ → lastAt made k xs b ≡ some ys → (s : Save) → saveRefusal h s ≡ 0
+        → RunsAs h s ys (λ budget. runIn h (afterAll made k xs .memory) b′ s budget)
+    runs-at b b′ ys n e s f =
+        subst (λ (t : Born). RunsAs h s ys (λ budget. runIn h (t .memory) b′ s budget)) (sym (followed .after)) (demand .runs b b′ ys (now-is b ∙ n) (last-is b ∙ e) s f)
+
+    pub delivered : Delivered h k xs
+    unfolding answerOf
+    delivered = record {
+      runs = λ b b′ ys n e s f budget r v′ p.
+          let a = runs-at b b′ ys n e s f in
+          let z : r .refusal ≡ runIn h (afterAll made k xs .memory) b′ s budget .answer = ap (λ (q : Ran). q .answer) p in
+          record {
+            not-refused = λ l. z ∙ a .not-refused budget l;
+            few = λ o. subst (λ (n : ℕ). n ≤ runBlocks) (sym (ap (λ (q : Ran). q .entered) p)) (a .few budget (sym z ∙ o));
+            means = λ o. subst (Means h s ys (s .variables)) (sym (ap (λ (q : Ran). q .variables) p)) (a .means budget (sym z ∙ o));
+          };
+      same = λ b b′ ys n e s f budget other r q v w p u o i.
+          let a = runs-at b b′ ys n e s f in
+          p ∙ a .same budget (sym (ap (λ (x : Ran). x .answer) p) ∙ o) ∙ sym (u ∙ a .same other (sym (ap (λ (x : Ran). x .answer) u) ∙ i));
+      parses = λ b b′ ys n e r p.
+          let q : parseIn h (afterAll made k xs .memory) b′ ≡ record { answer = 0; slots = normalShop h ys }
+          = ap (λ (t : Born). parseIn h (t .memory) b′) (followed .after) ∙ demand .parses b b′ ys (now-is b ∙ n) (last-is b ∙ e) in
+          let z : r .refusal ≡ 0 = ap (λ (a : ParsedShop). a .refusal) (p .is ∙ ap answerOf q) in
+          (z, p .slots z ∙ ap (λ (a : Parsed). a .slots) q);
+      previews = λ b b′ ys n e s f budget l r v′ q p u.
+          let a = runs-at b b′ ys n e s f in
+          let g = demand .given b b′ ys (now-is b ∙ n) (last-is b ∙ e) in
+          let m : Means h s ys (s .variables) v′ = subst (λ (x : Ran). Means h s ys (s .variables) (x .variables)) (sym p) (a .means budget (a .not-refused budget l)) in
+          subst (λ (x : Previewed). AgreesCall x v′) (sym u) (call-agrees (previewCall h ys s) v′ (preview-agrees h ys (g .sheet) (g .twenty) (g .ok) s f v′ m));
+      others = λ b b′ l n e.
+          let w = demand .others b b′ l (now-is b ∙ n) (last-is b ∙ e) in
+          record {
+            follow = w .follow;
+            same = ap (λ (t : Born). blockIn (t .memory) b′) (followed .after) ∙ w .same;
+            links = every-same (linksOf (blockIn (k .memory) b)) (w .follow) (w .links);
+          };
+      births = λ b b′ l n. ap (λ (t : Born). bornAt t b′) (followed .after) ∙ demand .births b b′ l (now-is b ∙ n);
+      later = λ setup shop n after p l u.
+          let c = callOf setup shop in
+          let t = followed .after in
+          let a = demand .later c (subst (λ (j : Born). setup < j .memory .count) t l) (λ b q z. u b q (followed .now b ∙ z)) in
+          let m = demand .marked c (a .0) in
+          (p .answer ∙ ap (λ (j : Born). compileRefusalIn h j c) t ∙ a .1, p .is ∙ ap (λ (j : Born). compiledIn h j c) t ∙ m .1 ∙ sym t);
+    }
+      where
+        every-same : (js : List ℕ) (f : ℕ → ℕ) → Every (λ j. nowAt (changesIn h) k calls j ≡ some (f j)) js → Every (λ j. nowAt made k xs j ≡ some (f j)) js
+        every-same [] f a = tt
+        every-same (j ∷ js) f a = (followed .now j ∙ a .0, every-same js f (a .1))
+
+    -- ---- 01's clause: a list with compiles only moves nothing
+
+    abbrev compilesOnly : Type 0
+    compilesOnly = Along made (λ (t : Born) (x : Made). (j : ℕ) → tellsOf (x .asked) (x .refusal) (x .told) j ≡ some j) k xs
