@@ -38,6 +38,7 @@ use Rattle.reclaim_model.specs.Rename.{Every, linksOf}
 use Rattle.reclaim_model.specs.Reclaim.{movedWord, wordTells}
 use Rattle.reclaim_model.specs.Changes as change
 use Rattle.reclaim_model.specs.Laws.Others.{AsWas}
+use Rattle.reclaim_model.specs.Laws.Renames.{rename-agree, rename-same}
 use Rattle.reclaim_record.specs.Calls.{changeRefusalIn, changedIn, changesIn, movedIn, numberAfterIn, reclaimRefusalIn}
 use Rattle.reclaim_record.specs.Moved.{moved-tells}
 use Rattle.reclaim_record.specs.Stands.{LongBorn}
@@ -116,6 +117,14 @@ pub record Delivered (h : Sheet) (k : Born) (xs : List Made) : Type 0 where
       → ((b : ℕ) → b < k .memory .count → nowAt made k xs b ≢ some setup) → (n ≡ bornLater) × (after ≡ afterAll made k xs)
 
 -- ---- from the promises to the definitions
+
+some-same : {i j : ℕ} → _≡_ {A = Option ℕ} (some i) (some j) → i ≡ j
+some-same e = cc
+
+stays-along : (k : Born) (xs : List Made) → Along made (λ t x. (j : ℕ) → made .now t x j ≡ some j) k xs → (b : ℕ) → nowAt made k xs b ≡ some b
+unfolding Along nowAt
+stays-along k [] a b = refl
+stays-along k (x ∷ xs) a b = rw (a .0 b) (stays-along (x .after) xs (a .1) b)
 
 tells-told : (o : Option ℕ) → wordTells (movedWord o) ≡ o
 tells-told none = refl
@@ -224,7 +233,13 @@ module _ (h : Sheet) where
         every-same [] f a = tt
         every-same (j ∷ js) f a = (followed .now j ∙ a .0, every-same js f (a .1))
 
-    -- ---- 01's clause: a list with compiles only moves nothing
-
-    abbrev compilesOnly : Type 0
-    compilesOnly = Along made (λ (t : Born) (x : Made). (j : ℕ) → tellsOf (x .asked) (x .refusal) (x .told) j ≡ some j) k xs
+    -- where no call moves a block, as compiles and refused reclaims do not, every block of the start where none was accepted is as it was
+    pub unmoved : Along made (λ t x. (j : ℕ) → made .now t x j ≡ some j) k xs → (b : ℕ) → b < k .memory .count → lastAt made k xs b ≡ none
+        → blockIn (afterAll made k xs .memory) b ≡ blockIn (k .memory) b
+    unmoved a b l e =
+        let w = delivered .others b b l (stays-along k xs a b) e in
+        w .same ∙ rename-agree (w .follow) (λ j. j) (blockIn (k .memory) b) (own (linksOf (blockIn (k .memory) b)) (w .follow) (w .links)) ∙ rename-same (blockIn (k .memory) b)
+      where
+        own : (js : List ℕ) (f : ℕ → ℕ) → Every (λ j. nowAt made k xs j ≡ some (f j)) js → Every (λ j. f j ≡ j) js
+        own [] f q = tt
+        own (j ∷ js) f q = (some-same (sym (q .0) ∙ stays-along k xs a j), own js f (q .1))
