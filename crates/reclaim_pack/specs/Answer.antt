@@ -2,7 +2,7 @@
 use mathlib.Core.Path.{_≡_, refl, sym, ap, ap₂, _∙_}
 use mathlib.Core.Bool.{Bool, true, false, cond}
 use mathlib.Core.Option.{none, some}
-use mathlib.Core.List.{List, [], _∷_}
+use mathlib.Core.List.{List, _∷_}
 use Prim.Native.Nat.{ℕ, suc, _+_, _≤_, _<_}
 use native.Mathlib.Omega.{arith}
 use native.Mathlib.Numerals.{add-one}
@@ -52,9 +52,9 @@ module _ (live : List Bool) (rk : List ℕ) (blocks end : ℕ) where
           ranks = t .ranks;
           upto = omega (arith, t .end-is);
           left = t .left
-          ∙ ap (λ (ms : List Bool). sets moved b (movedFrom (rankTo live b) ms)) here
-          ∙ moved-one moved b (rankTo live b) m (slice (suc b) blocks live)
-          ∙ ap (λ (k : ℕ). sets (set moved b k) (suc b) (movedFrom (plusIf (rankTo live b) m) (slice (suc b) blocks live))) word;
+              ∙ ap (λ (ms : List Bool). sets moved b (movedFrom (rankTo live b) ms)) here
+              ∙ moved-one moved b (rankTo live b) m (slice (suc b) blocks live)
+              ∙ ap (λ (k : ℕ). sets (set moved b k) (suc b) (movedFrom (plusIf (rankTo live b) m) (slice (suc b) blocks live))) word;
         })
 
     pub tell-end : end ≤ b → moved ≡ all

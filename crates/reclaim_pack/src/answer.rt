@@ -38,7 +38,12 @@ fn moved_word(lives: bool, k: u16) -> u16
 }
 
 // For each old block its new number and 1, or 0 where it is gone.
-pub fn tell_moved(live: &[bool; BLOCKS], table: &[u16; BLOCKS], blocks: u16, moved: &mut [u16; BLOCKS])
+pub fn tell_moved(
+    live: &[bool; BLOCKS],
+    table: &[u16; BLOCKS],
+    blocks: u16,
+    moved: &mut [u16; BLOCKS],
+)
     requires { ⌜ (blocks ≤ blockLimit) × Ranks (now live) blocks (now table) ⌝ }
     ensures { λ _. ⌜ now (moved .exit) ≡ movedWords (take blocks (now (live .entry))) ⌝ }
 {

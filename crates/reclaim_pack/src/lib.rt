@@ -4,6 +4,7 @@ ghost use Prim.Native.Nat.{ℕ, _≤_, _<_};
 ghost use Rattle.model.specs.Limits.{blockLimit, commandLimit};
 ghost use Rattle.reclaim_record.specs.Packed.{followCode, followLink};
 ghost use Rattle.reclaim_pack.specs.Table.{plusIf, rankTo, ranksTo, tableRank, Small, followedTo, packedAt, packedTo};
+
 pub mod answer;
 
 use memory::BLOCKS;
