@@ -6,3 +6,6 @@ pub mod Reached
 pub mod Survivors
 pub mod Reclaimed
 pub mod Renames
+pub mod Moved
+pub mod Answers
+pub mod Twice

@@ -2,3 +2,4 @@ pub mod Rename
 pub mod Reclaim
 pub mod Changes
 pub mod Laws
+pub mod Cases

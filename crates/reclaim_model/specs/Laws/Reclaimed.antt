@@ -6,14 +6,16 @@ use mathlib.Core.List.{List, [], _∷_, map}
 use Prim.Native.Nat.{ℕ, zero, suc, _+_, _<_}
 use native.Mathlib.Omega.{arith}
 use lib.ListN.{getD, length, length-map, List·getD-map}
+use Rattle.model.specs.Refusal.{badRoots, check}
 use Rattle.model.specs.Script.{Command, return, goto, setVariable, setOther, ifElse, endIf, otherCommand, Block, placeholder, code, dataBlock, blockAt, commandNodes, commandsNodes, blockNodes, blockCommands, sumOf}
 use Rattle.model.specs.Judge.{counted, scriptRefusal}
+use Rattle.model.specs.Laws.Checks.{first-passed, passed}
 use Rattle.model.specs.Laws.Image.{FitsLink}
 use Rattle.model.specs.Laws.Sound.{SoundCommand, SoundCommands, SoundBlock, SoundBlocks, Held}
 use Rattle.model.specs.Laws.Judged.{accepted-held, held-accepted}
 use Rattle.reclaim_model.specs.Rename.{target, withLink, targets, linksOf, Every, renameLink, renameCommand, renameBlock}
-use Rattle.reclaim_model.specs.Reclaim.{survivors, rank, keptBlocks}
-use Rattle.reclaim_model.specs.Changes.{BornScript, lives, keptOnly}
+use Rattle.reclaim_model.specs.Reclaim.{rootsOk, survivors, rank, keptBlocks}
+use Rattle.reclaim_model.specs.Changes.{BornScript, lives, keptOnly, reclaimRefusal, reclaimed}
 use Rattle.reclaim_model.specs.Laws.RenamedRun.{Renamed, IsLink, has-link, drop-link}
 use Rattle.reclaim_model.specs.Laws.RenamedParse.{Numbered}
 use Rattle.reclaim_model.specs.Laws.Reached.{mark-on, mark-in, reached-long, reached-closed}
@@ -131,7 +133,23 @@ pub sum-map : {A : Type 0} (f : A → ℕ) (g : A → A) → ((x : A) → f (g x
 sum-map f g h [] = refl
 sum-map f g h (x ∷ xs) = ap₂ _+_ (h x) (sum-map f g h xs)
 
--- ---- a reclaim of an accepted script
+-- ---- an accepted reclaim passed its checks and leaves the survivors
+
+pub record ReclaimPassed (m : BornScript) (rs : List ℕ) : Type 0 where
+  pub roots : rootsOk (length (m .script .blocks)) rs ≡ true
+  pub judged : scriptRefusal (m .script) ≡ 0
+
+pub reclaim-passed : (m : BornScript) (rs : List ℕ) → reclaimRefusal m rs ≡ 0 → ReclaimPassed m rs
+unfolding reclaimRefusal
+reclaim-passed m rs e =
+    let p = first-passed (check (rootsOk (length (m .script .blocks)) rs) badRoots) (scriptRefusal (m .script) ∷ []) e in
+    record { roots = passed _ 17 (p .0); judged = first-passed (scriptRefusal (m .script)) [] (p .1) .0 }
+
+pub reclaim-done : (m : BornScript) (rs : List ℕ) → reclaimRefusal m rs ≡ 0 → reclaimed m rs ≡ keptOnly (lives m rs) m
+unfolding reclaimed
+reclaim-done m rs e = rw e
+
+-- ---- what a reclaim of an accepted script leaves
 
 module _ (m : BornScript) (rs : List ℕ) (j : scriptRefusal (m .script) ≡ 0) where
   abbrev bs : List Block
