@@ -1,20 +1,16 @@
 -- The links of the queue's blocks followed one after the other: at its end the marks hold the roots, are closed under links and hold nothing else. Assumes nothing.
-use mathlib.Core.Path.{_≡_, refl, sym, ap, _∙_, subst}
-use mathlib.Core.Bool.{Bool, true, false}
-use mathlib.Core.List.{List, [], _∷_}
-use Prim.Native.Nat.{ℕ, suc, _+_, _≤_, _<_}
+use mathlib.Core.Path.{_≡_, sym, ap, _∙_, subst}
+use mathlib.Core.Bool.{Bool, false}
+use mathlib.Core.List.{List}
+use Prim.Native.Nat.{ℕ, _+_, _≤_, _<_}
 use native.Mathlib.Omega.{arith}
 use native.Mathlib.Decide.{ℕ-discrete}
 use lib.ListN.{getD, length, replicate}
 use Rattle.model.specs.Limits.{blockLimit}
 use Rattle.reclaim_model.specs.Rename.{Every}
-use Rattle.reclaim_model.specs.Laws.Reclaimed.{every-both}
-use Rattle.reclaim_reach.specs.Words.{Low}
+use Rattle.reclaim_reach.specs.Words.{Low, every-to}
 use Rattle.reclaim_reach.specs.Queue.{Queue, queueIn, markedAll, IsLive, Queued, none-live, queued-none, all-grown, all-live, all-only}
 use Rattle.reclaim_reach.specs.Pieces.{Marking}
-
-pub every-to : (P Q : ℕ → Type 0) → ((k : ℕ) → P k → Q k) → (ks : List ℕ) → Every P ks → Every Q ks
-every-to P Q h ks a = every-both P P Q (λ k p q. h k p) ks a a
 
 -- ls gives the links of a block, P is what holds of the roots and goes along links
 module _ (ls : ℕ → List ℕ) (P : ℕ → Type 0) (rs : List ℕ) where

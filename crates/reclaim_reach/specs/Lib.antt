@@ -4,3 +4,4 @@ pub mod Queue
 pub mod Pieces
 pub mod Follow
 pub mod Marks
+pub mod Judged

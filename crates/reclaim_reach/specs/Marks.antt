@@ -1,30 +1,23 @@
--- The marks that the followed queue leaves are those of the definition, on a judged record. Assumes nothing.
+-- The marks at the end of the queue are those of the definition, where the words are safe. Assumes nothing.
 use mathlib.Core.Path.{_≡_, refl, sym, ap, _∙_, subst}
 use mathlib.Core.Bool.{Bool, true, false}
 use mathlib.Core.List.{List, [], _∷_, List·Memᴰ, List·Memᴰ·head, List·Memᴰ·tail}
-use Prim.Native.Nat.{ℕ, zero, suc, _+_, _*_, _≤_, _<_}
+use Prim.Native.Nat.{ℕ, zero, suc, _+_, _≤_, _<_}
 use native.Mathlib.Omega.{arith}
-use native.Mathlib.Nat.{add-zero}
-use native.Mathlib.Decide.{decLe}
-use lib.ListN.{getD, length, replicate, take, List·getD-eq-default}
+use lib.ListN.{getD, length, replicate, take}
 use lib.Seq.{getD-take, length-take-le}
-use Rattle.model.specs.Limits.{blockLimit, commandLimit}
-use Rattle.model.specs.Script.{Block, placeholder, blockAt}
-use Rattle.model.specs.Reading.{got}
-use Rattle.model.specs.Memory.{Memory, memoryIn, scriptOf, blockWord}
-use Rattle.model.specs.Record.{judgedRecord}
-use Rattle.model.specs.Laws.Judged.{accepted-held}
-use Rattle.memory.specs.Sound.{SoundKind}
-use Rattle.memory.specs.RecordLaws.{judged-sound, block-at}
-use Rattle.memory.specs.Transfer.{accepted-script, blocks-counted, judged-kept}
+use Rattle.model.specs.Limits.{blockLimit}
+use Rattle.model.specs.Script.{Block, blockAt}
+use Rattle.model.specs.Memory.{Memory, memoryIn, scriptOf}
+use Rattle.memory.specs.RecordLaws.{block-at}
+use Rattle.memory.specs.Transfer.{blocks-counted}
 use Rattle.reclaim_model.specs.Rename.{linksOf, Every}
 use Rattle.reclaim_model.specs.Reclaim.{reached}
-use Rattle.reclaim_model.specs.Laws.Reached.{Leads, root, onward, mark-in, every-at, marks-are, reached-long, reached-root, reached-closed, reached-only}
-use Rattle.reclaim_model.specs.Laws.Reclaimed.{every-both, links-below, sound-at}
-use Rattle.reclaim_reach.specs.Words.{linksAt, links-are, Low, Safe, SafeAt}
+use Rattle.reclaim_model.specs.Laws.Reached.{Leads, root, onward, mark-in, every-at, marks-are}
+use Rattle.reclaim_reach.specs.Words.{linksAt, links-are, every-to, below-low, Safe, SafeAt}
 use Rattle.reclaim_reach.specs.Queue.{Queue, queueIn, IsLive, Queued}
 use Rattle.reclaim_reach.specs.Pieces.{Marking}
-use Rattle.reclaim_reach.specs.Follow.{Followed, every-to, follow-start, next-is, follow-next, closed}
+use Rattle.reclaim_reach.specs.Follow.{Followed, follow-start, next-is, follow-next, closed}
 
 -- the blocks of a record with these commands and blocks, whatever its expressions: no link depends on one
 abbrev pub blocksOf : List ℕ → List ℕ → ℕ → List Block
@@ -41,60 +34,8 @@ mark-any [] k e = refl
 mark-any (m ∷ ms) zero e = e
 mark-any (m ∷ ms) (suc k) e = mark-any ms k e
 
-links-in : (m : Memory) (b : ℕ) → b < m .count → linksOf (blockAt (scriptOf m .blocks) b) ≡ linksAt (m .coded .words) (m .words) b
+pub links-in : (m : Memory) (b : ℕ) → b < m .count → linksOf (blockAt (scriptOf m .blocks) b) ≡ linksAt (m .coded .words) (m .words) b
 links-in m b l = ap linksOf (block-at m b l) ∙ links-are m b
-
--- ---- the same marks with every expression
-
-module _ (m : Memory) where
-  abbrev plain : Memory
-  plain = memoryIn [] [] (m .coded .words) (m .words) 0 0 (m .count)
-
-  same-links : (b : ℕ) → Dec (m .count ≤ b) → linksOf (blockAt (scriptOf m .blocks) b) ≡ linksOf (blockAt (scriptOf plain .blocks) b)
-  same-links b (yes d) =
-      ap linksOf
-      (List·getD-eq-default (scriptOf m .blocks) placeholder (omega (arith, blocks-counted m)) ∙ sym (List·getD-eq-default (scriptOf plain .blocks) placeholder (omega (arith, blocks-counted plain))))
-  same-links b (no d) = links-in m b (omega arith) ∙ sym (links-in plain b (omega arith))
-
-  same-leads : (rs : List ℕ) (b : ℕ) → Leads (scriptOf m .blocks) rs b → Leads (scriptOf plain .blocks) rs b
-  same-leads rs b (root p) = root p
-  same-leads rs b (onward {b = a} q p) = onward (same-leads rs a q) (subst (List·Memᴰ b) (same-links a (decLe (m .count) a)) p)
-
-  same-length : length (scriptOf m .blocks) ≡ length (scriptOf plain .blocks)
-  same-length = blocks-counted m ∙ sym (blocks-counted plain)
-
-  pub reached-of : (rs : List ℕ) → reached (scriptOf m .blocks) rs ≡ reached (blocksOf (m .coded .words) (m .words) (m .count)) rs
-  reached-of rs =
-      let bs = scriptOf m .blocks in
-      marks-are (scriptOf plain .blocks) rs (reached bs rs) (reached-long bs rs ∙ same-length) (λ r p l. reached-root bs rs r p (omega (arith, same-length)))
-      (λ b e. subst (Every (λ k. getD (reached bs rs) k true ≡ true)) (same-links b (decLe (m .count) b)) (reached-closed bs rs b e))
-      (λ b e. same-leads rs b (reached-only bs rs b e))
-
--- ---- the words of a judged record are safe
-
-module _ (m : Memory) (bs : List Block) (r : List ℕ) (judged : judgedRecord m ≡ got bs r) where
-  abbrev blocks : List Block
-  blocks = scriptOf m .blocks
-
-  links-inside : (b : ℕ) → b < m .count → Every (λ k. k < m .count) (linksAt (m .coded .words) (m .words) b)
-  links-inside b l =
-      let d = accepted-held (scriptOf m) (accepted-script m bs r judged) .1 in
-      subst (λ (n : ℕ). Every (λ k. k < n) (linksAt (m .coded .words) (m .words) b)) (blocks-counted m)
-      (subst (Every (λ k. k < length blocks)) (links-in m b l) (links-below (length blocks) (blockAt blocks b) (sound-at (length blocks) blocks b (d .sound))))
-
-  held-fits : (b : ℕ) → b < m .count → getD (m .words) (5 * b) 0 ≡ 1 → (j : ℕ) → j < getD (m .words) (5 * b + 2) 0 → getD (m .words) (5 * b + 1) 0 + j < commandLimit
-  unfolding SoundKind
-  held-fits b l e j q =
-      let kept = judged-kept m bs r judged .1 in
-      let kind : blockWord m b 0 ≡ 1 = ap (λ (n : ℕ). getD (m .words) n 0) (add-zero (5 * b)) ∙ e in
-      let commands : SoundKind m b 1 = subst (SoundKind m b) kind (judged-sound m bs r judged .sound .block b l) in
-      let last = commands (getD (m .words) (5 * b + 1) 0 + j) (omega arith) (omega arith) .low in
-      omega arith
-
-  pub safe : Safe (m .coded .words) (m .words) (m .count)
-  safe = record { few = judged-kept m bs r judged .0; fits = held-fits; inside = links-inside }
-
--- ---- the queue of safe words
 
 -- a block that the roots lead to
 abbrev pub LedTo : List ℕ → List ℕ → ℕ → List ℕ → ℕ → Type 0
@@ -114,25 +55,19 @@ module _ (cw bw : List ℕ) (n : ℕ) (s : Safe cw bw n) (rs : List ℕ) where
   roots-led : Every (λ r. r < n) rs → Every (LedTo cw bw n rs) rs
   roots-led a = each P rs (λ k p. (every-at (λ r. r < n) rs k a p, root p))
 
-  below-low : (ks : List ℕ) → Every (λ k. k < n) ks → Every Low ks
-  below-low ks a = every-to (λ k. k < n) Low (λ k l. omega (arith, s .few)) ks a
-
   module _ (b : ℕ) (p : LedTo cw bw n rs b) where
     safe-at : SafeAt cw bw b
-    safe-at = record { fits = s .fits b (p .0); low = below-low (linksAt cw bw b) (s .inside b (p .0)) }
+    safe-at = record { fits = s .fits b (p .0); low = below-low n (s .few) (linksAt cw bw b) (s .inside b (p .0)) }
 
     links-led : Every (LedTo cw bw n rs) (linksAt cw bw b)
     links-led =
         each P (linksAt cw bw b)
         (λ k q. (every-at (λ j. j < n) (linksAt cw bw b) k (s .inside b (p .0)) q, onward (p .1) (subst (List·Memᴰ k) (sym (links-in words b (p .0))) q)))
 
-  -- the roots into a queue that is empty
-  pub roots-low : Every (λ r. r < n) rs → Every Low rs
-  roots-low a = below-low rs a
-
+  -- the roots in a queue that was empty
   pub reach-start : (live : List Bool) (todo : List ℕ) (q : Queue) → Every (λ r. r < n) rs → live ≡ replicate blockLimit false → length todo ≡ blockLimit → Marking (queueIn live todo 0) rs q
       → Followed (linksAt cw bw) (LedTo cw bw n rs) rs 0 q
-  reach-start live todo q a none l g = follow-start (linksAt cw bw) P rs live todo q none l (roots-led a) (below-low rs a) g
+  reach-start live todo q a none l g = follow-start (linksAt cw bw) P rs live todo q none l (roots-led a) (below-low n (s .few) rs a) g
 
   -- block b, whose turn it is
   module _ (done : ℕ) (q : Queue) (f : Followed (linksAt cw bw) (LedTo cw bw n rs) rs done q) (l : done < q .count) (b : ℕ) (is : b ≡ getD (q .todo) done 0) where

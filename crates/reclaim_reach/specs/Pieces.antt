@@ -13,7 +13,7 @@ use Rattle.model.specs.Memory.{linkIn}
 use Rattle.reclaim_model.specs.Rename.{withLink, Every}
 use Rattle.reclaim_model.specs.Laws.RenamedRun.{IsLink, has-link, drop-link}
 use Rattle.reclaim_reach.specs.Words.{namesBlock, targetBy, targetAt, targetsAt, linksBy, linksAt, Low, SafeAt}
-use Rattle.reclaim_reach.specs.Queue.{Queue, queueIn, marked, markedAll, IsLive, Queued, marked-on, marked-off, free, queued-one, all-queued}
+use Rattle.reclaim_reach.specs.Queue.{Queue, queueIn, markedAll, Queued, marked-on, marked-off, free, queued-one}
 
 -- what a piece of marking leaves
 pub record Marking (q : Queue) (ks : List ℕ) (r : Queue) : Type 0 where

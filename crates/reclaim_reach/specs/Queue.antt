@@ -1,8 +1,8 @@
 -- Blocks marked and put into a queue, each at its first mark; what such a queue keeps. Assumes nothing.
 use mathlib.Core.Path.{_≡_, refl, sym, ap, _∙_, subst}
-use mathlib.Core.Bool.{Bool, true, false, cond}
+use mathlib.Core.Bool.{Bool, true, false, cond, true≢false}
 use mathlib.Core.List.{List, [], _∷_}
-use Prim.Native.Nat.{ℕ, zero, suc, _+_, _≤_, _<_}
+use Prim.Native.Nat.{ℕ, _+_, _≤_, _<_}
 use native.Mathlib.Omega.{arith}
 use native.Mathlib.Decide.{ℕ-discrete}
 use lib.ListN.{getD, set, length, replicate, length-set, length-replicate}
@@ -46,9 +46,6 @@ pub record Queued (q : Queue) : Type 0 where
   pub room : q .count + unmarked (q .live) ≤ blockLimit
   pub held : (i : ℕ) → i < q .count → IsLive q (getD (q .todo) i 0)
   pub listed : (b : ℕ) → IsLive q b → Place (q .todo) (q .count) b
-
-true≢false : true ≡ false → ⊥
-true≢false e = let z : _≡_ {A = ℕ} 0 1 = cc in omega arith
 
 -- nothing marked
 module _ (live : List Bool) (none : live ≡ replicate blockLimit false) where
@@ -167,11 +164,6 @@ module _ (q : Queue) (k : ℕ) where
       by false e = pick e (ℕ-discrete b k)
 
 -- ---- and a list
-
-pub all-queued : (q : Queue) (ks : List ℕ) → Queued q → Every Low ks → Queued (markedAll q ks)
-unfolding markedAll
-all-queued q [] h a = h
-all-queued q (k ∷ ks) h a = all-queued (marked q k) ks (one-queued q k h (a .0)) (a .1)
 
 pub all-grown : (q : Queue) (ks : List ℕ) → Grown q (markedAll q ks)
 unfolding markedAll

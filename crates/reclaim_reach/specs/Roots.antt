@@ -1,9 +1,8 @@
 -- The roots of a reclaim tested one after the other. Assumes nothing.
 use mathlib.Core.Path.{_≡_, refl, sym, ap, _∙_}
-use mathlib.Core.Bool.{Bool, true, false, _&&_}
+use mathlib.Core.Bool.{true, false}
 use mathlib.Core.List.{List, [], _∷_}
 use Prim.Native.Nat.{ℕ, _+_, _≤_, _<_}
-use native.Mathlib.Omega.{arith}
 use native.Mathlib.Numerals.{add-one}
 use lib.Dec.{ltb, leb}
 use lib.ListN.{length, drop, getD, drop-of-length-le}
@@ -11,6 +10,7 @@ use lib.Seq.{drop-cons}
 use borrow.Author.Tests.{lt-ltb, le-ltb, le-leb, lt-leb, ltb-true}
 use Rattle.model.specs.Limits.{rootLimit}
 use Rattle.model.specs.Sheet.{all}
+use Rattle.model.specs.Laws.Checks.{and-left, and-right}
 use Rattle.reclaim_model.specs.Rename.{Every}
 use Rattle.reclaim_model.specs.Reclaim.{rootsOk}
 
@@ -40,15 +40,7 @@ module _ (n : ℕ) (rs : List ℕ) where
 
 inside : (n : ℕ) (rs : List ℕ) → all (λ r. ltb r n) rs ≡ true → Every (λ r. r < n) rs
 inside n [] e = tt
-inside n (r ∷ rs) e = by (ltb r n) refl e (inside n rs)
-  where
-    by : (b : Bool) → ltb r n ≡ b → b && all (λ q. ltb q n) rs ≡ true → (all (λ q. ltb q n) rs ≡ true → Every (λ q. q < n) rs) → Every (λ q. q < n) (r ∷ rs)
-    by true q f ih = (ltb-true r n q, ih f)
-    by false q f ih = let z : _≡_ {A = ℕ} 0 1 = cc in absurd (omega arith)
+inside n (r ∷ rs) e = (ltb-true r n (and-left (ltb r n) _ e), inside n rs (and-right (ltb r n) _ e))
 
 pub roots-inside : (n : ℕ) (rs : List ℕ) → rootsOk n rs ≡ true → Every (λ r. r < n) rs
-roots-inside n rs e = by (leb (length rs) rootLimit) e
-  where
-    by : (b : Bool) → b && all (λ r. ltb r n) rs ≡ true → Every (λ r. r < n) rs
-    by true f = inside n rs f
-    by false f = let z : _≡_ {A = ℕ} 0 1 = cc in absurd (omega arith)
+roots-inside n rs e = inside n rs (and-right (leb (length rs) rootLimit) _ e)

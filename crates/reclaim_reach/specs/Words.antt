@@ -12,6 +12,7 @@ use borrow.Author.Tests.{ne-eqb}
 use Rattle.model.specs.Limits.{blockLimit, commandLimit}
 use Rattle.model.specs.Memory.{Coded, Memory, commandWord, setIn, commandBy, commandIn, commandsIn, blockWord, linkIn, blockBy, blockIn}
 use Rattle.reclaim_model.specs.Rename.{target, withLink, targets, linksOf, Every}
+use Rattle.reclaim_model.specs.Laws.Reclaimed.{every-both}
 
 -- Goto, If and EndIf
 unfoldable pub namesBlock : ℕ → Bool
@@ -80,6 +81,12 @@ module _ (m : Memory) (b : ℕ) where
 -- a number that the marks have a place for
 abbrev pub Low : ℕ → Type 0
 Low k = k < blockLimit
+
+pub every-to : (P Q : ℕ → Type 0) → ((k : ℕ) → P k → Q k) → (ks : List ℕ) → Every P ks → Every Q ks
+every-to P Q h ks a = every-both P P Q (λ k p q. h k p) ks a a
+
+pub below-low : (n : ℕ) → n ≤ blockLimit → (ks : List ℕ) → Every (λ k. k < n) ks → Every Low ks
+below-low n h ks a = every-to (λ k. k < n) Low (λ k l. omega arith) ks a
 
 -- of the words of one block; where it holds no command its first may be any
 pub record SafeAt (cw bw : List ℕ) (b : ℕ) : Type 0 where

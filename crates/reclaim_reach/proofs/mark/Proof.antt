@@ -1,5 +1,4 @@
 -- `mark` meets its contract. A block with a mark is left, one without goes behind the queue, which has room for it. Assumes nothing.
-use Rattle.reclaim_reach.specs.Queue.{queueIn, free}
 use Rattle.reclaim_reach.specs.Pieces.{marked-before, marked-now, room-now}
 use borrow.Author.Needs.{needs}
 use Rattle.reclaim_reach.proofs.mark.Statement.{statement}

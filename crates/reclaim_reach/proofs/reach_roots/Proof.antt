@@ -1,11 +1,10 @@
 -- `reach_roots` meets its contract. The invariant says what the followed part of the queue has done, the measure is how much of its array is left. Assumes nothing.
-use mathlib.Core.Path.{subst, sym}
 use Prim.Native.Nat.{_-_}
 use Rattle.model.specs.Limits.{blockLimit}
-use Rattle.reclaim_reach.specs.Words.{linksAt}
+use Rattle.reclaim_reach.specs.Words.{linksAt, below-low}
 use Rattle.reclaim_reach.specs.Queue.{queueIn, queued-none}
 use Rattle.reclaim_reach.specs.Follow.{Followed}
-use Rattle.reclaim_reach.specs.Marks.{LedTo, reaching, roots-low, reach-start, reach-asks, reach-next}
+use Rattle.reclaim_reach.specs.Marks.{LedTo, reaching, reach-start, reach-asks, reach-next}
 use native.Mathlib.Omega.{arith}
 use borrow.Author.Needs.{needs}
 use Rattle.reclaim_reach.proofs.reach_roots.Statement.{statement}
@@ -21,7 +20,7 @@ known-requires : tie.Need-known-requires Inv-loop μ-loop
 known-requires c κs = search needs
 
 mark-roots-requires : tie.Need-mark-roots-requires Inv-loop μ-loop
-mark-roots-requires c κs = (queued-none _ (c .before .before .before .before .before .pre .2) _ (c .before .before .known .ensures), roots-low _ _ _ (c .before .before .before .before .before .pre .0) (c .before .before .before .before .before .args .roots .now) (c .before .before .before .before .before .pre .1))
+mark-roots-requires c κs = (queued-none _ (c .before .before .before .before .before .pre .2) _ (c .before .before .known .ensures), below-low _ (c .before .before .before .before .before .pre .0 .few) (c .before .before .before .before .before .args .roots .now) (c .before .before .before .before .before .pre .1))
 
 loop-holds : tie.Need-loop-holds Inv-loop μ-loop
 loop-holds c = reach-start _ _ _ (c .before .before .before .before .before .before .pre .0) _ _ _ _ (c .before .before .before .before .before .before .pre .1) (c .before .before .before .before .before .before .pre .2) (c .before .before .before .known .ensures) (c .mark-roots .ensures)
