@@ -1,8 +1,8 @@
 // Each call with the numbers of a line, and what it answered as numbers: compile, parse, run beside preview, judge, and an image read or written.
 use crate::changes::low8;
 use crate::changes::size;
-use compile::Compiled;
 use births::start_anew;
+use compile::Compiled;
 use compile::compile;
 use image_read::Image;
 use image_read::read_script;
@@ -69,7 +69,7 @@ pub fn counts(blocks: u32, commands: u32, nodes: u32) -> Counts {
     }
 }
 
-fn tell_counts(t: &mut [u32; 16], refusal: u8, k: Counts) {
+pub fn tell_counts(t: &mut [u32; 16], refusal: u8, k: Counts) {
     t[0] = refusal as u32;
     t[1] = k.blocks as u32;
     t[2] = k.commands as u32;
@@ -144,10 +144,10 @@ pub fn compiled(
     t: &mut [u32; 16],
 ) -> Kept {
     let held = kept.counts;
-    let before = sum_births(births, mixed(sum(ws, val, cw, bw, held), kept.compiles));
+    let before = whole(ws, val, cw, bw, births, held, kept.compiles);
     let c = compile_by(a, ws, val, cw, bw, births, kept);
     let k = c.counts;
-    let after = sum_births(births, mixed(sum(ws, val, cw, bw, k), c.compiles));
+    let after = whole(ws, val, cw, bw, births, k, c.compiles);
     tell_counts(t, c.refusal, k);
     t[4] = root_of(bw, low16(a[8]));
     t[5] = bit(before == after);
@@ -190,7 +190,19 @@ fn block_of(link: u16) -> u32 {
     (link - 1) as u32
 }
 
-// ---- a sum over the whole script, with the place of each word
+// ---- a sum over the whole script with its marks and the count of compiles, with the place of each word
+
+pub fn whole(
+    ws: &NodeWords,
+    val: &Values,
+    cw: &CommandWords,
+    bw: &BlockWords,
+    births: &Births,
+    k: Counts,
+    compiles: u32,
+) -> u64 {
+    sum_births(births, mixed(sum(ws, val, cw, bw, k), compiles))
+}
 
 fn sum(ws: &NodeWords, val: &Values, cw: &CommandWords, bw: &BlockWords, k: Counts) -> u64 {
     let a = mixed(

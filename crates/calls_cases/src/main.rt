@@ -2,6 +2,7 @@
 mod calls;
 mod changes;
 mod lines;
+mod reclaims;
 
 use calls::Kept;
 use calls::asked;
@@ -31,6 +32,7 @@ use memory::NODE_WORDS;
 use memory::NODES;
 use memory::NodeWords;
 use memory::Values;
+use reclaims::reclaimed;
 
 // What goes from a line to the next: the counts of the script and of its accepted compiles, the length of the image, how many cases there were, and how many answered as said.
 struct Held {
@@ -201,7 +203,7 @@ fn total(h: Held) {
 
 // ---- the calls
 
-// Compile and read return at once: where ways meet, each array that one of them changes costs a proof.
+// Compile, reclaim and read return at once: where ways meet, each array that one of them changes costs a proof.
 fn step(
     op: u8,
     a: &mut [u32; 224],
@@ -217,6 +219,9 @@ fn step(
 ) -> Kept {
     if op == b'C' {
         return compiled(a, ws, val, cw, bw, births, k, t);
+    }
+    if op == b'T' {
+        return reclaimed(a, ws, val, cw, bw, births, k, t);
     }
     if op == b'I' {
         return read(image, len, ws, val, cw, bw, births, t);
