@@ -14,7 +14,9 @@ element-copy-out-if1 : tie.Need-element-copy-out-if1
 element-copy-out-if1 c = search needs
 
 returns : tie.Need-returns
-returns c = block-other (c .before .before .args .cw .now) (c .before .before .args .bw .now) (c .before .before .args .b) _ (c .before .before .pre .0) (c .if1 .taken)
+returns c =
+    let s = c .before .before in
+    block-other (s .args .cw .now) (s .args .bw .now) (s .args .b) _ (s .pre .0) (c .if1 .taken)
 
 mul-mark-link : tie.Need-mul-mark-link
 mul-mark-link c = search needs
@@ -29,7 +31,9 @@ element-copy-out-mark-link : tie.Need-element-copy-out-mark-link
 element-copy-out-mark-link c = search needs
 
 mark-link-requires : tie.Need-mark-link-requires
-mark-link-requires c κs = (c .before .before .before .before .before .pre .0, low-words (c .before .before .before .before .before .args .cw .now) (c .before .before .before .before .before .args .bw .now) (c .before .before .before .before .before .args .b) (c .before .before .before .if1 .left) (c .before .before .before .before .before .pre .2) .next)
+mark-link-requires c κs =
+    let s = c .before .before .before .before .before in
+    (s .pre .0, low-words (s .args .cw .now) (s .args .bw .now) (s .args .b) (c .before .before .before .if1 .left) (s .pre .2) .next)
 
 mul-mark-link-3 : tie.Need-mul-mark-link-3
 mul-mark-link-3 c = search needs
@@ -44,7 +48,9 @@ element-copy-out-mark-link-2 : tie.Need-element-copy-out-mark-link-2
 element-copy-out-mark-link-2 c = search needs
 
 mark-link-requires-2 : tie.Need-mark-link-requires-2
-mark-link-requires-2 c κs = (c .before .before .before .mark-link .ensures .queued, low-words (c .before .before .before .before .before .before .before .before .before .args .cw .now) (c .before .before .before .before .before .before .before .before .before .args .bw .now) (c .before .before .before .before .before .before .before .before .before .args .b) (c .before .before .before .before .before .before .before .if1 .left) (c .before .before .before .before .before .before .before .before .before .pre .2) .else)
+mark-link-requires-2 c κs =
+    let s = c .before .before .before .before .before .before .before .before .before in
+    (c .before .before .before .mark-link .ensures .queued, low-words (s .args .cw .now) (s .args .bw .now) (s .args .b) (c .before .before .before .before .before .before .before .if1 .left) (s .pre .2) .else)
 
 mul-mark-targets : tie.Need-mul-mark-targets
 mul-mark-targets c = search needs
@@ -71,10 +77,14 @@ element-copy-out-mark-targets-2 : tie.Need-element-copy-out-mark-targets-2
 element-copy-out-mark-targets-2 c = search needs
 
 mark-targets-requires : tie.Need-mark-targets-requires
-mark-targets-requires c κs = (c .before .before .before .before .mark-link2 .ensures .queued, c .before .before .before .before .before .before .before .before .before .before .before .before .before .before .pre .2 .fits (c .before .before .before .before .before .before .before .before .before .before .before .before .if1 .left), low-words (c .before .before .before .before .before .before .before .before .before .before .before .before .before .before .args .cw .now) (c .before .before .before .before .before .before .before .before .before .before .before .before .before .before .args .bw .now) (c .before .before .before .before .before .before .before .before .before .before .before .before .before .before .args .b) (c .before .before .before .before .before .before .before .before .before .before .before .before .if1 .left) (c .before .before .before .before .before .before .before .before .before .before .before .before .before .before .pre .2) .rest)
+mark-targets-requires c κs =
+    let s = c .before .before .before .before .before .before .before .before .before .before .before .before .before .before in
+    (c .before .before .before .before .mark-link2 .ensures .queued, s .pre .2 .fits (c .before .before .before .before .before .before .before .before .before .before .before .before .if1 .left), low-words (s .args .cw .now) (s .args .bw .now) (s .args .b) (c .before .before .before .before .before .before .before .before .before .before .before .before .if1 .left) (s .pre .2) .rest)
 
 returns-2 : tie.Need-returns-2
-returns-2 c = block-code (c .before .before .before .before .before .before .before .before .before .before .before .before .before .before .before .args .cw .now) (c .before .before .before .before .before .before .before .before .before .before .before .before .before .before .before .args .bw .now) (c .before .before .before .before .before .before .before .before .before .before .before .before .before .before .before .args .b) (c .before .before .before .before .before .before .before .before .before .before .before .before .before .if1 .left) (c .before .before .before .before .before .before .before .before .before .before .before .before .before .before .before .pre .2) (c .before .before .before .before .before .before .before .before .before .before .before .before .before .before .before .pre .0) (c .before .before .before .before .before .before .before .before .before .mark-link .ensures) (c .before .before .before .before .before .mark-link2 .ensures) (c .mark-targets .ensures)
+returns-2 c =
+    let s = c .before .before .before .before .before .before .before .before .before .before .before .before .before .before .before in
+    block-code (s .args .cw .now) (s .args .bw .now) (s .args .b) (c .before .before .before .before .before .before .before .before .before .before .before .before .before .if1 .left) (s .pre .2) (s .pre .0) (c .before .before .before .before .before .before .before .before .before .mark-link .ensures) (c .before .before .before .before .before .mark-link2 .ensures) (c .mark-targets .ensures)
 
 pub mark-links-spec : {M : Type 1} → statement M
 mark-links-spec =

@@ -18,7 +18,9 @@ names-block-requires : tie.Need-names-block-requires
 names-block-requires c κs = search needs
 
 returns : tie.Need-returns
-returns c = target-none (c .before .before .before .args .cw .now) (c .before .before .before .args .i) _ (c .before .names-block .ensures) _ (c .before .before .before .pre .0) (not-true _ (c .if1 .taken))
+returns c =
+    let s = c .before .before .before in
+    target-none (s .args .cw .now) (s .args .i) _ (c .before .names-block .ensures) _ (s .pre .0) (not-true _ (c .if1 .taken))
 
 mul-mark : tie.Need-mul-mark
 mul-mark c = search needs
@@ -33,10 +35,14 @@ element-copy-out-mark : tie.Need-element-copy-out-mark
 element-copy-out-mark c = search needs
 
 mark-requires : tie.Need-mark-requires
-mark-requires c κs = (c .before .before .before .before .before .before .pre .0, target-low (c .before .before .before .before .before .before .args .cw .now) (c .before .before .before .before .before .before .args .i) _ (c .before .before .before .before .names-block .ensures) (not-false _ (c .before .before .before .if1 .left)) (c .before .before .before .before .before .before .pre .2))
+mark-requires c κs =
+    let s = c .before .before .before .before .before .before in
+    (s .pre .0, target-low (s .args .cw .now) (s .args .i) _ (c .before .before .before .before .names-block .ensures) (not-false _ (c .before .before .before .if1 .left)) (s .pre .2))
 
 returns-2 : tie.Need-returns-2
-returns-2 c = target-some (c .before .before .before .before .before .before .before .args .cw .now) (c .before .before .before .before .before .before .before .args .i) _ (c .before .before .before .before .before .names-block .ensures) _ _ (not-false _ (c .before .before .before .before .if1 .left)) (c .mark .ensures)
+returns-2 c =
+    let s = c .before .before .before .before .before .before .before in
+    target-some (s .args .cw .now) (s .args .i) _ (c .before .before .before .before .before .names-block .ensures) _ _ (not-false _ (c .before .before .before .before .if1 .left)) (c .mark .ensures)
 
 pub mark-target-spec : {M : Type 1} → statement M
 mark-target-spec =

@@ -20,10 +20,14 @@ known-requires : tie.Need-known-requires Inv-loop μ-loop
 known-requires c κs = search needs
 
 mark-roots-requires : tie.Need-mark-roots-requires Inv-loop μ-loop
-mark-roots-requires c κs = (queued-none _ (c .before .before .before .before .before .pre .2) _ (c .before .before .known .ensures), below-low _ (c .before .before .before .before .before .pre .0 .few) (c .before .before .before .before .before .args .roots .now) (c .before .before .before .before .before .pre .1))
+mark-roots-requires c κs =
+    let s = c .before .before .before .before .before in
+    (queued-none _ (s .pre .2) _ (c .before .before .known .ensures), below-low _ (s .pre .0 .few) (s .args .roots .now) (s .pre .1))
 
 loop-holds : tie.Need-loop-holds Inv-loop μ-loop
-loop-holds c = reach-start _ _ _ (c .before .before .before .before .before .before .pre .0) _ _ _ _ (c .before .before .before .before .before .before .pre .1) (c .before .before .before .before .before .before .pre .2) (c .before .before .before .known .ensures) (c .mark-roots .ensures)
+loop-holds c =
+    let s = c .before .before .before .before .before .before in
+    reach-start _ _ _ (s .pre .0) _ _ _ _ (s .pre .1) (s .pre .2) (c .before .before .before .known .ensures) (c .mark-roots .ensures)
 
 mul-index-of : tie.Need-mul-index-of Inv-loop μ-loop
 mul-index-of c = search needs
