@@ -9,10 +9,10 @@ use lib.Dec.{T, ltb, leb, eqb}
 use lib.IntN.{ℤ, pos, negsuc, _-ℤ_}
 use native.Mathlib.Omega.{arith}
 use mir.Syntax.{w16}
-use Rattle.model.specs.Signed.{and32, b2z, bitsOf, inRange, isZero, or32}
+use Rattle.model.specs.Signed.{b2z, bitsOf, inRange, isZero}
 use Rattle.model.specs.Save.{Save, natAt}
 use Rattle.model.specs.Expr.{Expr, Joins, bitwise, evalBy, imm, imm16, imm32, logical, negate, ok, two}
-use Rattle.model.specs.declared.Op2.the-variants.{BitAnd, BitOr}
+use Rattle.model.specs.declared.Op2.the-variants.{BitAnd}
 use Rattle.model.specs.Sheet.{Sheet, atcFor}
 use Rattle.model.specs.Requirement.{Requirement, haveAtc, haveFlag, haveItem, missingAtc, missingFlag, missingItem}
 use Rattle.model.specs.Shop.{timerOf}
@@ -57,7 +57,7 @@ module _ (f : ℤ → ℤ → ℤ) (g : Bool → Bool → Bool) where
 
 pub bitwise-bits : OnBits bitwise
 unfolding bitsOf
-bitwise-bits = record { and-law = pairs and32 _&&_ refl refl refl refl; or-law = pairs or32 _||_ refl refl refl refl }
+bitwise-bits = record { and-law = pairs (bitwise .and) _&&_ refl refl refl refl; or-law = pairs (bitwise .or) _||_ refl refl refl refl }
 
 pub logical-bits : OnBits logical
 logical-bits = record { and-law = pairs (logical .and) _&&_ refl refl refl refl; or-law = pairs (logical .or) _||_ refl refl refl refl }
