@@ -40,8 +40,8 @@ pub fn apply_two(o: Op2, x: i32, y: i32) -> i32
         Op2::GreaterEqual => ints::bit(x >= y),
         Op2::Add => ints::wrapping_add_i32(x, y),
         Op2::Subtract => ints::wrapping_sub_i32(x, y),
-        Op2::BitAnd => ints::bit((x != 0) & (y != 0)),
-        Op2::BitOr => ints::bit((x != 0) | (y != 0)),
+        Op2::BitAnd => ints::and_i32(x, y),
+        Op2::BitOr => ints::or_i32(x, y),
     }
 }
 

@@ -10,9 +10,10 @@ use lib.Pow.{pow-pos, pow-mono, pow-sub-lt, pow-add, shr-lt, split, low, mod-mod
 use lib.Signed.{ltZ}
 use mir.Syntax.{Width}
 use mir.Val.{Fits, SFits, toZ, ofZ, bits, hbits}
-use mir.ValLaws.{half-full, fits-wrap, toZ-pos}
+use mir.ValLaws.{half-full, toZ-pos}
 use borrow.Author.Tests.{lt-ltb, le-ltb, ltb-true}
-use Rattle.model.specs.Signed.{lowBits}
+use Rattle.model.specs.Signed.{bitsOf, lowBits}
+use Rattle.model.specs.Laws.Signed.{lowBits-under}
 
 -- the lowest bits of a number of that width are all its bits
 pub lowBits-own : (w : Width) (z : ℤ) → SFits w z → lowBits w z ≡ ofZ w z
@@ -21,8 +22,12 @@ lowBits-own w (negsuc n) f = ap (λ (k : ℕ). 2 ^ bits w - suc k) (mod-eq-of-lt
 
 -- they are as many as the width has
 pub lowBits-fit : (w : Width) (z : ℤ) → Fits w (lowBits w z)
-lowBits-fit w (pos n) = fits-wrap w n
-lowBits-fit w (negsuc n) = record { fits = pow-sub-lt (bits w) (zero-lt-suc (n % 2 ^ bits w)) }
+lowBits-fit w z = record { fits = lowBits-under w z }
+
+-- so an operation on bits is taken on all bits of two numbers of that width
+pub bits-own : (op : ℕ → ℕ → ℕ) (w : Width) (a b : ℤ) → SFits w a → SFits w b → toZ w (op (ofZ w a) (ofZ w b)) ≡ bitsOf op w a b
+unfolding bitsOf
+bits-own op w a b f g = rw (lowBits-own w a f, lowBits-own w b g)
 
 -- a natural less a larger one, and a larger one more than a negative number
 pub sub-less : (a b : ℕ) → a < b → pos a -ℤ pos b ≡ negsuc (b - suc a)

@@ -1,11 +1,11 @@
-// Signed numbers: sums and differences that wrap, views of a number's bits, cuts to 16 bits and the tests over them.
+// Signed numbers: sums and differences that wrap, a number's bits and operations on them, cuts to 16 bits and the tests over them.
 ghost use mathlib.Core.Path.{_≡_};
 ghost use Prim.Native.Nat.{_<_, _^_};
 ghost use lib.IntN.{_+ℤ_, _-ℤ_};
 ghost use lib.Signed.{mag};
 ghost use mir.Syntax.{w16, w32};
 ghost use mir.Val.{toZ, ofZ};
-ghost use Rattle.model.specs.Signed.{wrap32, cut16, b2z, clamp};
+ghost use Rattle.model.specs.Signed.{wrap32, and32, or32, cut16, b2z, clamp};
 use model::HALF16;
 use model::WIDE16;
 
@@ -62,6 +62,19 @@ pub fn from_bits(x: u32) -> i32
         return x as i32;
     }
     ((x as i64) - 4294967296) as i32
+}
+
+// Bit by bit, in two's complement.
+pub fn and_i32(x: i32, y: i32) -> i32
+    ensures { λ r. ⌜ r ≡ and32 x y ⌝ }
+{
+    x & y
+}
+
+pub fn or_i32(x: i32, y: i32) -> i32
+    ensures { λ r. ⌜ r ≡ or32 x y ⌝ }
+{
+    x | y
 }
 
 // The number that 16 bits stand for.

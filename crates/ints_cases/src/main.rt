@@ -5,6 +5,7 @@ fn main() {
     sums();
     differences();
     bits();
+    masks();
     bits_of_16();
     cuts();
     limits();
@@ -49,6 +50,21 @@ fn bits() {
     from(2147483647);
     from(2147483648);
     from(4294967295);
+}
+
+// A.5's cases, both operands negative, and the sign.
+fn masks() {
+    and(6, 3);
+    and(4, 3);
+    and(-1, 600);
+    and(-2, -4);
+    and(-2147483648, -1);
+    and(2147483647, -2147483648);
+    or(6, 3);
+    or(-8, 3);
+    or(1, -2);
+    or(-2147483648, 1);
+    or(0, 0);
 }
 
 fn bits_of_16() {
@@ -121,6 +137,18 @@ fn from(x: u32) {
     put(b"from_bits ");
     natural(x);
     answer(ints::from_bits(x));
+}
+
+fn and(x: i32, y: i32) {
+    put(b"and ");
+    pair(x, y);
+    answer(ints::and_i32(x, y));
+}
+
+fn or(x: i32, y: i32) {
+    put(b"or ");
+    pair(x, y);
+    answer(ints::or_i32(x, y));
 }
 
 fn from16(x: u16) {

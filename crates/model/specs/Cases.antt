@@ -7,7 +7,7 @@ use Prim.Native.Nat.{ℕ, zero, suc, _+_}
 use lib.ListN.{getD, set, length, replicate}
 use lib.IntN.{ℤ, pos, negsuc}
 use lib.Dec.{ltb, leb, eqb}
-use Rattle.model.specs.Signed.{wrap}
+use Rattle.model.specs.Signed.{wrap, bitsOf}
 use Rattle.model.specs.Save.{Save}
 use Rattle.model.specs.Expr.{one, imm, imm16, imm32, size}
 use Rattle.model.specs.declared.Op1.the-variants.{Flag}
@@ -20,7 +20,7 @@ use Rattle.model.specs.Reading.{Answer, got, refused, refusalOf, number,
 use Rattle.model.specs.Image.{image, blocksImage, blockImage, commandsImage, commandImage, exprImage, linkImage, code2, code1, kinds, kindOf, readKind, readOperands, readExpr, readTerm, setOf, commandOf, readCommand, readCommands, readCode, blockOf, readBlock, readBlocks, readBlockNo, linkOf, readLink, ended, readWithin, readImage}
 use Rattle.model.specs.Judge.{counted, countsOk, judged, sharedRefusal}
 use Rattle.model.specs.Compile.{Call, compiled, compileChecks, compileRefusal, appended, redirect, hasRoom, shopBlocks, slotsBlocks, slotBlocks, limitBlocks, uniqueBlocks, returnBlock, acquiredExpr, itemTest, atcTest, flagTest, test, joinTests, emitSet}
-use Rattle.model.specs.Run.{Ran, run, step, runCall, runChecked}
+use Rattle.model.specs.Run.{Ran, runBy, stepBy, runCall, runCheckedBy}
 use Rattle.model.specs.Parse.{Parsed, parseCall, parseChecked, parse, parseBlock, visited, parseRequirements, gather, placeOf}
 use Rattle.model.specs.Printer.{slots, readSheet, readAtcs, readTimers, digitsTo, decimal, signedDecimal, letter, requirementsText, itemText, slotLine, slotLines, refusedText, Input, readInput, parsedText, inputText}
 
@@ -119,7 +119,7 @@ bytes (n ∷ ns) = pos n ∷ bytes ns
 
 -- names all that the cases compute with
 unfoldable pub opened : ℕ
-unfolding sheet slotOf first with saved brief ranAt flat itemNumber readAs parsedAt nextOf oneBlock hidesUnder fills bothWays many emptyShopAt p1 timer5 p5 bytes wrap imm size sheetOk saveOk insert sorted member settled padded limitOf commandNodes commandsNodes blockNodes blockCommands number more groups under word wordTo zig zag image blocksImage blockImage commandsImage commandImage exprImage linkImage kinds kindOf readKind readOperands readExpr readTerm setOf commandOf readCommand readCommands readCode blockOf readBlock readBlocks readBlockNo linkOf readLink ended readWithin readImage countsOk judged sharedRefusal compiled compileChecks appended redirect hasRoom shopBlocks slotsBlocks slotBlocks limitBlocks uniqueBlocks acquiredExpr itemTest atcTest flagTest test joinTests run step runChecked parseChecked parse parseBlock visited parseRequirements gather placeOf slots readSheet readAtcs readTimers digitsTo decimal signedDecimal letter requirementsText itemText slotLine slotLines refusedText readInput parsedText inputText
+unfolding sheet slotOf first with saved brief ranAt flat itemNumber readAs parsedAt nextOf oneBlock hidesUnder fills bothWays many emptyShopAt p1 timer5 p5 bytes wrap bitsOf imm size sheetOk saveOk insert sorted member settled padded limitOf commandNodes commandsNodes blockNodes blockCommands number more groups under word wordTo zig zag image blocksImage blockImage commandsImage commandImage exprImage linkImage kinds kindOf readKind readOperands readExpr readTerm setOf commandOf readCommand readCommands readCode blockOf readBlock readBlocks readBlockNo linkOf readLink ended readWithin readImage countsOk judged sharedRefusal compiled compileChecks appended redirect hasRoom shopBlocks slotsBlocks slotBlocks limitBlocks uniqueBlocks acquiredExpr itemTest atcTest flagTest test joinTests runBy stepBy runCheckedBy parseChecked parse parseBlock visited parseRequirements gather placeOf slots readSheet readAtcs readTimers digitsTo decimal signedDecimal letter requirementsText itemText slotLine slotLines refusedText readInput parsedText inputText
 opened = 0
 
 -- ---- P1 to P10

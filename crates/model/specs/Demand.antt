@@ -8,11 +8,12 @@ use native.Mathlib.Decide.{decLe}
 use lib.ListN.{length}
 use Rattle.model.specs.Limits.{runBlocks, slotCount, variableCount}
 use Rattle.model.specs.Save.{Save}
+use Rattle.model.specs.Expr.{Joins, bitwise, logical}
 use Rattle.model.specs.Sheet.{Sheet, saveRefusal}
 use Rattle.model.specs.Shop.{Slot}
 use Rattle.model.specs.Script.{Script, blockAt}
 use Rattle.model.specs.Compile.{Call}
-use Rattle.model.specs.Run.{Ran, run, runCall, runChecked}
+use Rattle.model.specs.Run.{Ran, runBy, runCall, runCallBy, runCheckedBy}
 use Rattle.model.specs.Meaning.{Means}
 use Rattle.model.specs.Parse.{parseCall, parseChecked}
 use Rattle.model.specs.Normal.{normalShop}
@@ -22,7 +23,7 @@ use Rattle.model.specs.Laws.Calls.{ShopAt, accepted-all, call-passes, ke
 use Rattle.model.specs.Laws.Checked.{save-fits, save-long, sheet-fits}
 use Rattle.model.specs.Laws.Means.{writes-means}
 use Rattle.model.specs.Laws.ReadsAll.{linked-normal}
-use Rattle.model.specs.Laws.RunsAll.{Served, linked-run}
+use Rattle.model.specs.Laws.RunsAll.{Served, linked-run, means-as-before}
 use Rattle.model.specs.Laws.Writes.{writes}
 
 -- the answers of runs with any budget, each from the save s, at a block where xs was accepted last
@@ -39,6 +40,9 @@ pub record RunsAs (h : Sheet) (s : Save) (xs : List Slot) (answers : ℕ → Ran
 pub record Demand3 (h : Sheet) (sc : Script) (cs : List Call) : Type 0 where
   -- the run from any block where a compile was accepted, under any save that fits the sheet
   pub runs : (b : ℕ) (xs : List Slot) → lastAt (compiles h) sc cs b ≡ some xs → (s : Save) → saveRefusal h s ≡ 0 → RunsAs h s xs (λ budget. runCall h (afterAll (compiles h) sc cs) b s budget)
+  -- A.5: each of these runs, with any budget, answers as it did when BitAnd and BitOr gave 1 or 0
+  pub as-before : (b : ℕ) (xs : List Slot) → lastAt (compiles h) sc cs b ≡ some xs → (s : Save) → saveRefusal h s ≡ 0 → (budget : ℕ)
+      → runCallBy logical h (afterAll (compiles h) sc cs) b s budget ≡ runCall h (afterAll (compiles h) sc cs) b s budget
   -- the parser reads there exactly that shop in normal form
   pub parses : (b : ℕ) (xs : List Slot) → lastAt (compiles h) sc cs b ≡ some xs → parseCall h (afterAll (compiles h) sc cs) b ≡ record { answer = 0; slots = normalShop h xs }
   -- every block of the start where none was accepted is as it was
@@ -65,15 +69,20 @@ module _ (h : Sheet) (s : Save) (xs : List Slot) (answers : ℕ → Ran) (v : Se
 
 module _ (h : Sheet) (n : ℕ) (sc : Script) (b : ℕ) (xs : List Slot) (a : ShopAt h n sc b xs) where
   -- with the checks passed the call is the run
-  run-call : (s : Save) → saveRefusal h s ≡ 0 → (budget : ℕ) → runCall h sc b s budget ≡ run (sc .blocks) s budget b (s .variables)
-  unfolding runChecked
-  run-call s f budget = rw (call-passes h n sc b xs a, f)
+  run-call : (j : Joins) (s : Save) → saveRefusal h s ≡ 0 → (budget : ℕ) → runCallBy j h sc b s budget ≡ runBy j (sc .blocks) s budget b (s .variables)
+  unfolding runCheckedBy
+  run-call j s f budget = rw (call-passes h n sc b xs a, f)
 
   run-at : (s : Save) → saveRefusal h s ≡ 0 → RunsAs h s xs (λ budget. runCall h sc b s budget)
   run-at s f =
       let long = save-long h s f in
       let v = linked-run h n (sc .blocks) b xs (a .link) s (save-fits h s f) (s .variables) (omega arith) (a .twenty) in
-      subst (RunsAs h s xs) (fun-ext (λ budget. sym (run-call s f budget))) (runs-as h s xs _ v (a .twenty) long)
+      subst (RunsAs h s xs) (fun-ext (λ budget. sym (run-call bitwise s f budget))) (runs-as h s xs _ v (a .twenty) long)
+
+  before-at : (s : Save) → saveRefusal h s ≡ 0 → (budget : ℕ) → runCallBy logical h sc b s budget ≡ runCall h sc b s budget
+  before-at s f budget =
+      let long = save-long h s f in
+      run-call logical s f budget ∙ means-as-before h n (sc .blocks) b xs (a .link) s (save-fits h s f) (s .variables) (omega arith) budget ∙ sym (run-call bitwise s f budget)
 
   parse-at : parseCall h sc b ≡ record { answer = 0; slots = normalShop h xs }
   unfolding parseChecked
@@ -84,6 +93,7 @@ module _ (h : Sheet) (n : ℕ) (sc : Script) (b : ℕ) (xs : List Slot) (a : Sho
 pub demand-3 : (h : Sheet) (sc : Script) (cs : List Call) → NoneAppended (compiles h) (length (sc .blocks)) sc cs → Demand3 h sc cs
 demand-3 h sc cs clean = record {
   runs = λ b xs e s f. run-at h (length (sc .blocks)) (afterAll (compiles h) sc cs) b xs (accepted-all h sc cs clean b xs e) s f;
+  as-before = λ b xs e s f budget. before-at h (length (sc .blocks)) (afterAll (compiles h) sc cs) b xs (accepted-all h sc cs clean b xs e) s f budget;
   parses = λ b xs e. parse-at h (length (sc .blocks)) (afterAll (compiles h) sc cs) b xs (accepted-all h sc cs clean b xs e);
   others = λ b l e. kept-blocks h sc cs clean b l e;
 }

@@ -6,7 +6,7 @@ use lib.IntN.{ℤ, pos, negsuc, _+ℤ_, _-ℤ_}
 use lib.Signed.{ltZ, leZ}
 use mir.Syntax.{w16}
 use Rattle.model.specs.Refusal.{metOther}
-use Rattle.model.specs.Signed.{wrap32, inRange, eqZ, isZero, b2z}
+use Rattle.model.specs.Signed.{wrap32, and32, or32, inRange, eqZ, isZero, b2z}
 use Rattle.model.specs.Save.{Save, natAt, intAt}
 use Rattle.model.specs.declared.Op2.{Op2}
 use Rattle.model.specs.declared.Op2.the-variants.{Equal, NotEqual, Less, LessEqual, Greater, GreaterEqual, Add, Subtract, BitAnd, BitOr}
@@ -40,18 +40,33 @@ abbrev pub andThen : Value → (ℤ → Value) → Value
 andThen (ok x) f = f x
 andThen (stop n) f = stop n
 
--- BitAnd and BitOr are logical, 1 or 0, as negation assumes
+-- what BitAnd and BitOr make of two values
+pub record Joins : Type 0 where
+  pub and : ℤ → ℤ → ℤ
+  pub or : ℤ → ℤ → ℤ
+
+-- A.5: bitwise over 32 bits, two's complement
+abbrev pub bitwise : Joins
+bitwise = record { and = and32; or = or32 }
+
+-- before A.5: 1 or 0, as negation assumes
+abbrev pub logical : Joins
+logical = record { and = λ a b. b2z (not (isZero a) && not (isZero b)); or = λ a b. b2z (not (isZero a) || not (isZero b)) }
+
+abbrev pub applyBy : Joins → Op2 → ℤ → ℤ → ℤ
+applyBy j Equal a b = b2z (eqZ a b)
+applyBy j NotEqual a b = b2z (not (eqZ a b))
+applyBy j Less a b = b2z (ltZ a b)
+applyBy j LessEqual a b = b2z (leZ a b)
+applyBy j Greater a b = b2z (ltZ b a)
+applyBy j GreaterEqual a b = b2z (leZ b a)
+applyBy j Add a b = wrap32 (a +ℤ b)
+applyBy j Subtract a b = wrap32 (a -ℤ b)
+applyBy j BitAnd a b = j .and a b
+applyBy j BitOr a b = j .or a b
+
 abbrev pub apply2 : Op2 → ℤ → ℤ → ℤ
-apply2 Equal a b = b2z (eqZ a b)
-apply2 NotEqual a b = b2z (not (eqZ a b))
-apply2 Less a b = b2z (ltZ a b)
-apply2 LessEqual a b = b2z (leZ a b)
-apply2 Greater a b = b2z (ltZ b a)
-apply2 GreaterEqual a b = b2z (leZ b a)
-apply2 Add a b = wrap32 (a +ℤ b)
-apply2 Subtract a b = wrap32 (a -ℤ b)
-apply2 BitAnd a b = b2z (not (isZero a) && not (isZero b))
-apply2 BitOr a b = b2z (not (isZero a) || not (isZero b))
+apply2 o a b = applyBy bitwise o a b
 
 -- the variables are those of the moment; the rest is the save's
 abbrev pub apply1 : Save → List ℤ → Op1 → ℤ → ℤ
@@ -63,12 +78,15 @@ apply1 s v Atc z = natAt (s .atcs) z
 apply1 s v Time z = intAt (s .times) z
 
 -- both operands are evaluated, left first; an Other expression is 13
+abbrev pub evalBy : Joins → Save → List ℤ → Expr → Value
+evalBy j s v (two o a b) = andThen (evalBy j s v a) (λ x. andThen (evalBy j s v b) (λ y. ok (applyBy j o x y)))
+evalBy j s v (one o a) = andThen (evalBy j s v a) (λ x. ok (apply1 s v o x))
+evalBy j s v (imm16 z) = ok z
+evalBy j s v (imm32 z) = ok z
+evalBy j s v other = stop metOther
+
 abbrev pub eval : Save → List ℤ → Expr → Value
-eval s v (two o a b) = andThen (eval s v a) (λ x. andThen (eval s v b) (λ y. ok (apply2 o x y)))
-eval s v (one o a) = andThen (eval s v a) (λ x. ok (apply1 s v o x))
-eval s v (imm16 z) = ok z
-eval s v (imm32 z) = ok z
-eval s v other = stop metOther
+eval s v e = evalBy bitwise s v e
 
 -- ---- negation
 

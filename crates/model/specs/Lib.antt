@@ -26,3 +26,4 @@ pub mod Cases
 pub mod Laws
 pub mod Demand
 pub mod BlockCases
+pub mod BitCases

@@ -1,7 +1,8 @@
--- Signed numbers: cutting to a width in two's complement, ranges, tests, and the larger of 0 and a number. Assumes nothing: these are definitions.
+-- Signed numbers: cutting to a width and bits in two's complement, ranges, tests, and the larger of 0 and a number. Assumes nothing: these are definitions.
 use mathlib.Core.Bool.{Bool, true, false, not}
 use Prim.Native.Nat.{ℕ, suc, _-_, _%_, _^_}
 use lib.Dec.{ltb, eqb}
+use lib.Bits.{bitAnd, bitOr}
 use lib.IntN.{ℤ, pos, negsuc}
 use lib.Signed.{mag}
 use mir.Syntax.{Width, w16, w32}
@@ -23,6 +24,17 @@ wrap32 z = wrap w32 z
 -- Parser: Imm32 values written, and limits, are cut to 16 bits
 abbrev pub cut16 : ℤ → ℤ
 cut16 z = wrap w16 z
+
+-- an operation on bits, taken on the lowest bits of two numbers
+unfoldable pub bitsOf : (ℕ → ℕ → ℕ) → Width → ℤ → ℤ → ℤ
+bitsOf op w a b = toZ w (op (lowBits w a) (lowBits w b))
+
+-- A.5: BitAnd and BitOr are bitwise over 32 bits
+abbrev pub and32 : ℤ → ℤ → ℤ
+and32 a b = bitsOf bitAnd w32 a b
+
+abbrev pub or32 : ℤ → ℤ → ℤ
+or32 a b = bitsOf bitOr w32 a b
 
 -- a signed number of that width
 abbrev pub inRange : Width → ℤ → Bool

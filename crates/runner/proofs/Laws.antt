@@ -18,7 +18,7 @@ use Rattle.model.specs.Signed.{isZero}
 use Rattle.model.specs.Save.{Save}
 use Rattle.model.specs.Expr.{Expr, ok, stop, eval}
 use Rattle.model.specs.Script.{Command, return, goto, setVariable, setOther, ifElse, endIf, otherCommand, placeholder, code, dataBlock, blockAt}
-use Rattle.model.specs.Run.{Outcome, next, done, halt, follow, store, orHalt, execute, enter, step}
+use Rattle.model.specs.Run.{Outcome, next, done, halt, follow, store, orHalt, execute, enter, step, stepBy}
 use Rattle.model.specs.Memory.{Coded, codedIn, Memory, tree, commandWord, setIn, commandBy, commandIn, commandsIn, blockWord, linkIn, blockBy, blockIn, scriptOf}
 use Rattle.model.specs.declared.BlockNo.{BlockNo}
 use Rattle.memory.specs.RecordLaws.{length-blocksIn, block-at}
@@ -217,12 +217,12 @@ module _ (s : Save) (nx : Option ℕ) (ws : List ℕ) (vs : List ℤ) (cw : List
 
 module _ (m : Memory) (s : Save) (b : ℕ) (v : List ℤ) where
   pub step-none : m .count ≤ b → halt 13 v ≡ step (scriptOf m .blocks) s b v
-  unfolding step scriptOf
+  unfolding stepBy scriptOf
   step-none h = sym (ap (λ x. enter s x v) (List·getD-eq-default (scriptOf m .blocks) placeholder (omega (arith, length-blocksIn m (m .count) 0))))
 
   module _ (h : b < m .count) where
     stepped : (k : ℕ) → getD (m .words) (5 * b) 0 ≡ k → step (scriptOf m .blocks) s b v ≡ enter s (blockBy m b k) v
-    unfolding step blockIn
+    unfolding stepBy blockIn
     stepped k e =
         let z : 5 * b + 0 ≡ 5 * b = omega arith in
         ap (λ x. enter s x v) (block-at m b h) ∙ ap (λ j. enter s (blockBy m b j) v) (ap (λ j. getD (m .words) j 0) z ∙ e)

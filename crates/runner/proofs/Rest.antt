@@ -10,7 +10,7 @@ use Rattle.model.specs.Signed.{isZero}
 use Rattle.model.specs.Save.{Save}
 use Rattle.model.specs.Expr.{Value, ok, stop, eval}
 use Rattle.model.specs.Script.{Command, return, goto, setVariable, setOther, ifElse, endIf, otherCommand, Block, placeholder, code, dataBlock, blockAt}
-use Rattle.model.specs.Run.{Outcome, next, done, halt, follow, store, orHalt, execute, enter, step, Ran, oneMore, run}
+use Rattle.model.specs.Run.{Outcome, next, done, halt, follow, store, orHalt, execute, enter, step, stepBy, Ran, oneMore, run, runBy}
 use Rattle.expr.specs.Value.{reads, eval-rest}
 use Rattle.model.specs.declared.BlockNo.{BlockNo}
 use Rattle.runner.specs.Steps.{outcomeOf}
@@ -21,16 +21,16 @@ use Rattle.runner.specs.declared.Step.the-variants.{Next, Done, Halt}
 
 module _ (bs : List Block) (s : Save) (k b : ℕ) (v : List ℤ) where
   pub run-next : (b′ : ℕ) (v′ : List ℤ) → step bs s b v ≡ next b′ v′ → run bs s (suc k) b v ≡ oneMore (run bs s k b′ v′)
-  unfolding run
-  run-next b′ v′ e = rw (e, run)
+  unfolding runBy
+  run-next b′ v′ e = rw (e, runBy)
 
   pub run-done : (v′ : List ℤ) → step bs s b v ≡ done v′ → run bs s (suc k) b v ≡ record { answer = 0; variables = v′; entered = 1 }
-  unfolding run
-  run-done v′ e = rw (e, run)
+  unfolding runBy
+  run-done v′ e = rw (e, runBy)
 
   pub run-halt : (n : ℕ) (v′ : List ℤ) → step bs s b v ≡ halt n v′ → run bs s (suc k) b v ≡ record { answer = n; variables = v′; entered = 1 }
-  unfolding run
-  run-halt n v′ e = rw (e, run)
+  unfolding runBy
+  run-halt n v′ e = rw (e, runBy)
 
 -- ---- the save's own variables
 
@@ -62,11 +62,11 @@ module _ (s : Save) where
   enter-rest dataBlock v = refl
 
   step-rest : (bs : List Block) (b : ℕ) (v : List ℤ) → step bs s b v ≡ step bs rest b v
-  unfolding step
+  unfolding stepBy
   step-rest bs b v = enter-rest (blockAt bs b) v
 
   pub run-rest : (bs : List Block) (k b : ℕ) (v : List ℤ) → run bs s k b v ≡ run bs rest k b v
-  unfolding run
+  unfolding runBy
   run-rest bs zero b v = refl
   run-rest bs (suc k) b v = go (step bs rest b v) refl (run-rest bs k)
     where
@@ -97,7 +97,7 @@ module _ (bs : List Block) (s : Save) (budget b₀ : ℕ) (v₀ : List ℤ) wher
 
   module _ {n b : ℕ} {v : List ℤ} (p : Entered bs s budget b₀ v₀ n b v) where
     pub all-spent : budget ≤ n → _≡_ {A = Ran} (record { answer = 15; variables = v; entered = n }) (run bs s budget b₀ v₀)
-    unfolding run
+    unfolding runBy
     all-spent h =
         let y : budget - n ≡ 0 = omega arith in
         let z : n ≡ n + 0 = omega arith in

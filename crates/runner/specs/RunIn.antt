@@ -8,7 +8,7 @@ use Rattle.model.specs.Save.{Save}
 use Rattle.model.specs.Sheet.{Sheet, saveRefusal}
 use Rattle.model.specs.Script.{Block}
 use Rattle.model.specs.Reading.{got, refusalOf}
-use Rattle.model.specs.Run.{Ran, run, unlessRefused, runCall, runChecked}
+use Rattle.model.specs.Run.{Ran, run, unlessRefused, runCheckedBy}
 use Rattle.model.specs.Memory.{Memory, scriptOf}
 use Rattle.model.specs.Record.{judgedRecord}
 use Rattle.model.specs.RecordCalls.{callIn, runIn}
@@ -21,5 +21,5 @@ ranOf r v = record { answer = r .refusal; variables = v; entered = r .entered }
 
 pub run-by-call : (h : Sheet) (m : Memory) (b : ℕ) (s : Save) (k : ℕ)
     → runIn h m b s k ≡ unlessRefused (firstOf (callIn h m b ∷ saveRefusal h s ∷ [])) (s .variables) (run (scriptOf m .blocks) s k b (s .variables))
-unfolding runIn runChecked callIn
+unfolding runIn runCheckedBy callIn
 run-by-call h m b s k = refl

@@ -1,4 +1,4 @@
-//! A hand-written interpreter of document 01's runner over the same arrays, with the same checks.
+//! A hand-written interpreter of document 01's runner over the same arrays, with the same checks; And and Or are 02's (A.5).
 
 use crate::judge;
 use locustkeno::{Arrays, FLAGS, Save, TIMES, VARIABLES};
@@ -130,7 +130,7 @@ fn joined(code: u16, l: i32, r: i32) -> i32 {
         5 => (l >= r).into(),
         7 => l.wrapping_add(r),
         8 => l.wrapping_sub(r),
-        9 => (l != 0 && r != 0).into(),
-        _ => (l != 0 || r != 0).into(),
+        9 => l & r,
+        _ => l | r,
     }
 }

@@ -1,9 +1,9 @@
 -- `expr::apply_two` meets its contract: each arm is its operator. Assumes nothing.
 use mathlib.Core.Path.{_≡_, sym, ap, _∙_}
-use lib.IntN.{ℤ, pos}
+use lib.IntN.{ℤ}
 use mir.Syntax.{w32}
 use mir.Val.{SFits, toZ, ofZ}
-use mir.Facts.{toZ-ofZ, sfits-lit}
+use mir.Facts.{toZ-ofZ}
 use Rattle.model.specs.Expr.{apply2}
 use Rattle.model.specs.declared.Op2.{Op2}
 use Rattle.expr.proofs.Signed.{eq-bits}
@@ -66,14 +66,14 @@ wrapping-sub-i32-requires c κs = search needs
 enum-told-9 : tie.Need-enum-told-9
 enum-told-9 c = search needs
 
-bit-requires-7 : tie.Need-bit-requires-7
-bit-requires-7 c κs = search needs
+and-i32-requires : tie.Need-and-i32-requires
+and-i32-requires c κs = search needs
 
 enum-told-10 : tie.Need-enum-told-10
 enum-told-10 c = search needs
 
-bit-requires-8 : tie.Need-bit-requires-8
-bit-requires-8 c κs = search needs
+or-i32-requires : tie.Need-or-i32-requires
+or-i32-requires c κs = search needs
 
 returns : tie.Need-returns
 returns c = arm (c .before .before .before .args .x) (c .before .before .before .args .y) _ _ _ (record { sfits = c .bit .ok }) (c .before .enum-told .given .1) (rw (eq-bits _ _ (c .before .before .before .fits .x) (c .before .before .before .fits .y)) at (c .bit .ensures))
@@ -100,10 +100,10 @@ returns-8 : tie.Need-returns-8
 returns-8 c = arm (c .before .before .before .args .x) (c .before .before .before .args .y) _ _ _ (record { sfits = c .wrapping-sub-i32 .ok }) (c .before .enum-told8 .given .1) (rw (toZ-ofZ (c .before .before .before .fits .x), toZ-ofZ (c .before .before .before .fits .y)) at (c .wrapping-sub-i32 .ensures))
 
 returns-9 : tie.Need-returns-9
-returns-9 c = arm (c .before .before .before .args .x) (c .before .before .before .args .y) _ _ _ (record { sfits = c .bit7 .ok }) (c .before .enum-told9 .given .1) (rw (eq-bits _ (pos 0) (c .before .before .before .fits .x) (sfits-lit tt), eq-bits _ (pos 0) (c .before .before .before .fits .y) (sfits-lit tt)) at (c .bit7 .ensures))
+returns-9 c = arm (c .before .before .before .args .x) (c .before .before .before .args .y) _ _ _ (record { sfits = c .and-i32 .ok }) (c .before .enum-told9 .given .1) (rw (toZ-ofZ (c .before .before .before .fits .x), toZ-ofZ (c .before .before .before .fits .y)) at (c .and-i32 .ensures))
 
 returns-10 : tie.Need-returns-10
-returns-10 c = arm (c .before .before .before .args .x) (c .before .before .before .args .y) _ _ _ (record { sfits = c .bit8 .ok }) (c .before .enum-told10 .given .1) (rw (eq-bits _ (pos 0) (c .before .before .before .fits .x) (sfits-lit tt), eq-bits _ (pos 0) (c .before .before .before .fits .y) (sfits-lit tt)) at (c .bit8 .ensures))
+returns-10 c = arm (c .before .before .before .args .x) (c .before .before .before .args .y) _ _ _ (record { sfits = c .or-i32 .ok }) (c .before .enum-told10 .given .1) (rw (toZ-ofZ (c .before .before .before .fits .x), toZ-ofZ (c .before .before .before .fits .y)) at (c .or-i32 .ensures))
 
 pub apply-two-spec : {M : Type 1} → statement M
 apply-two-spec =
@@ -126,9 +126,9 @@ apply-two-spec =
     enum-told-8
     wrapping-sub-i32-requires
     enum-told-9
-    bit-requires-7
+    and-i32-requires
     enum-told-10
-    bit-requires-8
+    or-i32-requires
     returns
     returns-2
     returns-3

@@ -14,16 +14,16 @@ use lib.IntN.{ℤ, pos, negsuc, _-ℤ_}
 use lib.Signed.{ltZ, mag}
 use Rattle.model.specs.Signed.{b2z, eqZ, isZero}
 use Rattle.model.specs.Save.{Save}
-use Rattle.model.specs.Expr.{eval, ok, size}
+use Rattle.model.specs.Expr.{Joins, size}
 use Rattle.model.specs.Sheet.{Sheet, atcFor}
 use Rattle.model.specs.Requirement.{Requirement, before, haveAtc, haveFlag, haveItem, insert, kind, missingAtc, missingFlag, missingItem, number, sameReq, sorted}
 use Rattle.model.specs.Shop.{Slot, Timer, atcLimit, between, fifteen, five, limitOf, plain, ten, timerOf}
 use Rattle.model.specs.Script.{Block}
 use Rattle.model.specs.Compile.{blocksFor, filledBlocks, lastOf, limitBlocks, noTimerExpr, slotBlocks, slotsBlocks, uniqueBlocks}
-use Rattle.model.specs.Run.{done, oneMore, run}
+use Rattle.model.specs.Run.{done, oneMore, runBy}
 use Rattle.model.specs.Meaning.{Meaning, acquired, allHold, filledMeaning, held, holds, isHeld, limitMeaning, meaningFor, meaningOf, noTimerHeld, uniqueMeaning}
 use Rattle.model.specs.Laws.Checks.{and-left, and-right}
-use Rattle.model.specs.Laws.Eval.{and-true, eval-acquired, eval-missing, eval-missing-and, eval-reqs}
+use Rattle.model.specs.Laws.Eval.{OnBits, Worth, and-true, eval-acquired, eval-missing, eval-missing-and, eval-reqs}
 use Rattle.model.specs.Laws.SlotRuns.{After, Fits, Goes, Reach, Steps, at, does-pair, eval-remaining, go, here, once, stock-bare, stock-hid, unique-bare, unique-hid, weaken}
 use Rattle.model.specs.Laws.Writes.{setTemp, write, writes}
 
@@ -117,10 +117,10 @@ module _ (bs : List Block) (h : Sheet) (s : Save) (fits : Fits s) (i e : ℕ) (v
       by zero = refl
       by (suc n) = rw (lt-ltb 0 (suc n) (omega arith), ne-eqb (suc n) 0 (λ q. omega arith))
 
-  no-timer : eval s v (noTimerExpr h) ≡ ok (b2z (noTimerHeld h s))
+  no-timer : Worth s v (noTimerExpr h) (b2z (noTimerHeld h s))
   unfolding allHold holds
-  no-timer =
-      eval-reqs s v (fits .bits) (missingItem (h .timer10)) (missingItem (h .timer15) ∷ [])
+  no-timer j l =
+      eval-reqs s v (fits .bits) (missingItem (h .timer10)) (missingItem (h .timer15) ∷ []) j l
       ∙ rw (and-true, not-held (h .timer10), not-held (h .timer15))
 
   unique-runs : (w : ℕ) (qs : List Requirement) → After bs e (uniqueBlocks h i e w qs)
@@ -149,7 +149,7 @@ module _ (bs : List Block) (h : Sheet) (s : Save) (fits : Fits s) (i e : ℕ) (v
   opt-runs : (o : Option ℕ) (z : ℤ) (qs : List Requirement) → After bs e (blocksFor h i e o z qs)
       → Reach bs s 4 (lastOf e (blocksFor h i e o z qs)) v e (write i (meaningFor h s o z (allHold s qs)) v)
   unfolding write
-  opt-runs none z qs a = once (at (a .0) (does-pair i _ _ refl refl))
+  opt-runs none z qs a = once (at (a .0) (does-pair i _ _ (λ j l. refl) (λ j l. refl)))
   opt-runs (some w) z qs a = ware-runs w (limitOf h w z) qs (limit-le h w z) a
 
   pub slot-runs : (x : Slot) → After bs e (slotBlocks h i e x) → Reach bs s 4 (lastOf e (slotBlocks h i e x)) v e (write i (meaningOf h s x) v)
@@ -198,15 +198,23 @@ module _ (bs : List Block) (h : Sheet) (s : Save) (fits : Fits s) (e : ℕ) wher
 -- ---- the run
 
 module _ (bs : List Block) (s : Save) where
-  pub run-ends : {n b e : ℕ} {v v′ : List ℤ} → Goes bs s n b v e v′ → Steps bs s e v′ (done v′) → (k : ℕ) → n < k → run bs s k b v ≡ record { answer = 0; variables = v′; entered = suc n }
-  unfolding run
-  run-ends here d zero l = absurd (omega arith)
-  run-ends here d (suc k) l = rw (d .eq, run)
-  run-ends (go p ps) d zero l = absurd (omega arith)
-  run-ends (go p ps) d (suc k) l = rw (p .eq, run) (ap oneMore (run-ends ps d k (omega arith)))
+  module _ (j : Joins) (laws : OnBits j) where
+    pub run-ends : {n b e : ℕ} {v v′ : List ℤ} → Goes bs s n b v e v′ → Steps bs s e v′ (done v′) → (k : ℕ) → n < k → runBy j bs s k b v ≡ record { answer = 0; variables = v′; entered = suc n }
+    unfolding runBy
+    run-ends here d zero l = absurd (omega arith)
+    run-ends here d (suc k) l = rw (d .eq j laws, runBy)
+    run-ends (go p ps) d zero l = absurd (omega arith)
+    run-ends (go p ps) d (suc k) l = rw (p .eq j laws, runBy) (ap oneMore (run-ends ps d k (omega arith)))
 
-  pub run-short : {n b e : ℕ} {v v′ : List ℤ} → Goes bs s n b v e v′ → (k : ℕ) → k ≤ n → (run bs s k b v) .answer ≡ 15
-  unfolding run
-  run-short g zero l = refl
-  run-short here (suc k) l = absurd (omega arith)
-  run-short (go p ps) (suc k) l = rw (p .eq, run) (run-short ps k (omega arith))
+    pub run-short : {n b e : ℕ} {v v′ : List ℤ} → Goes bs s n b v e v′ → (k : ℕ) → k ≤ n → (runBy j bs s k b v) .answer ≡ 15
+    unfolding runBy
+    run-short g zero l = refl
+    run-short here (suc k) l = absurd (omega arith)
+    run-short (go p ps) (suc k) l = rw (p .eq j laws, runBy) (run-short ps k (omega arith))
+
+  -- with any budget the run is the same under any two readings of BitAnd and BitOr
+  pub run-alike : (i j : Joins) → OnBits i → OnBits j → {n b e : ℕ} {v v′ : List ℤ} → Goes bs s n b v e v′ → Steps bs s e v′ (done v′) → (k : ℕ) → runBy i bs s k b v ≡ runBy j bs s k b v
+  unfolding runBy
+  run-alike i j p q g d zero = refl
+  run-alike i j p q here d (suc k) = rw (d .eq i p, d .eq j q, runBy)
+  run-alike i j p q (go t ts) d (suc k) = rw (t .eq i p, t .eq j q, runBy) (ap oneMore (run-alike i j p q ts d k))

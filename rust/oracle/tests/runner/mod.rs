@@ -1,4 +1,4 @@
-//! Document 01's runner, for runs of compiled shops.
+//! Document 01's runner with 02's bitwise And and Or (A.5), for runs of compiled shops.
 
 use oracle::image::Refusal;
 use oracle::plain::{Binary, Block, Code, Command, Expr, Script, Sheet, Target, Unary};
@@ -63,8 +63,8 @@ fn evaluate(save: &Save, expr: &Expr) -> Result<i32, Refusal> {
                 Binary::GreaterEqual => (l >= r).into(),
                 Binary::Add => l.wrapping_add(r),
                 Binary::Subtract => l.wrapping_sub(r),
-                Binary::BitAnd => (l != 0 && r != 0).into(),
-                Binary::BitOr => (l != 0 || r != 0).into(),
+                Binary::BitAnd => l & r,
+                Binary::BitOr => l | r,
             }
         }
     })
