@@ -8,6 +8,7 @@ use lib.Dec.{eqb}
 use lib.ListN.{length, replicate}
 use lib.Seq.{sets}
 use borrow.Author.Tests.{eq-eqb, ne-eqb}
+use Rattle.model.specs.declared.Loader.{Loader}
 use Rattle.model.specs.Limits.{slotCount}
 use Rattle.model.specs.Refusal.{firstOf, check, bornLater}
 use Rattle.model.specs.Sheet as Model
@@ -15,9 +16,9 @@ use Rattle.model.specs.Sheet.{all}
 use Rattle.model.specs.Shop.{Slot, slotOk}
 use Rattle.model.specs.Script.{Block}
 use Rattle.model.specs.Memory.{Memory, scriptOf, redirectIn, blockWords}
-use Rattle.model.specs.Compile.{compileChecks, slotsBlocks, shopBlocks, freshBlocks, discLimits, hasRoom, lastOf}
+use Rattle.model.specs.Compile.{compileChecks, slotsBlocks, shopBlocks, freshBlocks, discLimits, hasRoom, roomRefusal, lastOf}
 use Rattle.model.specs.RecordCalls.{Born, bornAt, oneCompile, callIn, compileRefusalIn, appendedIn, birthsAfter, compiledIn}
-use Rattle.model.specs.Laws.Checks.{first-passed, passed}
+use Rattle.model.specs.Laws.Checks.{first-passed, passed, room-passed}
 use Rattle.model.specs.Laws.Judged.{room-low}
 use Rattle.memory.specs.Sound.{Room}
 use Rattle.memory.specs.Transfer.{blocks-counted}
@@ -39,45 +40,47 @@ pub nodes-kept : (m : Memory) → scriptOf m .nodes ≡ m .coded .nodes .count
 unfolding scriptOf
 nodes-kept m = refl
 
-module _ (h : Model.Sheet) (k : Born) (b : ℕ) (s : Shop) (twenty : length (s .slots) ≡ slotCount) where
+module _ (h : Model.Sheet) (k : Born) (o : Loader) (b : ℕ) (s : Shop) (twenty : length (s .slots) ≡ slotCount) where
   abbrev m : Memory
   m = k .memory
 
   abbrev fresh : List Block
   fresh = shopBlocks h (m .count) (slotsOf s)
 
-  -- 17, 8 and 9, of slots that are appended from a block on
+  -- 17, 8, 9 and 19, of slots that are appended from a block on
   abbrev behind : List Slot → ℕ → List ℕ
-  behind l n = check (eqb (bornAt k b) 0) bornLater ∷ check (all (slotOk h) l) 8 ∷ check (hasRoom discLimits (scriptOf m) (shopBlocks h n l)) 9 ∷ []
+  behind l n = check (eqb (bornAt k b) 0) bornLater ∷ check (all (slotOk h) l) 8 ∷ roomRefusal o (scriptOf m) (shopBlocks h n l) ∷ []
 
   abbrev own : List ℕ
   own = behind (slotsOf s) (m .count)
 
   -- the checks with those that calls share in front
-  in-order : compileRefusalIn h k (callOf b s) ≡ firstOf (callIn h m b ∷ own)
+  in-order : compileRefusalIn h k (callOf o b s) ≡ firstOf (callIn h m b ∷ own)
   unfolding compileRefusalIn compileChecks callIn
   in-order =
       ap (λ (l : List Slot). firstOf (callIn h m b ∷ behind l (length (scriptOf m .blocks)))) (with-all s twenty)
       ∙ ap (λ (n : ℕ). firstOf (callIn h m b ∷ behind (slotsOf s) n)) (blocks-counted m)
 
-  pub refused-call : (n : ℕ) → n ≡ callIn h m b → (n ≡ 0 → ⊥) → n ≡ compileRefusalIn h k (callOf b s)
+  pub refused-call : (n : ℕ) → n ≡ callIn h m b → (n ≡ 0 → ⊥) → n ≡ compileRefusalIn h k (callOf o b s)
   refused-call n e d = go n d ∙ sym (in-order ∙ ap (λ j. firstOf (j ∷ own)) (sym e))
     where
       go : (n : ℕ) → (n ≡ 0 → ⊥) → n ≡ firstOf (n ∷ own)
       go zero d = absurd (d refl)
       go (suc n) d = refl
 
-  pub refused-born : callIn h m b ≡ 0 → (bornAt k b ≡ 0 → ⊥) → 17 ≡ compileRefusalIn h k (callOf b s)
+  pub refused-born : callIn h m b ≡ 0 → (bornAt k b ≡ 0 → ⊥) → 17 ≡ compileRefusalIn h k (callOf o b s)
   refused-born e d = sym (in-order ∙ rw (e, ne-eqb (bornAt k b) 0 d))
 
-  pub refused-shop : callIn h m b ≡ 0 → bornAt k b ≡ 0 → all (slotOk h) (slotsOf s) ≡ false → 8 ≡ compileRefusalIn h k (callOf b s)
+  pub refused-shop : callIn h m b ≡ 0 → bornAt k b ≡ 0 → all (slotOk h) (slotsOf s) ≡ false → 8 ≡ compileRefusalIn h k (callOf o b s)
   refused-shop e g f = sym (in-order ∙ rw (e, eq-eqb (bornAt k b) 0 g, f))
 
-  pub refused-room : callIn h m b ≡ 0 → bornAt k b ≡ 0 → all (slotOk h) (slotsOf s) ≡ true → hasRoom discLimits (scriptOf m) fresh ≡ false → 9 ≡ compileRefusalIn h k (callOf b s)
-  refused-room e g f r = sym (in-order ∙ rw (e, eq-eqb (bornAt k b) 0 g, f, r))
-
-  pub accepted : callIn h m b ≡ 0 → bornAt k b ≡ 0 → all (slotOk h) (slotsOf s) ≡ true → hasRoom discLimits (scriptOf m) fresh ≡ true → 0 ≡ compileRefusalIn h k (callOf b s)
-  accepted e g f r = sym (in-order ∙ rw (e, eq-eqb (bornAt k b) 0 g, f, r))
+  -- where all before it pass, 9 and 19 answer
+  pub room-decides : callIn h m b ≡ 0 → bornAt k b ≡ 0 → all (slotOk h) (slotsOf s) ≡ true → (n : ℕ) → n ≡ roomRefusal o (scriptOf m) fresh → n ≡ compileRefusalIn h k (callOf o b s)
+  room-decides e g f n r = r ∙ sym (in-order ∙ rw (e, eq-eqb (bornAt k b) 0 g, f) (last (roomRefusal o (scriptOf m) fresh)))
+    where
+      last : (n : ℕ) → firstOf (n ∷ []) ≡ n
+      last zero = refl
+      last (suc n) = refl
 
   pub exact-slots : callIn h m b ≡ 0 → all (slotOk h) (slotsOf s) ≡ true → AllExact s
   exact-slots e f = shop-exact h (call-passed h m b e .sheet) s f
@@ -94,24 +97,25 @@ module _ (h : Model.Sheet) (k : Born) (b : ℕ) (s : Shop) (twenty : length (s .
       let z = room-low discLimits (scriptOf m) fresh r in
       record { blocks = omega (arith, z .blocks, blocks-counted m); commands = z .commands; nodes = z .nodes }
 
-  pub granted : compileRefusalIn h k (callOf b s) ≡ 0 → Granted
+  pub granted : compileRefusalIn h k (callOf o b s) ≡ 0 → Granted
   granted e =
+      let space : ℕ = roomRefusal o (scriptOf m) fresh in
       let p = first-passed (callIn h m b) own (sym in-order ∙ e) in
-      let born = first-passed (check (eqb (bornAt k b) 0) bornLater) (check (all (slotOk h) (slotsOf s)) 8 ∷ check (hasRoom discLimits (scriptOf m) fresh) 9 ∷ []) (p .1) in
-      let q = first-passed (check (all (slotOk h) (slotsOf s)) 8) (check (hasRoom discLimits (scriptOf m) fresh) 9 ∷ []) (born .1) in
+      let born = first-passed (check (eqb (bornAt k b) 0) bornLater) (check (all (slotOk h) (slotsOf s)) 8 ∷ space ∷ []) (p .1) in
+      let q = first-passed (check (all (slotOk h) (slotsOf s)) 8) (space ∷ []) (born .1) in
       record {
         inside = call-passed h m b (p .0) .inside;
         exact = exact-slots (p .0) (passed (all (slotOk h) (slotsOf s)) 7 (q .0));
-        room = room-by (passed (hasRoom discLimits (scriptOf m) fresh) 8 (first-passed (check (hasRoom discLimits (scriptOf m) fresh) 9) [] (q .1) .0));
+        room = room-by (room-passed o (scriptOf m) fresh (first-passed space [] (q .1) .0) .0);
       }
 
   -- refused, all is as it was
-  pub compiled-refused : (n : ℕ) → n ≡ compileRefusalIn h k (callOf b s) → (n ≡ 0 → ⊥) → CompiledAs h k (callOf b s) n k
+  pub compiled-refused : (n : ℕ) → n ≡ compileRefusalIn h k (callOf o b s) → (n ≡ 0 → ⊥) → CompiledAs h k (callOf o b s) n k
   unfolding compiledIn
-  compiled-refused n e d = record { answer = e; is = rw (ne-eqb (compileRefusalIn h k (callOf b s)) 0 (λ z. d (e ∙ z))) }
+  compiled-refused n e d = record { answer = e; is = rw (ne-eqb (compileRefusalIn h k (callOf o b s)) 0 (λ z. d (e ∙ z))) }
 
   -- t has the blocks, and the setup block is linked to the last of them
-  linked : (t : Memory) → PutBlocks m fresh t → record { coded = t .coded; words = blockWords (t .words) b 1 0 0 (t .count) 0; count = t .count } ≡ appendedIn h m (callOf b s)
+  linked : (t : Memory) → PutBlocks m fresh t → record { coded = t .coded; words = blockWords (t .words) b 1 0 0 (t .count) 0; count = t .count } ≡ appendedIn h m (callOf o b s)
   unfolding redirectIn shopBlocks
   linked t p =
       let root : ℕ = lastOf (m .count) (slotsBlocks h (m .count) 0 (slotsOf s)) in
@@ -120,15 +124,15 @@ module _ (h : Model.Sheet) (k : Born) (b : ℕ) (s : Shop) (twenty : length (s .
 
   -- the marks from the count of before to that of now
   marked : (t : Memory) → PutBlocks m fresh t
-      → sets (k .births) (m .count) (replicate (t .count - m .count) (oneCompile (k .compiles))) ≡ birthsAfter k (length (freshBlocks h (scriptOf m) (callOf b s)))
+      → sets (k .births) (m .count) (replicate (t .count - m .count) (oneCompile (k .compiles))) ≡ birthsAfter k (length (freshBlocks h (scriptOf m) (callOf o b s)))
   marked t p =
       let l : t .count - m .count ≡ length fresh = omega (arith, p .counted) in
-      let f : length fresh ≡ length (freshBlocks h (scriptOf m) (callOf b s)) = rw (with-all s twenty, blocks-counted m) refl in
+      let f : length fresh ≡ length (freshBlocks h (scriptOf m) (callOf o b s)) = rw (with-all s twenty, blocks-counted m) refl in
       ap (λ (n : ℕ). birthsAfter k n) (l ∙ f)
 
   -- accepted, the setup block and the marks are so
-  pub compiled-accepted : (n : ℕ) → n ≡ compileRefusalIn h k (callOf b s) → n ≡ 0 → (t : Memory) → PutBlocks m fresh t
-      → CompiledAs h k (callOf b s) 0
+  pub compiled-accepted : (n : ℕ) → n ≡ compileRefusalIn h k (callOf o b s) → n ≡ 0 → (t : Memory) → PutBlocks m fresh t
+      → CompiledAs h k (callOf o b s) 0
       (record {
         memory = record { coded = t .coded; words = blockWords (t .words) b 1 0 0 (t .count) 0; count = t .count };
         births = sets (k .births) (m .count) (replicate (t .count - m .count) (oneCompile (k .compiles)));
@@ -137,5 +141,5 @@ module _ (h : Model.Sheet) (k : Born) (b : ℕ) (s : Shop) (twenty : length (s .
   unfolding compiledIn
   compiled-accepted n e z t p = record {
     answer = sym z ∙ e;
-    is = rw (eq-eqb (compileRefusalIn h k (callOf b s)) 0 (sym e ∙ z)) (λ i. record { memory = linked t p i; births = marked t p i; compiles = oneCompile (k .compiles) });
+    is = rw (eq-eqb (compileRefusalIn h k (callOf o b s)) 0 (sym e ∙ z)) (λ i. record { memory = linked t p i; births = marked t p i; compiles = oneCompile (k .compiles) });
   }

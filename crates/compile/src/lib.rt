@@ -10,7 +10,7 @@ use births::birth_of;
 use births::mark_births;
 use births::one_compile;
 use checks::check_call;
-use compile_sizes::fits;
+use compile_sizes::check_room;
 use compile_slots::compile_shop;
 use memory::Births;
 use memory::BlockWords;
@@ -20,6 +20,7 @@ use memory::NodeWords;
 use memory::Values;
 use memory::set_block;
 use model::BlockNo;
+use model::Loader;
 use shop::CODES;
 use shop::Codes;
 use shop::SLOTS;
@@ -35,7 +36,7 @@ pub struct Compiled {
     pub compiles: u32,
 }
 
-// 1, 2 to 5, 6, 7, 17, 8, 9 in this order, before anything is written.
+// 1, 2 to 5, 6, 7, 17, 8, 9, 19 in this order, before anything is written.
 fn check_compile(
     attached: &[u8],
     sheet: Sheet,
@@ -46,13 +47,14 @@ fn check_compile(
     births: &Births,
     counts: Counts,
     compiles: u32,
+    loader: Loader,
     setup: BlockNo,
     items: &[i32; SLOTS],
     limits: &[i16; SLOTS],
     codes: &Codes,
     lens: &[u8; SLOTS],
 ) -> u8
-    ensures { λ r. ⌜ r ≡ compileRefusalIn (sheetOf (now (attached .entry)) sheet) (bornOf (now (ws .entry)) (now (val .entry)) (now (cw .entry)) (now (bw .entry)) counts (now (births .entry)) compiles) (callOf (setup .0) (shopFrom (arraysIn (now (items .entry)) (now (limits .entry)) (now (codes .entry)) (now (lens .entry))))) ⌝ }
+    ensures { λ r. ⌜ r ≡ compileRefusalIn (sheetOf (now (attached .entry)) sheet) (bornOf (now (ws .entry)) (now (val .entry)) (now (cw .entry)) (now (bw .entry)) counts (now (births .entry)) compiles) (callOf loader (setup .0) (shopFrom (arraysIn (now (items .entry)) (now (limits .entry)) (now (codes .entry)) (now (lens .entry))))) ⌝ }
 {
     let first = check_call(attached, sheet, ws, val, cw, bw, counts, setup);
     if first != 0 {
@@ -64,10 +66,7 @@ fn check_compile(
     if !check_arrays(attached, sheet, items, codes, lens) {
         return 8;
     }
-    if !fits(attached, sheet, counts, items, limits, codes, lens) {
-        return 9;
-    }
-    0
+    check_room(attached, sheet, counts, loader, items, limits, codes, lens)
 }
 
 // ShopCompiler::compile with replace, of the shop that the arrays stand for: the blocks go to the end, the setup block becomes empty code whose next is the root, the block last pushed. The fresh blocks bear the new count of compiles.
@@ -81,13 +80,14 @@ pub fn compile_arrays(
     births: &mut Births,
     counts: Counts,
     compiles: u32,
+    loader: Loader,
     setup: BlockNo,
     items: &[i32; SLOTS],
     limits: &[i16; SLOTS],
     codes: &Codes,
     lens: &[u8; SLOTS],
 ) -> Compiled
-    ensures { λ r. ⌜ CompiledAs (sheetOf (now (attached .entry)) sheet) (bornOf (now (ws .entry)) (now (val .entry)) (now (cw .entry)) (now (bw .entry)) counts (now (births .entry)) compiles) (callOf (setup .0) (shopFrom (arraysIn (now (items .entry)) (now (limits .entry)) (now (codes .entry)) (now (lens .entry))))) (r .refusal) (bornOf (now (ws .exit)) (now (val .exit)) (now (cw .exit)) (now (bw .exit)) (r .counts) (now (births .exit)) (r .compiles)) ⌝ }
+    ensures { λ r. ⌜ CompiledAs (sheetOf (now (attached .entry)) sheet) (bornOf (now (ws .entry)) (now (val .entry)) (now (cw .entry)) (now (bw .entry)) counts (now (births .entry)) compiles) (callOf loader (setup .0) (shopFrom (arraysIn (now (items .entry)) (now (limits .entry)) (now (codes .entry)) (now (lens .entry))))) (r .refusal) (bornOf (now (ws .exit)) (now (val .exit)) (now (cw .exit)) (now (bw .exit)) (r .counts) (now (births .exit)) (r .compiles)) ⌝ }
 {
     let refused = check_compile(
         attached,
@@ -99,6 +99,7 @@ pub fn compile_arrays(
         births,
         counts,
         compiles,
+        loader,
         setup,
         items,
         limits,
@@ -146,10 +147,11 @@ pub fn compile(
     births: &mut Births,
     counts: Counts,
     compiles: u32,
+    loader: Loader,
     setup: BlockNo,
     shop: Shop,
 ) -> Compiled
-    ensures { λ r. ⌜ CompiledAs (sheetOf (now (attached .entry)) sheet) (bornOf (now (ws .entry)) (now (val .entry)) (now (cw .entry)) (now (bw .entry)) counts (now (births .entry)) compiles) (callOf (setup .0) shop) (r .refusal) (bornOf (now (ws .exit)) (now (val .exit)) (now (cw .exit)) (now (bw .exit)) (r .counts) (now (births .exit)) (r .compiles)) ⌝ }
+    ensures { λ r. ⌜ CompiledAs (sheetOf (now (attached .entry)) sheet) (bornOf (now (ws .entry)) (now (val .entry)) (now (cw .entry)) (now (bw .entry)) counts (now (births .entry)) compiles) (callOf loader (setup .0) shop) (r .refusal) (bornOf (now (ws .exit)) (now (val .exit)) (now (cw .exit)) (now (bw .exit)) (r .counts) (now (births .exit)) (r .compiles)) ⌝ }
 {
     let mut items = [-1; SLOTS];
     let mut limits = [0; SLOTS];
@@ -166,6 +168,7 @@ pub fn compile(
         births,
         counts,
         compiles,
+        loader,
         setup,
         &items,
         &limits,

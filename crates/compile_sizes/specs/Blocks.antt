@@ -1,26 +1,22 @@
 -- The blocks of a slot and of a shop take what was worked out, whatever their numbers are. Assumes nothing.
 use mathlib.Core.Path.{_≡_, refl}
-use mathlib.Core.Bool.{Bool, true, false, cond, _&&_}
+use mathlib.Core.Bool.{Bool, true, false, cond}
 use mathlib.Core.Option.{Option, none, some}
 use mathlib.Core.List.{List, [], _∷_}
-use Prim.Native.Nat.{ℕ, suc, _+_, _≤_, _<_}
+use Prim.Native.Nat.{ℕ, suc, _+_}
 use native.Mathlib.Omega.{arith}
-use borrow.Author.Tests.{le-leb, lt-leb}
 use lib.Dec.{leb}
 use lib.IntN.{ℤ, pos}
 use lib.ListN.{length, length-append}
 use Rattle.model.specs.Expr.{Expr, two, negate, size}
 use Rattle.model.specs.declared.Op2.the-variants.{BitAnd}
-use Rattle.model.specs.Script.{Block, Script, blockCommands, blockNodes, commandsNodes, commandNodes}
-use Rattle.model.specs.Limits.{blockLimit, commandLimit, nodeLimit}
+use Rattle.model.specs.Script.{Block, blockCommands, blockNodes, commandsNodes, commandNodes}
 use Rattle.model.specs.Requirement.{Requirement, missingItem, sorted}
 use Rattle.model.specs.Sheet.{Sheet}
 use Rattle.model.specs.Shop.{Slot, Timer, plain, five, ten, fifteen, timerOf, limitOf}
-use Rattle.model.specs.Compile.{test, joinTests, acquiredExpr, enableBlocks, uniqueBlocks, limitBlocks, filledBlocks, blocksFor, slotBlocks, slotsBlocks, shopBlocks, rootOf, returnBlock, discLimits, hasRoom}
+use Rattle.model.specs.Compile.{test, joinTests, acquiredExpr, enableBlocks, uniqueBlocks, limitBlocks, filledBlocks, blocksFor, slotBlocks, slotsBlocks, shopBlocks, rootOf, returnBlock}
 use Rattle.model.specs.Laws.Sound.{sum-append}
-use Rattle.memory.specs.declared.Counts.{Counts}
 use Rattle.expr_build.specs.Laws.{size-imm}
-use Rattle.compile_sizes.specs.declared.Size.{Size}
 use Rattle.compile_sizes.specs.Sizes.{SizeOf, testsNodes, acquiredNodes, enableSize, uniqueSize, limitSize, filledSize, sizeFor, slotSize, shopSize}
 use Rattle.compile_sizes.specs.Tests.{test-size, joined-size, acquired-size, missing-size}
 
@@ -92,26 +88,3 @@ slots-sized h n i (x ∷ xs) =
 pub shop-sized : (h : Sheet) (n : ℕ) (xs : List Slot) → SizeOf (shopSize h xs) (shopBlocks h n xs)
 unfolding shopBlocks
 shop-sized h n xs = slots-sized h n 0 xs
-
--- ---- check 9
-
--- a script with the counts k has room for what takes r
-abbrev pub within : Counts → Size → Bool
-within k r = leb (k .blocks + r .blocks) blockLimit && (leb (k .commands + r .commands) commandLimit && leb (k .nodes + r .nodes) nodeLimit)
-
-pub room-within : (h : Sheet) (xs : List Slot) (k : Counts) (r : Size) → r ≡ shopSize h xs
-    → (sc : Script) → length (sc .blocks) ≡ k .blocks → sc .commands ≡ k .commands → sc .nodes ≡ k .nodes → within k r ≡ hasRoom discLimits sc (shopBlocks h (k .blocks) xs)
-unfolding hasRoom
-room-within h xs k r e sc eb ec en = let s = shop-sized h (k .blocks) xs in rw (e, eb, ec, en, s .blocks, s .commands, s .nodes)
-
--- the limits one after the other
-module _ (k : Counts) (r : Size) where
-  pub blocks-over : blockLimit < k .blocks + r .blocks → within k r ≡ false
-  blocks-over p = rw (lt-leb (k .blocks + r .blocks) blockLimit p)
-
-  module _ (p : k .blocks + r .blocks ≤ blockLimit) where
-    pub commands-over : commandLimit < k .commands + r .commands → within k r ≡ false
-    commands-over q = rw (le-leb (k .blocks + r .blocks) blockLimit p, lt-leb (k .commands + r .commands) commandLimit q)
-
-    pub nodes-decide : k .commands + r .commands ≤ commandLimit → within k r ≡ leb (k .nodes + r .nodes) nodeLimit
-    nodes-decide q = rw (le-leb (k .blocks + r .blocks) blockLimit p, le-leb (k .commands + r .commands) commandLimit q)

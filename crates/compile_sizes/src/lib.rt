@@ -1,21 +1,22 @@
-// What the blocks of a shop take of a script, counted before anything is written, and check 9.
+// What the blocks of a shop take of a script, counted before anything is written, and checks 9 and 19.
 ghost use mathlib.Core.Path.{_≡_};
 ghost use Prim.Native.Nat.{_+_, _≤_, _<_};
 ghost use mathlib.Core.List.{map};
 ghost use lib.ListN.{length, take};
 ghost use Rattle.model.specs.Limits.{entryLimit, slotCount, wide16};
 ghost use Rattle.model.specs.Script.{Script};
-ghost use Rattle.model.specs.Compile.{shopBlocks, discLimits, hasRoom};
+ghost use Rattle.model.specs.Compile.{shopBlocks, limitsOf, roomRefusal};
 ghost use Rattle.shop_codes.specs.Codes.{requirementOf};
 ghost use Rattle.shop.specs.Shapes.{timerIs, sheetOf, slotOf, slotsOf};
 ghost use Rattle.shop.specs.Sets.{AllExact, Exact};
 ghost use Rattle.shop_arrays.specs.Arrays.{arraysIn, slotAt, shopFrom};
-ghost use Rattle.compile_sizes.specs.Blocks.{within};
+ghost use Rattle.compile_sizes.specs.Room.{limitsIn, within};
 ghost use Rattle.compile_sizes.specs.Sizes.{AtMost, testNodes, testsNodes, testsMost, acquiredNodes, sized, plus, soldSize, enableSize, uniqueSize, limitSize, slotSize, shopSize};
 use memory::BLOCKS;
 use memory::COMMANDS;
 use memory::Counts;
 use memory::NODES;
+use model::Loader;
 use shop::Codes;
 use shop::ENTRIES;
 use shop::Row;
@@ -36,6 +37,13 @@ const BLOCK_LIMIT: u32 = BLOCKS as u32;
 const COMMAND_LIMIT: u32 = COMMANDS as u32;
 
 const NODE_LIMIT: u32 = NODES as u32;
+
+const DEMO_BLOCKS: u32 = 512;
+
+const DEMO_COMMANDS: u32 = 2048;
+
+// The demo has no limit of nodes: the disc's, which 9 asks, refuses nothing more.
+const DEMO_NODES: u32 = NODE_LIMIT;
 
 // What any shop takes at most: the Return block, and for each slot 7 blocks, 14 commands and 43 nodes, with 5 more for each entry (specs/Most).
 const MOST_BLOCKS: u32 = 141;
@@ -220,36 +228,69 @@ fn shop_size(
     total
 }
 
-// A script with the counts k has room for what takes s.
-fn room(k: Counts, s: Size) -> bool
-    requires { ⌜ AtMost s wide16 ⌝ }
-    ensures { λ r. ⌜ r ≡ within k s ⌝ }
-{
-    if BLOCK_LIMIT < k.blocks as u32 + s.blocks {
-        return false;
-    }
-    if COMMAND_LIMIT < k.commands as u32 + s.commands {
-        return false;
-    }
-    k.nodes as u32 + s.nodes <= NODE_LIMIT
+// What a loader loads at most.
+struct Limits {
+    blocks: u32,
+    commands: u32,
+    nodes: u32,
 }
 
-// Check 9: the shop's blocks pass no limit of a script with the counts k. A shop is counted only where not every shop has room.
-pub fn fits(
+fn limits_of(loader: Loader) -> Limits
+    ensures { λ r. ⌜ limitsIn r ≡ limitsOf loader ⌝ }
+{
+    match loader {
+        Loader::Disc => Limits {
+            blocks: BLOCK_LIMIT,
+            commands: COMMAND_LIMIT,
+            nodes: NODE_LIMIT,
+        },
+        Loader::Demo => Limits {
+            blocks: DEMO_BLOCKS,
+            commands: DEMO_COMMANDS,
+            nodes: DEMO_NODES,
+        },
+    }
+}
+
+// A script with the counts k has room for what takes s, by the limits of a loader.
+fn room(most: Limits, k: Counts, s: Size) -> bool
+    requires { ⌜ AtMost s wide16 ⌝ }
+    ensures { λ r. ⌜ r ≡ within (limitsIn most) k s ⌝ }
+{
+    if most.blocks < k.blocks as u32 + s.blocks {
+        return false;
+    }
+    if most.commands < k.commands as u32 + s.commands {
+        return false;
+    }
+    k.nodes as u32 + s.nodes <= most.nodes
+}
+
+// Checks 9 and 19: the shop's blocks pass no limit of a script with the counts k, first by the disc's limits, then by those of the loader. No loader's limits are above the disc's, so that a shop is counted, once, only where not every shop has room.
+pub fn check_room(
     attached: &[u8],
     sheet: Sheet,
     k: Counts,
+    loader: Loader,
     items: &[i32; SLOTS],
     limits: &[i16; SLOTS],
     codes: &Codes,
     lens: &[u8; SLOTS],
-) -> bool
+) -> u8
     requires { ⌜ AllExact (shopFrom (arraysIn (now items) (now limits) (now codes) (now lens))) ⌝ }
-    ensures { λ r. ⌜ ((sc : Script) → length (sc .blocks) ≡ k .blocks → sc .commands ≡ k .commands → sc .nodes ≡ k .nodes → r ≡ hasRoom discLimits sc (shopBlocks (sheetOf (now (attached .entry)) sheet) (k .blocks) (slotsOf (shopFrom (arraysIn (now (items .entry)) (now (limits .entry)) (now (codes .entry)) (now (lens .entry))))))) ⌝ }
+    ensures { λ r. ⌜ ((sc : Script) → length (sc .blocks) ≡ k .blocks → sc .commands ≡ k .commands → sc .nodes ≡ k .nodes → r ≡ roomRefusal loader sc (shopBlocks (sheetOf (now (attached .entry)) sheet) (k .blocks) (slotsOf (shopFrom (arraysIn (now (items .entry)) (now (limits .entry)) (now (codes .entry)) (now (lens .entry))))))) ⌝ }
 {
-    if room(k, sized(MOST_BLOCKS, MOST_COMMANDS, MOST_NODES)) {
-        return true;
+    let own = limits_of(loader);
+    if room(own, k, sized(MOST_BLOCKS, MOST_COMMANDS, MOST_NODES)) {
+        return 0;
     }
     let s = shop_size(attached, sheet, items, limits, codes, lens);
-    room(k, s)
+    let disc = limits_of(Loader::Disc);
+    if !room(disc, k, s) {
+        return 9;
+    }
+    if !room(own, k, s) {
+        return 19;
+    }
+    0
 }

@@ -11,6 +11,7 @@ use Rattle.model.specs.Signed.{wrap, bitsOf}
 use Rattle.model.specs.Save.{Save}
 use Rattle.model.specs.Expr.{one, imm, imm16, imm32, size}
 use Rattle.model.specs.declared.Op1.the-variants.{Flag}
+use Rattle.model.specs.declared.Loader.the-variants.{Disc}
 use Rattle.model.specs.Sheet.{Sheet, sheetOk, saveOk}
 use Rattle.model.specs.Requirement.{Requirement, haveItem, missingFlag, haveFlag, insert, sorted, member, settled}
 use Rattle.model.specs.Requirement as Req
@@ -19,7 +20,7 @@ use Rattle.model.specs.Script.{Command, Block, placeholder, code, dataBl
 use Rattle.model.specs.Reading.{Answer, got, refused, refusalOf, number, more, groups, under, word, wordTo, zig, zag}
 use Rattle.model.specs.Image.{image, blocksImage, blockImage, commandsImage, commandImage, exprImage, linkImage, code2, code1, kinds, kindOf, readKind, readOperands, readExpr, readTerm, setOf, commandOf, readCommand, readCommands, readCode, blockOf, readBlock, readBlocks, readBlockNo, linkOf, readLink, ended, readWithin, readImage}
 use Rattle.model.specs.Judge.{counted, countsOk, judged, sharedRefusal}
-use Rattle.model.specs.Compile.{Call, compiled, compileChecks, compileRefusal, appended, redirect, hasRoom, shopBlocks, slotsBlocks, slotBlocks, limitBlocks, uniqueBlocks, returnBlock, acquiredExpr, itemTest, atcTest, flagTest, test, joinTests, emitSet}
+use Rattle.model.specs.Compile.{Call, compiled, compileChecks, compileRefusal, appended, redirect, roomRefusal, hasRoom, shopBlocks, slotsBlocks, slotBlocks, limitBlocks, uniqueBlocks, returnBlock, acquiredExpr, itemTest, atcTest, flagTest, test, joinTests, emitSet}
 use Rattle.model.specs.Run.{Ran, runBy, stepBy, runCall, runCheckedBy}
 use Rattle.model.specs.Parse.{Parsed, parseCall, parseChecked, parse, parseBlock, visited, parseRequirements, gather, placeOf}
 use Rattle.model.specs.Printer.{slots, readSheet, readAtcs, readTimers, digitsTo, decimal, signedDecimal, letter, requirementsText, itemText, slotLine, slotLines, refusedText, Input, readInput, parsedText, inputText}
@@ -37,7 +38,7 @@ first = counted (returnBlock ∷ [])
 
 -- the script after a compile of one slot at block 0
 pub with : Slot → Script
-with x = compiled sheet first (record { setup = 0; shop = x ∷ [] })
+with x = compiled sheet first (record { loader = Disc; setup = 0; shop = x ∷ [] })
 
 -- a save with so many of an item, one flag, and time[2]
 pub saved : ℕ → ℤ → ℕ → ℕ → ℤ → Save
@@ -102,7 +103,7 @@ pub many : ℕ → Script
 many n = counted (replicate n returnBlock)
 
 pub emptyShopAt : Script → ℤ
-emptyShopAt sc = pos (compileRefusal sheet sc (record { setup = 0; shop = [] }))
+emptyShopAt sc = pos (compileRefusal sheet sc (record { loader = Disc; setup = 0; shop = [] }))
 
 pub p1 : Slot
 p1 = slotOf 7 (pos 3) (missingFlag (pos 40) ∷ [])
@@ -119,7 +120,7 @@ bytes (n ∷ ns) = pos n ∷ bytes ns
 
 -- names all that the cases compute with
 unfoldable pub opened : ℕ
-unfolding sheet slotOf first with saved brief ranAt flat itemNumber readAs parsedAt nextOf oneBlock hidesUnder fills bothWays many emptyShopAt p1 timer5 p5 bytes wrap bitsOf imm size sheetOk saveOk insert sorted member settled padded limitOf commandNodes commandsNodes blockNodes blockCommands number more groups under word wordTo zig zag image blocksImage blockImage commandsImage commandImage exprImage linkImage kinds kindOf readKind readOperands readExpr readTerm setOf commandOf readCommand readCommands readCode blockOf readBlock readBlocks readBlockNo linkOf readLink ended readWithin readImage countsOk judged sharedRefusal compiled compileChecks appended redirect hasRoom shopBlocks slotsBlocks slotBlocks limitBlocks uniqueBlocks acquiredExpr itemTest atcTest flagTest test joinTests runBy stepBy runCheckedBy parseChecked parse parseBlock visited parseRequirements gather placeOf slots readSheet readAtcs readTimers digitsTo decimal signedDecimal letter requirementsText itemText slotLine slotLines refusedText readInput parsedText inputText
+unfolding sheet slotOf first with saved brief ranAt flat itemNumber readAs parsedAt nextOf oneBlock hidesUnder fills bothWays many emptyShopAt p1 timer5 p5 bytes wrap bitsOf imm size sheetOk saveOk insert sorted member settled padded limitOf commandNodes commandsNodes blockNodes blockCommands number more groups under word wordTo zig zag image blocksImage blockImage commandsImage commandImage exprImage linkImage kinds kindOf readKind readOperands readExpr readTerm setOf commandOf readCommand readCommands readCode blockOf readBlock readBlocks readBlockNo linkOf readLink ended readWithin readImage countsOk judged sharedRefusal compiled compileChecks appended redirect roomRefusal hasRoom shopBlocks slotsBlocks slotBlocks limitBlocks uniqueBlocks acquiredExpr itemTest atcTest flagTest test joinTests runBy stepBy runCheckedBy parseChecked parse parseBlock visited parseRequirements gather placeOf slots readSheet readAtcs readTimers digitsTo decimal signedDecimal letter requirementsText itemText slotLine slotLines refusedText readInput parsedText inputText
 opened = 0
 
 -- ---- P1 to P10

@@ -1,4 +1,4 @@
--- The compiler block by block, the exact count for 9, and the setup block's redirect (01, Compiler). Assumes nothing: these are definitions.
+-- The compiler block by block, the exact count for 9 and 19, and the setup block's redirect (01, Compiler). Assumes nothing: these are definitions.
 use mathlib.Core.Bool.{Bool, cond, _&&_}
 use mathlib.Core.Option.{Option, none, some}
 use mathlib.Core.List.{List, [], _∷_, _++_}
@@ -6,11 +6,13 @@ use Prim.Native.Nat.{ℕ, suc, _+_}
 use lib.Dec.{leb, eqb}
 use lib.ListN.{set, length}
 use lib.IntN.{ℤ, pos, negsuc}
-use Rattle.model.specs.Limits.{blockLimit, commandLimit, nodeLimit, itemFirst, countFirst}
-use Rattle.model.specs.Refusal.{check, firstOf, noRoom, bornLater}
+use Rattle.model.specs.Limits.{blockLimit, commandLimit, nodeLimit, demoBlocks, demoCommands, itemFirst, countFirst}
+use Rattle.model.specs.Refusal.{check, firstOf, noRoom, bornLater, demoFull}
 use Rattle.model.specs.Expr.{Expr, two, one, imm16, negate, imm}
 use Rattle.model.specs.declared.Op2.the-variants.{Equal, NotEqual, Less, Subtract, BitAnd, BitOr}
 use Rattle.model.specs.declared.Op1.the-variants.{Flag, Variable, Item, Atc, Time}
+use Rattle.model.specs.declared.Loader.{Loader}
+use Rattle.model.specs.declared.Loader.the-variants.{Disc, Demo}
 use Rattle.model.specs.Sheet.{Sheet, atcFor}
 use Rattle.model.specs.Requirement.{Requirement, haveItem, missingItem, haveAtc, missingAtc, haveFlag, missingFlag, sorted}
 use Rattle.model.specs.Shop.{Slot, withSlots, Timer, plain, five, ten, fifteen, timerOf, limitOf, shopRefusal}
@@ -190,7 +192,9 @@ shopBlocks h n xs = returnBlock ∷ slotsBlocks h n 0 xs
 
 -- ---- the call
 
+-- "a compile names its loader, disc or demo" (02, A.6)
 pub record Call : Type 0 where
+  pub loader : Loader
   pub setup : ℕ
   pub shop : List Slot
 
@@ -200,16 +204,28 @@ freshBlocks h sc c = shopBlocks h (length (sc .blocks)) (withSlots (c .shop))
 abbrev pub discLimits : Limits
 discLimits = limits blockLimit commandLimit nodeLimit
 
+-- the demo has no limit of nodes: the disc's, which 9 has asked before, refuses nothing more
+abbrev pub demoLimits : Limits
+demoLimits = limits demoBlocks demoCommands nodeLimit
+
+abbrev pub limitsOf : Loader → Limits
+limitsOf Disc = discLimits
+limitsOf Demo = demoLimits
+
 -- the kept counts and what is appended pass no limit of l
 unfoldable pub hasRoom : Limits → Script → List Block → Bool
 hasRoom l sc xs =
     leb (length (sc .blocks) + length xs) (l .blocks)
     && (leb (sc .commands + sumOf blockCommands xs) (l .commands) && leb (sc .nodes + sumOf blockNodes xs) (l .nodes))
 
--- 1 to 7, 17, 8, 9; j is what the judgement of the script answered, n the birth mark of the setup block (02, A.2: 17 right after 7)
+-- 9, and right after it 19: the result, counted the same, passes a limit of its loader. A disc's are those of 9, so that none of its compiles is 19
+unfoldable pub roomRefusal : Loader → Script → List Block → ℕ
+roomRefusal o sc xs = firstOf (check (hasRoom discLimits sc xs) noRoom ∷ check (hasRoom (limitsOf o) sc xs) demoFull ∷ [])
+
+-- 1 to 7, 17, 8, 9, 19; j is what the judgement of the script answered, n the birth mark of the setup block (02, A.2: 17 right after 7)
 unfoldable pub compileChecks : Sheet → ℕ → ℕ → Script → Call → ℕ
 compileChecks h j n sc c =
-    firstOf (sharedRefusal h j sc (c .setup) ∷ check (eqb n 0) bornLater ∷ shopRefusal h (c .shop) ∷ check (hasRoom discLimits sc (freshBlocks h sc c)) noRoom ∷ [])
+    firstOf (sharedRefusal h j sc (c .setup) ∷ check (eqb n 0) bornLater ∷ shopRefusal h (c .shop) ∷ roomRefusal (c .loader) sc (freshBlocks h sc c) ∷ [])
 
 -- at a block whose mark is 0, as document 01 has it
 abbrev pub compileRefusal : Sheet → Script → Call → ℕ

@@ -24,6 +24,7 @@ pub mod Sound
 pub mod FitTests
 pub mod FitBlocks
 pub mod Judged
+pub mod Loaders
 pub mod Lists
 pub mod Calls
 pub mod Files

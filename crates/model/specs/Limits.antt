@@ -1,4 +1,4 @@
--- Every limit of document 01, each under one name. Assumes nothing: these are definitions.
+-- Every limit of documents 01 and 02, each under one name. Assumes nothing: these are definitions.
 use Prim.Native.Nat.{ℕ}
 
 -- Script: blocks, commands, expression nodes, and the depth of an expression, a leaf being 1
@@ -61,6 +61,13 @@ mostCompiles = 4294967295
 -- 02, A.4: the root blocks that a reclaim may be given
 abbrev pub rootLimit : ℕ
 rootLimit = 256
+
+-- 02, A.6: the blocks and commands of a script that the demo disc loads
+abbrev pub demoBlocks : ℕ
+demoBlocks = 512
+
+abbrev pub demoCommands : ℕ
+demoCommands = 2048
 
 -- demand 3: the blocks after which the run of a compiled shop has reached Return
 abbrev pub runBlocks : ℕ

@@ -63,6 +63,10 @@ bornLater = 17
 abbrev pub badRoots : ℕ
 badRoots = 18
 
+-- 02, A.6: the loader is demo and the result of a compile passes a demo limit
+abbrev pub demoFull : ℕ
+demoFull = 19
+
 -- a check refuses with its number where its test fails
 abbrev pub check : Bool → ℕ → ℕ
 check true n = accepted

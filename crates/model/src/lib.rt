@@ -1,4 +1,4 @@
-// The kinds of expression that the definitions and the code share.
+// The kinds of expression, the numbers and the loader that the definitions and the code share.
 
 // The numbers of 16 bits, half of them, and the least signed one.
 pub const WIDE16: u64 = 65536;
@@ -49,3 +49,9 @@ pub struct Link(pub u16);
 pub struct ItemId(pub u16);
 
 pub struct AtcId(pub u16);
+
+// What loads a compiled script: each has its limits (02, A.6).
+pub enum Loader {
+    Disc,
+    Demo,
+}

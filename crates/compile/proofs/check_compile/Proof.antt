@@ -10,7 +10,7 @@ use Rattle.memory.specs.Transfer.{blocks-counted}
 use Rattle.model.specs.Memory.{scriptOf}
 use Rattle.memory.specs.View.{bornOf}
 use Rattle.model.specs.RecordCalls.{Born}
-use Rattle.compile.specs.Checked.{refused-call, refused-born, refused-shop, refused-room, accepted, exact-slots, commands-kept, nodes-kept}
+use Rattle.compile.specs.Checked.{refused-call, refused-born, refused-shop, room-decides, exact-slots, commands-kept, nodes-kept}
 use Rattle.compile.proofs.check_compile.Statement.{statement}
 use Rattle.compile.proofs.check_compile.Tie as tie
 
@@ -26,7 +26,7 @@ check-call-requires : tie.Need-check-call-requires
 check-call-requires c κs = search needs
 
 returns : tie.Need-returns
-returns c = refused-call _ _ _ _ (size (c .before .before .before)) _ (c .before .check-call .ensures) (c .if1 .taken)
+returns c = refused-call _ _ _ _ _ (size (c .before .before .before)) _ (c .before .check-call .ensures) (c .if1 .taken)
 
 birth-of-requires : tie.Need-birth-of-requires
 birth-of-requires c κs = search needs
@@ -34,7 +34,7 @@ birth-of-requires c κs = search needs
 returns-2 : tie.Need-returns-2
 returns-2 c =
     let a = c .before .before in
-    refused-born _ _ _ _ (size (a .before .before .before)) (sym (a .before .check-call .ensures) ∙ a .if1 .left) (λ z. c .if2 .taken (c .before .birth-of .ensures ∙ z))
+    refused-born _ _ _ _ _ (size (a .before .before .before)) (sym (a .before .check-call .ensures) ∙ a .if1 .left) (λ z. c .if2 .taken (c .before .birth-of .ensures ∙ z))
 
 check-arrays-requires : tie.Need-check-arrays-requires
 check-arrays-requires c κs = search needs
@@ -43,34 +43,24 @@ returns-3 : tie.Need-returns-3
 returns-3 c =
     let b = c .before .before in
     let a = b .before .before in
-    refused-shop _ _ _ _ (size (a .before .before .before)) (sym (a .before .check-call .ensures) ∙ a .if1 .left) (sym (b .before .birth-of .ensures) ∙ b .if2 .left)
+    refused-shop _ _ _ _ _ (size (a .before .before .before)) (sym (a .before .check-call .ensures) ∙ a .if1 .left) (sym (b .before .birth-of .ensures) ∙ b .if2 .left)
     (sym (c .before .check-arrays .ensures _) ∙ not-true _ (c .if3 .taken))
 
-fits-requires : tie.Need-fits-requires
-fits-requires c κs =
+check-room-requires : tie.Need-check-room-requires
+check-room-requires c κs =
     let a = c .before .before .before .before in
     let s = a .before .before .before in
-    exact-slots _ (bornIn s) _ _ (size s) (sym (a .before .check-call .ensures) ∙ a .if1 .left) (sym (c .before .check-arrays .ensures _) ∙ not-false _ (c .if3 .left))
+    exact-slots _ (bornIn s) (s .args .loader) _ _ (size s) (sym (a .before .check-call .ensures) ∙ a .if1 .left) (sym (c .before .check-arrays .ensures _) ∙ not-false _ (c .if3 .left))
 
 returns-4 : tie.Need-returns-4
 returns-4 c =
-    let d = c .before .before in
+    let d = c .before in
     let b = d .before .before in
     let a = b .before .before in
     let s = a .before .before .before in
     let m = bornIn s .memory in
-    refused-room _ _ _ _ (size s) (sym (a .before .check-call .ensures) ∙ a .if1 .left) (sym (b .before .birth-of .ensures) ∙ b .if2 .left) (sym (d .before .check-arrays .ensures _) ∙ not-false _ (d .if3 .left))
-    (sym (c .before .fits2 .ensures (scriptOf m) (blocks-counted m) (commands-kept m) (nodes-kept m)) ∙ not-true _ (c .if4 .taken))
-
-returns-5 : tie.Need-returns-5
-returns-5 c =
-    let d = c .before .before in
-    let b = d .before .before in
-    let a = b .before .before in
-    let s = a .before .before .before in
-    let m = bornIn s .memory in
-    accepted _ _ _ _ (size s) (sym (a .before .check-call .ensures) ∙ a .if1 .left) (sym (b .before .birth-of .ensures) ∙ b .if2 .left) (sym (d .before .check-arrays .ensures _) ∙ not-false _ (d .if3 .left))
-    (sym (c .before .fits2 .ensures (scriptOf m) (blocks-counted m) (commands-kept m) (nodes-kept m)) ∙ not-false _ (c .if4 .left))
+    room-decides _ _ _ _ _ (size s) (sym (a .before .check-call .ensures) ∙ a .if1 .left) (sym (b .before .birth-of .ensures) ∙ b .if2 .left) (sym (d .before .check-arrays .ensures _) ∙ not-false _ (d .if3 .left)) _
+    (c .check-room .ensures (scriptOf m) (blocks-counted m) (commands-kept m) (nodes-kept m))
 
 pub check-compile-spec : {M : Type 1} → statement M
 check-compile-spec =
@@ -82,6 +72,5 @@ check-compile-spec =
     returns-2
     check-arrays-requires
     returns-3
-    fits-requires
-    returns-4
-    returns-5)
+    check-room-requires
+    returns-4)

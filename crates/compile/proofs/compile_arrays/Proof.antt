@@ -22,14 +22,14 @@ size s = slots-long _
 
 -- what is known where nothing is refused
 allowed : (c : tie.Else1) → let s = c .before .before .before .before .before .before .before .before in
-    Granted (sheetOf (s .args .attached .now) (s .args .sheet)) (bornOf (s .args .ws .now) (s .args .val .now) (s .args .cw .now) (s .args .bw .now) (s .args .counts) (s .args .births .now) (s .args .compiles)) (s .args .setup .0) (given s) (size s)
-allowed c = granted _ _ _ _ _ (sym (c .before .check-compile .ensures) ∙ c .if1 .left)
+    Granted (sheetOf (s .args .attached .now) (s .args .sheet)) (bornOf (s .args .ws .now) (s .args .val .now) (s .args .cw .now) (s .args .bw .now) (s .args .counts) (s .args .births .now) (s .args .compiles)) (s .args .loader) (s .args .setup .0) (given s) (size s)
+allowed c = granted _ _ _ _ _ _ (sym (c .before .check-compile .ensures) ∙ c .if1 .left)
 
 check-compile-requires : tie.Need-check-compile-requires
 check-compile-requires c κs = search needs
 
 returns : tie.Need-returns
-returns c = compiled-refused _ _ _ _ (size (c .before .before .before .before .before .before .before .before)) _ (c .before .check-compile .ensures) (c .if1 .taken)
+returns c = compiled-refused _ _ _ _ _ (size (c .before .before .before .before .before .before .before .before)) _ (c .before .check-compile .ensures) (c .if1 .taken)
 
 compile-shop-requires : tie.Need-compile-shop-requires
 compile-shop-requires c κs = let g = allowed (c .before .before .before .before) in (g .room, g .exact)
@@ -54,7 +54,7 @@ returns-2 c =
     let d = c .before .before .before .before .before .before in
     let a = d .before .before .before .before .before in
     rw (c .mark-births .ensures, c .before .before .one-compile .ensures, c .before .before .before .set-block .ensures)
-    (compiled-accepted _ _ _ _ (size (a .before .before .before .before .before .before .before .before)) _ (a .before .check-compile .ensures) (a .if1 .left) _ (d .compile-shop .ensures))
+    (compiled-accepted _ _ _ _ _ (size (a .before .before .before .before .before .before .before .before)) _ (a .before .check-compile .ensures) (a .if1 .left) _ (d .compile-shop .ensures))
 
 pub compile-arrays-spec : {M : Type 1} → statement M
 compile-arrays-spec =

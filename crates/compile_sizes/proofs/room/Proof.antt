@@ -1,6 +1,6 @@
 -- `room` meets its contract: the limits one after the other. Assumes nothing.
 use mathlib.Core.Path.{sym}
-use Rattle.compile_sizes.specs.Blocks.{blocks-over, commands-over, nodes-decide}
+use Rattle.compile_sizes.specs.Room.{limitsIn, blocks-over, commands-over, nodes-decide}
 use borrow.Author.Needs.{needs}
 use Rattle.compile_sizes.proofs.room.Statement.{statement}
 use Rattle.compile_sizes.proofs.room.Tie as tie
@@ -12,7 +12,7 @@ add-if1 : tie.Need-add-if1
 add-if1 c = search needs
 
 returns : tie.Need-returns
-returns c = sym (blocks-over (c .before .before .before .args .k) (c .before .before .before .args .s) (c .if1 .taken))
+returns c = let s = c .before .before .before .before in sym (blocks-over (limitsIn (s .args .most)) (s .args .k) (s .args .s) (c .if1 .taken))
 
 cast-if2 : tie.Need-cast-if2
 cast-if2 c = search needs
@@ -21,7 +21,7 @@ add-if2 : tie.Need-add-if2
 add-if2 c = search needs
 
 returns-2 : tie.Need-returns-2
-returns-2 c = sym (commands-over (c .before .before .before .before .before .before .args .k) (c .before .before .before .before .before .before .args .s) (c .before .before .before .if1 .left) (c .if2 .taken))
+returns-2 c = let s = c .before .before .before .before .before .before .before .before in sym (commands-over (limitsIn (s .args .most)) (s .args .k) (s .args .s) (c .before .before .before .before .if1 .left) (c .if2 .taken))
 
 cast-result : tie.Need-cast-result
 cast-result c = search needs
@@ -30,7 +30,7 @@ add-result : tie.Need-add-result
 add-result c = search needs
 
 returns-3 : tie.Need-returns-3
-returns-3 c = sym (nodes-decide (c .before .before .before .before .before .before .before .before .args .k) (c .before .before .before .before .before .before .before .before .args .s) (c .before .before .before .before .before .if1 .left) (c .before .before .if2 .left))
+returns-3 c = let s = c .before .before .before .before .before .before .before .before .before .before .before in sym (nodes-decide (limitsIn (s .args .most)) (s .args .k) (s .args .s) (c .before .before .before .before .before .before .before .if1 .left) (c .before .before .before .if2 .left))
 
 pub room-spec : {M : Type 1} → statement M
 room-spec =

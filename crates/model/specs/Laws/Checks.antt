@@ -8,12 +8,13 @@ use Prim.Native.Nat.{_<_}
 use lib.ListN.{length}
 use lib.Dec.{ltb, eqb}
 use borrow.Author.Tests.{ltb-true, eqb-true}
-use Rattle.model.specs.Refusal.{check, firstOf, noRoom, notBlock, notCode, bornLater}
+use Rattle.model.specs.declared.Loader.{Loader}
+use Rattle.model.specs.Refusal.{check, firstOf, noRoom, notBlock, notCode, bornLater, demoFull}
 use Rattle.model.specs.Sheet.{Sheet, all, sheetRefusal}
 use Rattle.model.specs.Shop.{shopRefusal, slotOk, withSlots}
-use Rattle.model.specs.Script.{Script, blockAt, isCode}
+use Rattle.model.specs.Script.{Block, Script, blockAt, isCode}
 use Rattle.model.specs.Judge.{setupRefusal, sharedRefusal}
-use Rattle.model.specs.Compile.{Call, compileChecks, discLimits, freshBlocks, hasRoom}
+use Rattle.model.specs.Compile.{Call, compileChecks, discLimits, limitsOf, freshBlocks, hasRoom, roomRefusal}
 
 -- where a list of checks refuses nothing, its first does not, nor do the others
 pub first-passed : (n : ℕ) (ns : List ℕ) → firstOf (n ∷ ns) ≡ 0 → (n ≡ 0) × (firstOf ns ≡ 0)
@@ -62,7 +63,14 @@ pub shared-passed : (h : Sheet) (j : ℕ) (sc : Script) (b : ℕ) → sharedRefu
 unfolding sharedRefusal
 shared-passed h j sc b e = first3 (sheetRefusal h) j (setupRefusal sc b) e
 
--- of a compile: those, 17, 8 and 9
+-- 9 and 19: there is room by the disc's limits and by the loader's
+pub room-passed : (o : Loader) (sc : Script) (xs : List Block) → roomRefusal o sc xs ≡ 0 → (hasRoom discLimits sc xs ≡ true) × (hasRoom (limitsOf o) sc xs ≡ true)
+unfolding roomRefusal
+room-passed o sc xs e =
+    let p = first2 (check (hasRoom discLimits sc xs) noRoom) (check (hasRoom (limitsOf o) sc xs) demoFull) e in
+    (passed _ 8 (p .0), passed _ 18 (p .1))
+
+-- of a compile: those, 17, 8, 9 and 19
 pub record CompilePassed (h : Sheet) (j n : ℕ) (sc : Script) (c : Call) : Type 0 where
   pub sheet : sheetRefusal h ≡ 0
   pub judged : j ≡ 0
@@ -70,10 +78,12 @@ pub record CompilePassed (h : Sheet) (j n : ℕ) (sc : Script) (c : Call) : Type
   pub born : n ≡ 0
   pub slots : all (slotOk h) (withSlots (c .shop)) ≡ true
   pub room : hasRoom discLimits sc (freshBlocks h sc c) ≡ true
+  pub loads : hasRoom (limitsOf (c .loader)) sc (freshBlocks h sc c) ≡ true
 
 pub compile-passed : (h : Sheet) (j n : ℕ) (sc : Script) (c : Call) → compileChecks h j n sc c ≡ 0 → CompilePassed h j n sc c
 unfolding compileChecks
 compile-passed h j n sc c e =
-    let p = first4 (sharedRefusal h j sc (c .setup)) (check (eqb n 0) bornLater) (shopRefusal h (c .shop)) (check (hasRoom discLimits sc (freshBlocks h sc c)) noRoom) e in
+    let p = first4 (sharedRefusal h j sc (c .setup)) (check (eqb n 0) bornLater) (shopRefusal h (c .shop)) (roomRefusal (c .loader) sc (freshBlocks h sc c)) e in
     let q = shared-passed h j sc (c .setup) (p .0) in
-    record { sheet = q .0; judged = q .1; inside = setup-inside sc (c .setup) (q .2); born = eqb-true _ _ (passed _ 16 (p .1)); slots = passed _ 7 (p .2); room = passed _ 8 (p .3) }
+    let r = room-passed (c .loader) sc (freshBlocks h sc c) (p .3) in
+    record { sheet = q .0; judged = q .1; inside = setup-inside sc (c .setup) (q .2); born = eqb-true _ _ (passed _ 16 (p .1)); slots = passed _ 7 (p .2); room = r .0; loads = r .1 }

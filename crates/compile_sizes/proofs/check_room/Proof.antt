@@ -1,0 +1,86 @@
+-- `check_room` meets its contract: there is room for every shop, or the shop is counted and asked by both limits. Assumes nothing.
+use mathlib.Core.Path.{refl, ap, sym, _∙_}
+use native.Mathlib.Omega.{arith}
+use borrow.Author.Needs.{needs}
+use borrow.Author.Tests.{not-true, not-false}
+use Rattle.model.specs.declared.Loader.the-variants.{Disc}
+use Rattle.model.specs.Compile.{limitsOf}
+use Rattle.shop.specs.Shapes.{sheetOf, slotsOf}
+use Rattle.shop_arrays.specs.Arrays.{arraysIn, shopFrom}
+use Rattle.shop_arrays.specs.Slots.{slots-long}
+use Rattle.compile_sizes.specs.Room.{asked, within, limitsIn, refused-disc, refused-loader, has-room}
+use Rattle.compile_sizes.specs.Most.{most-within}
+use Rattle.compile_sizes.proofs.check_room.Statement.{statement}
+use Rattle.compile_sizes.proofs.check_room.Tie as tie
+
+limits-of-requires : tie.Need-limits-of-requires
+limits-of-requires c κs = search needs
+
+sized-requires : tie.Need-sized-requires
+sized-requires c κs = search needs
+
+room-requires : tie.Need-room-requires
+room-requires c κs = rw (c .sized .ensures) (record { blocks = omega arith; commands = omega arith; nodes = omega arith })
+
+returns : tie.Need-returns
+returns c = λ sc b m n.
+    let s = c .before .before .before .before .before in
+    let a = arraysIn (s .args .items .now) (s .args .limits .now) (s .args .codes .now) (s .args .lens .now) in
+    let l = c .before .before .before .limits-of in
+    has-room (s .args .loader) (sheetOf (s .args .attached .now) (s .args .sheet)) (slotsOf (shopFrom a)) (s .args .k) _ refl sc b m n
+    (most-within (limitsOf (s .args .loader)) (s .args .k) (sheetOf (s .args .attached .now) (s .args .sheet)) (shopFrom a) (s .pre) (slots-long a)
+    (asked (l .result) (s .args .loader) (s .args .k) _ _ _ (l .ensures) (c .before .room .ensures ∙ ap (within (limitsIn (l .result)) (s .args .k)) (c .before .before .sized .ensures)) (c .if1 .taken)))
+
+shop-size-requires : tie.Need-shop-size-requires
+shop-size-requires c κs = search needs
+
+limits-of-requires-2 : tie.Need-limits-of-requires-2
+limits-of-requires-2 c κs = search needs
+
+room-requires-2 : tie.Need-room-requires-2
+room-requires-2 c κs = c .before .shop-size .ensures .1
+
+returns-2 : tie.Need-returns-2
+returns-2 c = λ sc b m n.
+    let s = c .before .before .before .before .before .before .before .before .before in
+    let z = c .before .before .before .shop-size in
+    let d = c .before .before .limits-of2 in
+    refused-disc (s .args .loader) _ _ (s .args .k) (z .result) (z .ensures .0) sc b m n
+    (asked (d .result) Disc (s .args .k) (z .result) _ _ (d .ensures) (c .before .room2 .ensures) (not-true _ (c .if2 .taken)))
+
+room-requires-3 : tie.Need-room-requires-3
+room-requires-3 c κs = c .before .before .before .shop-size .ensures .1
+
+returns-3 : tie.Need-returns-3
+returns-3 c = λ sc b m n.
+    let s = c .before .before .before .before .before .before .before .before .before .before .before in
+    let z = c .before .before .before .before .before .shop-size in
+    let d = c .before .before .before .before .limits-of2 in
+    let l = c .before .before .before .before .before .before .before .before .before .limits-of in
+    refused-loader (s .args .loader) _ _ (s .args .k) (z .result) (z .ensures .0) sc b m n
+    (asked (d .result) Disc (s .args .k) (z .result) _ _ (d .ensures) (c .before .before .before .room2 .ensures) (not-false _ (c .before .before .if2 .left)))
+    (asked (l .result) (s .args .loader) (s .args .k) (z .result) _ _ (l .ensures) (c .before .room3 .ensures) (not-true _ (c .if3 .taken)))
+
+returns-4 : tie.Need-returns-4
+returns-4 c = λ sc b m n.
+    let s = c .before .before .before .before .before .before .before .before .before .before .before in
+    let z = c .before .before .before .before .before .shop-size in
+    let l = c .before .before .before .before .before .before .before .before .before .limits-of in
+    has-room (s .args .loader) _ _ (s .args .k) (z .result) (z .ensures .0) sc b m n
+    (asked (l .result) (s .args .loader) (s .args .k) (z .result) _ _ (l .ensures) (c .before .room3 .ensures) (not-false _ (c .if3 .left)))
+
+pub check-room-spec : {M : Type 1} → statement M
+check-room-spec =
+    tie.close
+    (tie.spec
+    limits-of-requires
+    sized-requires
+    room-requires
+    returns
+    shop-size-requires
+    limits-of-requires-2
+    room-requires-2
+    returns-2
+    room-requires-3
+    returns-3
+    returns-4)
