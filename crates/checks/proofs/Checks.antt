@@ -37,10 +37,6 @@ pub count-natural : (z : ℤ) → SFits w16 z → ltZ z (pos 0) ≡ false → is
 count-natural (pos n) f t = let h : n < 32768 = f .sfits in rw (le-leb 0 n (omega arith), le-leb n 32767 (omega arith))
 count-natural (negsuc n) f t = absurd (subst T t tt)
 
-pub and-true : (b : Bool) → b && true ≡ b
-and-true true = refl
-and-true false = refl
-
 pub save-is : (ks : List ℕ) (h : code.Sheet) (items : List ℤ) (atcs flags : List ℕ) (times vars : List ℤ)
     → saveOk (sheetOf ks h) (saveOf items atcs flags times vars)
     ≡ ((eqb (length items) (length ks) && all isCount items)

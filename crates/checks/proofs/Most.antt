@@ -1,6 +1,6 @@
 -- The largest of the numbers passed is 0 or 1 where each of them is. Assumes nothing.
 use mathlib.Core.Path.{_≡_, refl, sym, ap, _∙_}
-use mathlib.Core.Bool.{Bool, true, false, _&&_}
+use mathlib.Core.Bool.{Bool, true, false, _&&_, and-true}
 use mathlib.Core.List.{List}
 use Prim.Native.Nat.{ℕ, _+_, _≤_, _<_}
 use native.Mathlib.Numerals.{add-one}
@@ -10,15 +10,12 @@ use lib.ListN.{length, drop, getD, drop-of-length-le}
 use lib.Seq.{drop-cons}
 use borrow.Author.Tests.{le-leb, leb-true}
 use Rattle.model.specs.Sheet.{all, isBit}
+use Rattle.model.specs.Laws.Runs.{and-swap}
 
 -- m is the largest of the first i
 pub record Most (xs : List ℕ) (i m : ℕ) : Type 0 where
   pub low : i ≤ length xs
   pub is : all isBit xs ≡ isBit m && all isBit (drop i xs)
-
-and-true : (b : Bool) → b && true ≡ b
-and-true true = refl
-and-true false = refl
 
 -- a number that is at most another adds nothing to the test of the other
 covered : (x m : ℕ) (r : Bool) → x ≤ m → isBit m && (isBit x && r) ≡ isBit m && r
@@ -27,11 +24,6 @@ covered x m r l = by (isBit m) refl
     by : (t : Bool) → isBit m ≡ t → t && (isBit x && r) ≡ t && r
     by true e = rw (le-leb x 1 (omega (arith, leb-true m 1 e)))
     by false e = refl
-
-swapped : (a b c : Bool) → a && (b && c) ≡ b && (a && c)
-swapped true b c = refl
-swapped false true c = refl
-swapped false false c = refl
 
 module _ (xs : List ℕ) where
   pub start : Most xs 0 0
@@ -48,7 +40,7 @@ module _ (xs : List ℕ) where
     rises h l =
         record {
           low = omega arith;
-          is = next h ∙ swapped (isBit m) (isBit (getD xs i 0)) (all isBit (drop (i + 1) xs)) ∙ covered m (getD xs i 0) (all isBit (drop (i + 1) xs)) (omega arith);
+          is = next h ∙ and-swap (isBit m) (isBit (getD xs i 0)) (all isBit (drop (i + 1) xs)) ∙ covered m (getD xs i 0) (all isBit (drop (i + 1) xs)) (omega arith);
         }
 
     pub done : length xs ≤ i → isBit m ≡ all isBit xs

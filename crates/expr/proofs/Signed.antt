@@ -28,11 +28,6 @@ eq-bits (pos a) (negsuc b) f g = let h : a < 2147483648 = f .sfits in let k : b 
 eq-bits (negsuc a) (pos b) f g = let h : a < 2147483648 = f .sfits in let k : b < 2147483648 = g .sfits in ne-eqb (4294967296 - suc a) b (λ e. omega arith)
 eq-bits (negsuc a) (negsuc b) f g = let h : a < 2147483648 = f .sfits in let k : b < 2147483648 = g .sfits in comp-eqb a b (omega arith) (omega arith) (ℕ-discrete a b)
 
--- a number that is not negative names its place
-pub not-negative : (x : ℤ) → ltZ x (pos 0) ≡ false → T (nonNeg x)
-not-negative (pos n) t = tt
-not-negative (negsuc n) t = absurd (subst T t tt)
-
 pub place-natural : (x : ℤ) (m : ℕ) → ltZ x (pos 0) ≡ false → natAbs x ≡ placeOf x m
 place-natural (pos n) m t = refl
 place-natural (negsuc n) m t = absurd (subst T t tt)

@@ -1,6 +1,6 @@
 -- The sheet and the number of an Imm as the code has them, and that reading a negated condition is reading with the other sign. Assumes nothing.
 use mathlib.Core.Path.{_≡_, refl, sym, ap, _∙_}
-use mathlib.Core.Bool.{Bool, true, false, not, cond}
+use mathlib.Core.Bool.{Bool, true, false, not, cond, Bool·not-not}
 use mathlib.Core.Option.{Option, none, some}
 use mathlib.Core.List.{List}
 use Prim.Native.Nat.{ℕ}
@@ -26,10 +26,6 @@ numberOf (Is z) = some z
 
 -- ---- a negated condition: the parser needs no memory for it
 
-not-not : (b : Bool) → not (not b) ≡ b
-not-not true = refl
-not-not false = refl
-
 pub negate-twice : (q : Requirement) → negateReq (negateReq q) ≡ q
 negate-twice (haveItem i) = refl
 negate-twice (missingItem i) = refl
@@ -50,7 +46,7 @@ add-negated n (some z) o rs = go (isZero z) n o
     go true false (some q) = refl
 
 add-plain : (n : Bool) (v : Option ℤ) (o : Option Requirement) (rs : List Requirement) → addReq n (ifZero v o) rs ≡ addReq (not n) (ifZero v (mapReq negateReq o)) rs
-add-plain n v o rs = ap (λ (b : Bool). addReq b (ifZero v o) rs) (sym (not-not n)) ∙ sym (add-negated (not n) v o rs)
+add-plain n v o rs = ap (λ (b : Bool). addReq b (ifZero v o) rs) (sym (Bool·not-not n)) ∙ sym (add-negated (not n) v o rs)
 
 pub gather-negate : (h : Sheet) (e : Expr) (n : Bool) (rs : List Requirement) → gather h (negate e) n rs ≡ gather h e (not n) rs
 unfolding gather
@@ -64,7 +60,7 @@ gather-negate h (two Add a b) n rs = refl
 gather-negate h (two Subtract a b) n rs = refl
 gather-negate h (two BitAnd a b) n rs = gather-negate h b n (gather h (negate a) n rs) ∙ ap (gather h b (not n)) (gather-negate h a n rs)
 gather-negate h (two BitOr a b) n rs = gather-negate h b n (gather h (negate a) n rs) ∙ ap (gather h b (not n)) (gather-negate h a n rs)
-gather-negate h (one Not a) n rs = ap (λ (b : Bool). gather h a b rs) (sym (not-not n))
+gather-negate h (one Not a) n rs = ap (λ (b : Bool). gather h a b rs) (sym (Bool·not-not n))
 gather-negate h (one Flag a) n rs = refl
 gather-negate h (one Variable a) n rs = refl
 gather-negate h (one Item a) n rs = refl

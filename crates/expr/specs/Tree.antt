@@ -112,19 +112,3 @@ unfolding tree
 tree-frame n s t f j h = frame-to n s t f (suc j) j h
 
 -- ---- how many nodes
-
-pub size-pos : (e : Expr) → 0 < size e
-unfolding size
-size-pos (two o a b) = omega arith
-size-pos (one o a) = omega arith
-size-pos (imm16 z) = omega arith
-size-pos (imm32 z) = omega arith
-size-pos other = omega arith
-
-pub count-put : (s : Nodes) (e : Expr) → putExpr s e .count ≡ s .count + size e
-unfolding putExpr size
-count-put s (two o a b) = omega (arith, count-put s a, count-put (putExpr s a) b)
-count-put s (one o a) = omega (arith, count-put s a)
-count-put s (imm16 z) = refl
-count-put s (imm32 z) = refl
-count-put s other = refl

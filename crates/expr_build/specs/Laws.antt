@@ -18,8 +18,8 @@ use Rattle.model.specs.declared.Op2.{Op2}
 use Rattle.model.specs.declared.Op1.{Op1}
 use Rattle.model.specs.Memory.{Nodes, Coded, Memory, pushNode, putExpr}
 use Rattle.memory.specs.Pushed.{PushedNode, PutExpr}
-use Rattle.expr.specs.Tree.{size-pos}
 use Rattle.expr_build.specs.Put.{PutImm}
+use Rattle.memory.specs.PutNodes.{size-pos}
 
 pub imm16-put : {s t : Nodes} {z : ℤ} → PushedNode s 11 0 0 z t → PutExpr s (imm16 z) t
 unfolding putExpr size

@@ -20,8 +20,7 @@ use Rattle.model.specs.declared.Kind.{Kind}
 use Rattle.model.specs.declared.Kind.the-variants.{Two, One, Imm16, Imm32, Other}
 use Rattle.memory.specs.Pushed.{PushedNode, PutExpr}
 use Rattle.memory.specs.Sound.{LongNodes}
-use Rattle.memory.specs.PutNodes.{PutTree, push-grown, push-holds, put-tree}
-use Rattle.expr.specs.Tree.{size-pos, count-put}
+use Rattle.memory.specs.PutNodes.{PutTree, push-grown, push-holds, put-tree, size-pos, count-put}
 use Rattle.expr_negate.specs.Turns.{flip, flipCode, isSum, operatorOf, rootKind, Flips, compared, joined, Turns, flips, gains, negate-compared, negate-joined, negate-gains, flips-root, gains-root, flips-size, turns-size, flip-code, compare-code, join-code, join-no-sum}
 
 -- the nodes of e from node c on, with the operators of its negation

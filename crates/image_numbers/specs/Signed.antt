@@ -13,6 +13,7 @@ use mir.ValLaws.{toZ-pos}
 use mir.Facts.{toZ-ofZ}
 use Rattle.model.specs.Limits.{wide}
 use Rattle.model.specs.Reading.{zig, zag}
+use Rattle.model.specs.Laws.Signed.{minus-one}
 
 -- ---- folded
 
@@ -57,10 +58,6 @@ pub zag-odd : (n : ℕ) → (n % 2 ≡ 0 → ⊥) → zag n ≡ negsuc (n / 2)
 unfolding zag
 zag-odd n h = rw (ne-eqb (n % 2) 0 h)
 
-minus : (m : ℕ) → negsuc 0 -ℤ pos m ≡ negsuc m
-minus zero = refl
-minus (suc m) = ap negsuc (omega arith)
-
 module _ (v : ℕ) (h : v < wide) where
   half : toZ w32 (v / 2) ≡ pos (v / 2)
   half = toZ-pos w32 (v / 2) (omega arith)
@@ -69,7 +66,7 @@ module _ (v : ℕ) (h : v < wide) where
   signed-even e = half ∙ sym (zag-even v e)
 
   down : negsuc 0 -ℤ toZ w32 (v / 2) ≡ negsuc (v / 2)
-  down = ap (λ (z : ℤ). negsuc 0 -ℤ z) half ∙ minus (v / 2)
+  down = ap (λ (z : ℤ). negsuc 0 -ℤ z) half ∙ minus-one (v / 2)
 
   pub signed-fits : SFits w32 (negsuc 0 -ℤ toZ w32 (v / 2))
   signed-fits = rw down (record { sfits = omega arith })

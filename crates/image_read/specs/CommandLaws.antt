@@ -15,7 +15,6 @@ use Rattle.model.specs.Script.{return, goto, setVariable, setOther, ifElse, end
 use Rattle.model.specs.Image.{Limits, readExpr, readBlockNo, readTerm, setOf, commandOf, readCommand}
 use Rattle.model.specs.Memory.{Nodes, nodesIn, putExpr, codedIn, pushCommand, putCommand}
 use Rattle.memory.specs.Pushed.{PushedCommand}
-use Rattle.image_read.specs.Counts.{count-put}
 use Rattle.image_numbers.specs.Told.{Told}
 use Rattle.image_read.specs.Told.{readAt, ToldExpr, limitsOf, ToldNo, ToldJump, ToldCommand, ToldSet}
 use Rattle.image_read.specs.ExprLaws.{done, grown}
@@ -23,6 +22,7 @@ use Rattle.image_numbers.specs.declared.Num.{Num}
 use Rattle.image_numbers.specs.declared.Num.the-variants.{Got, Bad}
 use Rattle.image_read.specs.declared.Step.{Step}
 use Rattle.image_read.specs.declared.Step.the-variants.{Got as Done, No}
+use Rattle.memory.specs.PutNodes.{count-put}
 
 -- ---- a block's number
 

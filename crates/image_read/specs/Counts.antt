@@ -7,22 +7,7 @@ use lib.ListN.{length}
 use Rattle.model.specs.Expr.{Expr, two, one, imm16, imm32, other, size}
 use Rattle.model.specs.Script.{Command, return, goto, setVariable, setOther, ifElse, endIf, otherCommand, commandNodes, commandsNodes, Block, placeholder, code, dataBlock, blockNodes, blockCommands, sumOf}
 use Rattle.model.specs.Memory.{Nodes, putExpr, Coded, putCommand, putCommands, Memory, putBlock, putBlocks}
-
-pub count-put : (s : Nodes) (e : Expr) → putExpr s e .count ≡ s .count + size e
-unfolding putExpr size
-count-put s (two o a b) = omega (arith, count-put s a, count-put (putExpr s a) b)
-count-put s (one o a) = omega (arith, count-put s a)
-count-put s (imm16 z) = refl
-count-put s (imm32 z) = refl
-count-put s other = refl
-
-pub size-pos : (e : Expr) → 0 < size e
-unfolding size
-size-pos (two o a b) = omega arith
-size-pos (one o a) = omega arith
-size-pos (imm16 z) = omega arith
-size-pos (imm32 z) = omega arith
-size-pos other = omega arith
+use Rattle.memory.specs.PutNodes.{count-put}
 
 pub nodes-command : (s : Coded) (c : Command) → putCommand s c .nodes .count ≡ s .nodes .count + commandNodes c
 unfolding putCommand commandNodes

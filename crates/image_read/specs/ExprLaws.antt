@@ -19,13 +19,13 @@ use Rattle.model.specs.declared.Op1.{Op1}
 use Rattle.model.specs.declared.Kind.{Kind}
 use Rattle.model.specs.declared.Kind.the-variants.{Two, One, Imm16, Imm32, Other}
 use Rattle.memory.specs.Pushed.{PushedNode}
-use Rattle.image_read.specs.Counts.{count-put, size-pos}
 use Rattle.image_numbers.specs.Told.{Told}
 use Rattle.image_read.specs.Told.{ToldImm, readAt, Head, ToldHead, ToldExpr, PutTerm, Roomy, AboveOne, AboveTwo}
 use Rattle.image_numbers.specs.declared.Num.{Num}
 use Rattle.image_numbers.specs.declared.Num.the-variants.{Got, Bad}
 use Rattle.image_read.specs.declared.Step.{Step}
 use Rattle.image_read.specs.declared.Step.the-variants.{Got as Done, No}
+use Rattle.memory.specs.PutNodes.{count-put, size-pos}
 
 -- ---- a number that is pushed
 

@@ -6,6 +6,7 @@ use native.Mathlib.Omega.{arith}
 use lib.ListN.{length}
 use lib.Seq.{append-snoc}
 use Rattle.model.specs.Reading.{Answer, got, refused, onward}
+use Rattle.image_numbers.specs.Answers.{seen-more, seen-none}
 
 -- of h pieces from the first on i were read, and led from state s to state u and from byte at to byte p
 pub record Part {A S : Type 0} (many : ℕ → S → List ℕ → Answer (List A)) (pieces : ℕ → ℕ → List ℕ) (h first : ℕ) (s : S) (at i : ℕ) (u : S) (p : ℕ) : Type 0 where
@@ -18,15 +19,6 @@ pub record Next {A S : Type 0} (many : ℕ → S → List ℕ → Answer (List A
   pub reads : (t : List ℕ) → many (suc c) s (pieces (suc c) f ++ t) ≡ onward (many c u (pieces c (suc f) ++ t)) (λ xs r. got (x ∷ xs) r)
   pub bytes : p + length (pieces c (suc f)) ≡ at + length (pieces (suc c) f)
 
-module _ {A : Type 0} where
-  pub nothing : (a : Answer (List A)) → a ≡ onward a (λ ys r. got ([] ++ ys) r)
-  nothing (got zs r) = refl
-  nothing (refused e) = refl
-
-  pub one-more : (a : Answer (List A)) (seen : List A) (x : A) → onward (onward a (λ zs u. got (x ∷ zs) u)) (λ ys r. got (seen ++ ys) r) ≡ onward a (λ zs r. got ((seen ++ x ∷ []) ++ zs) r)
-  one-more (got zs r) seen x = ap (λ (l : List A). got l r) (sym (append-snoc seen x zs))
-  one-more (refused e) seen x = refl
-
 module _ {A S : Type 0} (many : ℕ → S → List ℕ → Answer (List A)) (pieces : ℕ → ℕ → List ℕ) (h first : ℕ) (s : S) (at : ℕ) where
   abbrev pub part-start : Part many pieces h first s at 0 s at
   part-start =
@@ -34,7 +26,7 @@ module _ {A S : Type 0} (many : ℕ → S → List ℕ → Answer (List A)) (pie
       let f : first + 0 ≡ first = omega arith in
       record {
         seen = [];
-        reads = λ t. rw (e, f) (nothing (many h s (pieces h first ++ t)));
+        reads = λ t. rw (e, f) (seen-none (many h s (pieces h first ++ t)));
         bytes = rw (e, f);
       }
 
@@ -46,7 +38,7 @@ module _ {A S : Type 0} (many : ℕ → S → List ℕ → Answer (List A)) (pie
         let b : p + length (pieces (suc (h - (i + 1))) (first + i)) ≡ at + length (pieces h first) = rw e at (P .bytes) in
         record {
           seen = P .seen ++ x ∷ [];
-          reads = λ t. P .reads t ∙ rw (e, f) (ap (λ (a : Answer (List A)). onward a (λ ys r. got (P .seen ++ ys) r)) (N .reads t) ∙ one-more (many (h - (i + 1)) v (pieces (h - (i + 1)) (suc (first + i)) ++ t)) (P .seen) x);
+          reads = λ t. P .reads t ∙ rw (e, f) (ap (λ (a : Answer (List A)). onward a (λ ys r. got (P .seen ++ ys) r)) (N .reads t) ∙ seen-more (many (h - (i + 1)) v (pieces (h - (i + 1)) (suc (first + i)) ++ t)) (P .seen) x);
           bytes = rw f (omega (arith, N .bytes, b));
         }
 

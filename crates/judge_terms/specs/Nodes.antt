@@ -24,6 +24,7 @@ use Rattle.judge_terms.specs.Told.{Told, immJudged}
 use Rattle.judge_terms.specs.Pieces.{fine, none, good-of, no-of, moved, looser, wrapped, first-no, paired}
 use Rattle.judge_terms.specs.declared.Step.{Step}
 use Rattle.judge_terms.specs.declared.Step.the-variants.{Fine, No}
+use Rattle.memory.specs.NodeLaws.{image-node, image-none}
 
 -- ---- an immediate
 
@@ -36,38 +37,6 @@ unfolding immJudged
 imm-no v l n at u e h = rw (← e, le-ltb u l h)
 
 -- ---- the image of a node is its code before its operands' images
-
-follow-same : (f g : ℕ → ℕ → List ℕ) (ns : Nodes) (i : ℕ) → ((j : ℕ) → f i j ≡ g i j) → (k : Kind) → followImage f ns i k ≡ followImage g ns i k
-unfolding followImage
-follow-same f g ns i h (Two o) = ap₂ (λ (x y : List ℕ). x ++ y) (h (leftAt ns i)) (h (rightAt ns i))
-follow-same f g ns i h (One o) = h (leftAt ns i)
-follow-same f g ns i h Imm16 = refl
-follow-same f g ns i h Imm32 = refl
-follow-same f g ns i h Other = refl
-
--- any number of levels from b on will do
-enough : (ns : Nodes) (f g b i : ℕ) → b ≤ f → b ≤ g → nodeImageTo ns f b i ≡ nodeImageTo ns g b i
-unfolding nodeImageTo
-enough ns zero zero b i h k = refl
-enough ns zero (suc g) b i h k = sym (rw (le-ltb i b (omega arith)))
-enough ns (suc f) zero b i h k = rw (le-ltb i b (omega arith))
-enough ns (suc f) (suc g) b i h k = go (ltb i b) refl (λ lt j. enough ns f g i j (omega arith) (omega arith))
-  where
-    go : (t : Bool) → ltb i b ≡ t → (i < b → (j : ℕ) → nodeImageTo ns f i j ≡ nodeImageTo ns g i j)
-        → cond t (word (codeAt ns i) ++ followImage (nodeImageTo ns f) ns i (kindOf (codeAt ns i))) (word 19) ≡ cond t (word (codeAt ns i) ++ followImage (nodeImageTo ns g) ns i (kindOf (codeAt ns i))) (word 19)
-    go true e ih = ap (λ (x : List ℕ). word (codeAt ns i) ++ x) (follow-same (nodeImageTo ns f) (nodeImageTo ns g) ns i (ih (ltb-true i b e)) (kindOf (codeAt ns i)))
-    go false e ih = refl
-
-pub node-out : (ns : Nodes) (b i : ℕ) → b ≤ i → nodeImage ns b i ≡ word 19
-unfolding nodeImage nodeImageTo
-node-out ns zero i h = refl
-node-out ns (suc b) i h = rw (le-ltb i (suc b) h)
-
-pub node-in : (ns : Nodes) (b i : ℕ) → i < b → nodeImage ns b i ≡ word (codeAt ns i) ++ followImage (nodeImage ns) ns i (kindOf (codeAt ns i))
-unfolding nodeImage nodeImageTo
-node-in ns zero i h = absurd (omega arith)
-node-in ns (suc b) i h =
-    rw (lt-ltb i (suc b) h) (ap (λ (x : List ℕ). word (codeAt ns i) ++ x) (follow-same (nodeImageTo ns b) (λ c j. nodeImageTo ns c c j) ns i (λ j. enough ns b i i j (omega arith) (omega arith)) (kindOf (codeAt ns i))))
 
 -- ---- reading, by what the code is
 
@@ -94,16 +63,16 @@ module _ (l : ℕ) (s : List ℕ) where
 
 module _ (ns : Nodes) (b i l n at o : ℕ) where
   pub node-absent : b ≤ i → Told (readExpr l (64 - o) n) size (nodeImage ns b i) l 0 n at (No 2)
-  node-absent h = none (λ t. rw (node-out ns b i h) (read-bad l (word 19 ++ t) (64 - o) n (read-over 19 19 t (omega arith))))
+  node-absent h = none (λ t. rw (image-none ns b i h) (read-bad l (word 19 ++ t) (64 - o) n (read-over 19 19 t (omega arith))))
 
   module _ (lt : i < b) where
     pub node-unknown : 19 ≤ codeAt ns i → Told (readExpr l (64 - o) n) size (nodeImage ns b i) l 0 n at (No 2)
-    node-unknown h = none (λ t. rw (node-in ns b i lt, append-assoc) (read-bad l (word (codeAt ns i) ++ (followImage (nodeImage ns) ns i (kindOf (codeAt ns i)) ++ t)) (64 - o) n (read-over 19 (codeAt ns i) _ h)))
+    node-unknown h = none (λ t. rw (image-node ns b i lt, append-assoc) (read-bad l (word (codeAt ns i) ++ (followImage (nodeImage ns) ns i (kindOf (codeAt ns i)) ++ t)) (64 - o) n (read-over 19 (codeAt ns i) _ h)))
 
     module _ (low : codeAt ns i < 19) where
       kind-read : (t : List ℕ) → readKind (nodeImage ns b i ++ t) ≡ got (kindOf (codeAt ns i)) (followImage (nodeImage ns) ns i (kindOf (codeAt ns i)) ++ t)
       unfolding readKind
-      kind-read t = rw (node-in ns b i lt, append-assoc, read-word 19 (codeAt ns i) (followImage (nodeImage ns) ns i (kindOf (codeAt ns i)) ++ t) low (omega arith))
+      kind-read t = rw (image-node ns b i lt, append-assoc, read-word 19 (codeAt ns i) (followImage (nodeImage ns) ns i (kindOf (codeAt ns i)) ++ t) low (omega arith))
 
       pub node-over : l ≤ n → Told (readExpr l (64 - o) n) size (nodeImage ns b i) l 0 n at (No 3)
       node-over h = none (λ t. read-full l (nodeImage ns b i ++ t) (64 - o) n _ _ (kind-read t) h)
@@ -144,7 +113,7 @@ module _ (ns : Nodes) (b i l n at o : ℕ) (k : Kind) (W : Within ns b i l n o k
 
   long : length (nodeImage ns b i) ≡ 1 + length (followImage (nodeImage ns) ns i k)
   long = let u = W .known in
-      rw (node-in ns b i (W .below), ← W .kind) (omega (arith, length-append (word (codeAt ns i)) (followImage (nodeImage ns) ns i k), word-1 (codeAt ns i) (omega arith)))
+      rw (image-node ns b i (W .below), ← W .kind) (omega (arith, length-append (word (codeAt ns i)) (followImage (nodeImage ns) ns i k), word-1 (codeAt ns i) (omega arith)))
 
   -- its operands are judged as what follows the code, one node and one byte further
   node-of : {r : Step} → Told (readOperands (readExpr l (64 - (o + 1))) n k) inner (followImage (nodeImage ns) ns i k) l 5 (n + 1) (at + 1) r → Told (readExpr l (64 - o) n) size (nodeImage ns b i) l 0 n at r

@@ -228,3 +228,21 @@ put-tree s (imm32 z) g h =
 put-tree s other g h =
     let f = push-holds s 18 0 0 (pos 0) g (omega arith) in
     last-put s s other 18 0 0 (pos 0) g (grown-same s) refl (well-other (f .code)) (tree-other (pushNode s 18 0 0 (pos 0)) (s .count) (f .code))
+
+-- ---- a tree has a node, and as many are put as it has
+
+pub size-pos : (e : Expr) → 0 < size e
+unfolding size
+size-pos (two o a b) = omega arith
+size-pos (one o a) = omega arith
+size-pos (imm16 z) = omega arith
+size-pos (imm32 z) = omega arith
+size-pos other = omega arith
+
+pub count-put : (s : Nodes) (e : Expr) → putExpr s e .count ≡ s .count + size e
+unfolding putExpr size
+count-put s (two o a b) = omega (arith, count-put s a, count-put (putExpr s a) b)
+count-put s (one o a) = omega (arith, count-put s a)
+count-put s (imm16 z) = refl
+count-put s (imm32 z) = refl
+count-put s other = refl

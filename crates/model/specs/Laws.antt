@@ -29,3 +29,4 @@ pub mod Lists
 pub mod Calls
 pub mod Files
 pub mod Over
+pub mod Marks

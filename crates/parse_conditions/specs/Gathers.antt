@@ -1,6 +1,6 @@
 -- What is gathered is what gather inserts; it takes three nodes an entry, but for one; a negated condition gathers the negations. Assumes nothing.
 use mathlib.Core.Path.{_≡_, refl, sym, ap, _∙_}
-use mathlib.Core.Bool.{Bool, true, false, not, cond}
+use mathlib.Core.Bool.{Bool, true, false, not, cond, Bool·not-not}
 use mathlib.Core.Option.{Option, none, some}
 use mathlib.Core.List.{List, [], _∷_, _++_, map, map-append}
 use Prim.Native.Nat.{suc, _+_, _*_, _≤_}
@@ -68,10 +68,6 @@ gathered-size h other n = omega arith
 
 -- ---- negation is the other sign
 
-not-not : (n : Bool) → not (not n) ≡ n
-not-not true = refl
-not-not false = refl
-
 if-neg : (n : Bool) (z : Option ℤ) (o : Option Requirement) → mapReq (signed n) (ifZero z (mapReq negateReq o)) ≡ mapReq (signed (not n)) (ifZero z o)
 if-neg n none o = refl
 if-neg n (some z) o = by (isZero z)
@@ -84,7 +80,7 @@ single-neg : (n : Bool) (z : Option ℤ) (o : Option Requirement) → single (ma
 single-neg n z o = ap single (if-neg n z o)
 
 single-pos : (n : Bool) (z : Option ℤ) (o : Option Requirement) → single (mapReq (signed n) (ifZero z o)) ≡ single (mapReq (signed (not n)) (ifZero z (mapReq negateReq o)))
-single-pos n z o = ap single (sym (if-neg (not n) z o ∙ ap (λ m. mapReq (signed m) (ifZero z o)) (not-not n)))
+single-pos n z o = ap single (sym (if-neg (not n) z o ∙ ap (λ m. mapReq (signed m) (ifZero z o)) (Bool·not-not n)))
 
 gathered-negate : (h : Sheet) (e : Expr) (n : Bool) → gathered h (negate e) n ≡ gathered h e (not n)
 unfolding gathered
@@ -98,7 +94,7 @@ gathered-negate h (two Add a b) n = refl
 gathered-negate h (two Subtract a b) n = refl
 gathered-negate h (two BitAnd a b) n = rw (gathered-negate h a n, gathered-negate h b n)
 gathered-negate h (two BitOr a b) n = rw (gathered-negate h a n, gathered-negate h b n)
-gathered-negate h (one Not a) n = ap (gathered h a) (sym (not-not n))
+gathered-negate h (one Not a) n = ap (gathered h a) (sym (Bool·not-not n))
 gathered-negate h (one Flag a) n = refl
 gathered-negate h (one Variable a) n = refl
 gathered-negate h (one Item a) n = refl

@@ -1,6 +1,6 @@
 -- The steps of parse_requirements put together: the marks of the condition, what of it is alive, and the set of what stays. Assumes nothing.
 use mathlib.Core.Path.{_≡_, refl, sym, ap, _∙_}
-use mathlib.Core.Bool.{Bool, true, false, not, _&&_, _||_}
+use mathlib.Core.Bool.{Bool, true, false, not, _&&_, _||_, true≢false}
 use mathlib.Core.List.{List, _++_, map}
 use Prim.Native.Nat.{ℕ, zero, suc, _/_, _≤_, _<_}
 use native.Mathlib.Omega.{arith}
@@ -14,8 +14,9 @@ use Rattle.parse_filter.specs.ChainLaws.{down, reached-end, reached-step
 use Rattle.parse_filter.specs.Filter.{stay, filtered, unmet, Met, Sifted, companionCodes, negatedCodes, Coded, Holds}
 use Rattle.parse_filter.specs.Frames.{entries-valid}
 use Rattle.parse_filter.specs.Marks.{MarkedAs, Marks, Onward, Unmarks, Served, as-they-are, none-left, Parsed}
-use Rattle.parse_filter.specs.Members.{true≢false, both-ways, or-cases, or-left, or-right, or-comm, has-append, has-stay, place-has, same-set, map-same}
+use Rattle.parse_filter.specs.Members.{or-cases, or-left, or-right, or-comm, has-append, has-stay, place-has, same-set, map-same}
 use Rattle.parse_filter.specs.declared.Marked.{Marked}
+use Rattle.model.specs.Laws.Normal.{both-ways}
 
 -- ---- bounds
 

@@ -1,12 +1,12 @@
 -- The filter for any companions at all, as laws: what it keeps, that marks and words do for a set, and companions of three sorts (02, A.3). Assumes nothing.
 use mathlib.Core.Path.{_≡_, refl, sym, ap, _∙_}
-use mathlib.Core.Bool.{Bool, true, false, not, cond, _&&_, _||_}
+use mathlib.Core.Bool.{Bool, true, false, not, cond, _&&_, _||_, true≢false}
 use mathlib.Core.List.{List, [], _∷_, _++_}
 use Prim.Native.Nat.{ℕ}
 use lib.ListN.{getD}
 use Rattle.parse_filter.specs.Chains.{companionOf, has}
 use Rattle.parse_filter.specs.Filter.{stay, filtered, unmet, HeldAs}
-use Rattle.parse_filter.specs.Members.{true≢false, or-left, or-comm, has-append, has-stay, stay-append, has-self, has-later}
+use Rattle.parse_filter.specs.Members.{or-left, or-comm, has-append, has-stay, stay-append, has-self, has-later}
 
 -- what is kept: an entry of the set, whose companion is not in the set
 pub filtered-has : (xs : List ℕ) (companion : ℕ → ℕ) (e : ℕ) → has e (filtered xs companion) ≡ not (has (companion e) xs) && has e xs

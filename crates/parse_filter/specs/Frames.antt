@@ -1,6 +1,6 @@
 -- The entries of a condition are entries of keys, and they and the marks stay where the tables grow. Assumes nothing.
 use mathlib.Core.Path.{_≡_, refl, sym, ap, _∙_}
-use mathlib.Core.Bool.{Bool, true, false}
+use mathlib.Core.Bool.{Bool, true, false, true≢false}
 use mathlib.Core.List.{List, [], _∷_, map}
 use Prim.Native.Nat.{ℕ, zero, suc, _+_, _-_, _≤_, _<_}
 use native.Mathlib.Omega.{arith}
@@ -10,7 +10,7 @@ use borrow.Author.Tests.{ne-eqb}
 use Rattle.parse_keys.specs.Entries.{Valid}
 use Rattle.parse_filter.specs.Chains.{companionOf, signedEntry, has, joinedTo, fromOf, toOf, isElse, signedPart, partOf, entriesIn, topOf, Chains}
 use Rattle.parse_filter.specs.ChainLaws.{down, entries-at, entries-none}
-use Rattle.parse_filter.specs.Members.{true≢false, or-cases, has-append, map-from, has-place}
+use Rattle.parse_filter.specs.Members.{or-cases, has-append, map-from, has-place}
 use Rattle.parse_filter.specs.Marks.{MarkedAs}
 use Rattle.parse_filter.specs.declared.Marked.{Marked}
 

@@ -1,6 +1,6 @@
 -- Membership in lists of entries, and that a set of codes does not depend on the order in which they came. Assumes nothing.
 use mathlib.Core.Path.{_≡_, refl, sym, ap, _∙_}
-use mathlib.Core.Bool.{Bool, true, false, cond, _&&_, _||_}
+use mathlib.Core.Bool.{Bool, true, false, cond, _&&_, _||_, and-true, true≢false}
 use mathlib.Core.List.{List, [], _∷_, _++_, map}
 use Prim.Native.Nat.{ℕ, zero, suc, _≤_, _<_}
 use native.Mathlib.Omega.{arith}
@@ -13,15 +13,7 @@ use Rattle.shop.specs.Sets.{insertCode, sortedCodes}
 use Rattle.shop.specs.SetLaws.{insert-more}
 use Rattle.parse_filter.specs.Chains.{has}
 use Rattle.parse_filter.specs.Filter.{stay}
-
-pub true≢false : true ≡ false → ⊥
-true≢false e = let z : _≡_ {A = ℕ} 0 1 = cc in omega arith
-
-pub both-ways : (a b : Bool) → (a ≡ true → b ≡ true) → (b ≡ true → a ≡ true) → a ≡ b
-both-ways true true f g = refl
-both-ways true false f g = sym (f refl)
-both-ways false true f g = g refl
-both-ways false false f g = refl
+use Rattle.model.specs.Laws.Normal.{both-ways}
 
 pub or-cases : {Q : Type 0} (a b : Bool) → a || b ≡ true → (a ≡ true → Q) → (b ≡ true → Q) → Q
 or-cases true b e f g = f refl
@@ -60,9 +52,6 @@ has-stay p e [] = by (p e)
     by false = refl
 has-stay p e (x ∷ xs) = by (eqb e x) (p x) refl refl (has-stay p e xs)
   where
-    and-true : (t : Bool) → t && true ≡ t
-    and-true true = refl
-    and-true false = refl
 
     by : (s t : Bool) → eqb e x ≡ s → p x ≡ t → has e (stay p xs) ≡ p e && has e xs → has e (cond t (x ∷ stay p xs) (stay p xs)) ≡ p e && (s || has e xs)
     by true true a b ih = let q : p e ≡ true = ap p (eqb-true e x a) ∙ b in rw (a, q)

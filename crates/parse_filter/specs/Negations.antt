@@ -1,6 +1,6 @@
 -- With the negations as companions the filter leaves the requirements that the definitions leave: contradicting pairs drop, and what stays joins a slot negated. Assumes nothing.
 use mathlib.Core.Path.{_≡_, refl, sym, ap, _∙_}
-use mathlib.Core.Bool.{Bool, true, false, not, cond, _&&_, _||_}
+use mathlib.Core.Bool.{Bool, true, false, not, cond, _&&_, _||_, true≢false}
 use mathlib.Core.List.{List, [], _∷_, map}
 use Prim.Native.Nat.{ℕ, _+_, _/_, _≤_, _<_}
 use native.Mathlib.Omega.{arith}
@@ -23,18 +23,14 @@ use Rattle.parse_keys.specs.Turns.{by-parity, req-even, req-odd, turn-req, turn
 use Rattle.parse_keys.specs.Tables.{Companions}
 use Rattle.parse_filter.specs.Chains.{companionOf, has}
 use Rattle.parse_filter.specs.Filter.{stay, filtered, companionCodes, negatedCodes}
-use Rattle.parse_filter.specs.Members.{true≢false, both-ways, or-cases, or-left, or-right, or-assoc, or-comm, has-self, has-later, member-sorted}
+use Rattle.parse_filter.specs.Members.{or-cases, or-left, or-right, or-assoc, or-comm, has-self, has-later, member-sorted}
 use Rattle.parse_filter.specs.Companions.{filtered-has}
+use Rattle.model.specs.Laws.Normal.{same-move, both-ways}
 
 -- ---- negated requirements
 
 neg-eq : (a b : Requirement) → negateReq a ≡ b → a ≡ negateReq b
 neg-eq a b e = sym (negate-twice a) ∙ ap negateReq e
-
-same-move : (a b : Requirement) → sameReq a (negateReq b) ≡ sameReq (negateReq a) b
-same-move a b = both-ways (sameReq a (negateReq b)) (sameReq (negateReq a) b)
-    (λ e. let p : a ≡ negateReq b = sameReq-true a (negateReq b) e in rw (p, negate-twice b) (same-refl b))
-    (λ e. let p : a ≡ negateReq b = neg-eq a b (sameReq-true (negateReq a) b e) in rw p (same-refl (negateReq b)))
 
 entry-narrow : (ks : List ℕ) (k : ℕ) → Narrow (entryReq ks k)
 entry-narrow ks k = by-parity k

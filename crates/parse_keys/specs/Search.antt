@@ -1,6 +1,6 @@
 -- The keys as a search tree by the bits of a code, lowest first: link 2 * i + bit leads on from key i, and key 0 is the root, which holds nothing. Assumes nothing.
 use mathlib.Core.Path.{_≡_, refl, sym, ap, _∙_}
-use mathlib.Core.Bool.{true, false}
+use mathlib.Core.Bool.{true, false, true≢false}
 use mathlib.Core.List.{List}
 use Prim.Native.Nat.{ℕ, _+_, _-_, _*_, _/_, _%_, _≤_, _<_}
 use native.Mathlib.Decide.{ℕ-discrete}
@@ -100,9 +100,6 @@ keep-reach kd kd' j y at p k (last e) = last (k (link at y) (rw e p) ∙ e)
 keep-reach kd kd' j y at p k (on c q e r) = on c q (k (link at y) (rw e q) ∙ e) (keep-reach kd kd' j (y / 2) c p k r)
 
 -- ---- the answers
-
-true≢false : true ≡ false → ⊥
-true≢false e = let z : _≡_ {A = ℕ} 0 1 = cc in omega arith
 
 pub free-answer : (ks kd : List ℕ) (m c p : ℕ) → Free ks kd m c p → Search ks kd m c (record { at = p; there = false })
 free-answer ks kd m c p f = (λ e. absurd (true≢false (sym e)), λ e. f)

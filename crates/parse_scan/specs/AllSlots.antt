@@ -1,6 +1,6 @@
 -- What a block does to all slots: the slots that it wrote to, the lowest first, and the others as they were. Assumes nothing.
 use mathlib.Core.Path.{_≡_, refl, sym, ap, _∙_, subst}
-use mathlib.Core.Bool.{Bool, true, false, _&&_}
+use mathlib.Core.Bool.{Bool, true, false, _&&_, and-false}
 use mathlib.Core.Option.{Option, none}
 use mathlib.Core.List.{List, [], _∷_}
 use Prim.Native.Nat.{ℕ, zero, suc, _+_, _≤_, _<_}
@@ -57,10 +57,6 @@ slots-at h rs (a ∷ ms) (b ∷ ns) (x ∷ xs) (suc j) d p q l = slots-at h rs m
 all-true : {A : Type 0} (p : A → Bool) (l : List A) (d : A) → ((j : ℕ) → j < length l → p (getD l j d) ≡ true) → all p l ≡ true
 all-true p [] d f = refl
 all-true p (x ∷ l) d f = rw (f 0 (omega arith)) (all-true p l d (λ j h. f (suc j) (omega arith)))
-
-and-false : (b : Bool) → b && false ≡ false
-and-false true = refl
-and-false false = refl
 
 all-false : {A : Type 0} (p : A → Bool) (l : List A) (j : ℕ) (d : A) → j < length l → p (getD l j d) ≡ false → all p l ≡ false
 all-false p [] j d h e = absurd (omega arith)

@@ -190,10 +190,6 @@ pub target-natural : (z : ℤ) → ltZ z (pos 0) ≡ false → placeOf (natAbs z
 target-natural (pos n) t = refl
 target-natural (negsuc n) t = let z : _≡_ {A = ℕ} 0 1 = cc in absurd (omega arith)
 
-pub not-negative : (z : ℤ) → ltZ z (pos 0) ≡ false → T (nonNeg z)
-not-negative (pos n) t = tt
-not-negative (negsuc n) t = let z : _≡_ {A = ℕ} 0 1 = cc in absurd (omega arith)
-
 module _ (n : ℕ) where
   pub place-first : n ≡ 0 → temp ≡ placeOf n
   unfolding placeOf

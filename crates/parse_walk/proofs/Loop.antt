@@ -8,7 +8,7 @@ use lib.ListN.{length, getD, take}
 use Rattle.model.specs.Refusal.{parseNotCode}
 use Rattle.model.specs.Memory.{Memory}
 use Rattle.shop.specs.declared.Shop.{Shop}
-use Rattle.reach.specs.Marks.{unmarked}
+use Rattle.model.specs.Laws.Marks.{unmarked}
 use Rattle.reach.specs.Stacks.{topOf, ways, Pushed, isCodeAt}
 use Rattle.parse_keys.specs.Sheets.{knownSheet, knows}
 use Rattle.parse_keys.specs.declared.Known.{Known}

@@ -20,7 +20,7 @@ use Rattle.shop.specs.Shapes.{slotOf, slotsOf, noShop, entries}
 use Rattle.shop.specs.declared.Shop as Code
 use Rattle.shop.specs.Good.{good-start}
 use Rattle.reach.specs.Dfs.{entry}
-use Rattle.reach.specs.Marks.{unmarked, unmarked-replicate}
+use Rattle.model.specs.Laws.Marks.{unmarked, unmarked-replicate}
 use Rattle.reach.specs.Weights.{weightOf, weight-all}
 use Rattle.reach.specs.Stacks.{stackOf, AllLow}
 use Rattle.expr.specs.Requirement.{Has}

@@ -20,7 +20,7 @@ use Rattle.memory.specs.RecordLaws.{block-at}
 use Rattle.memory.specs.Transfer.{blocks-counted, judged-kept}
 use Rattle.shop.specs.declared.Shop.{Shop}
 use Rattle.reach.specs.Dfs.{Entry, entry, Ways, nowhere, to, to-both, waysBy, pushed, walksA}
-use Rattle.reach.specs.Marks.{unmarked, unmarked-set}
+use Rattle.model.specs.Laws.Marks.{unmarked, unmarked-set}
 use Rattle.reach.specs.Weights.{weightOf, weight-set}
 use Rattle.reach.specs.Stacks.{stackOf, topOf, ways, grows, Pushed, isCodeAt, AllLow, top-most, top-free, low-top, low-pushed}
 use Rattle.parse_visit.specs.declared.Walk.{Walk}
@@ -28,15 +28,13 @@ use Rattle.parse_visit.specs.declared.Visited.{Visited}
 use Rattle.parse_visit.specs.State.{Accepted, stateOf, commandsOf, stateAfter, scanIn, Open, Entered, nodesAt}
 use Rattle.parse_walk.specs.Steps.{stepBy, step, walks, stack-skip, stack-visit, stack-off}
 use Rattle.parse_walk.specs.Walks.{under, walksIn, nodesLeft, Ready, Came}
+use Rattle.parse_filter.specs.Members.{or-left}
 
 pub few-blocks : (m : Memory) → Accepted m → m .count ≤ blockLimit
 few-blocks m a = judged-kept m (a .blocks) (a .rest) (a .is) .0
 
 pub few-nodes : (m : Memory) → Accepted m → m .coded .nodes .count ≤ 32768
 few-nodes m a = judged-kept m (a .blocks) (a .rest) (a .is) .2
-
-or-true : (a b : Bool) → a ≡ true → a || b ≡ true
-or-true a b e = rw e
 
 or-both : (a b : Bool) → a ≡ false → b ≡ false → a || b ≡ false
 or-both a b p q = rw (p, q)
@@ -95,7 +93,7 @@ tops h m f w st (suc d) = by (getD (st .marks) (getD w (2 * d) 0) false) refl (t
     by : (t : Bool) → getD (st .marks) (getD w (2 * d) 0) false ≡ t
         → walks h (scriptOf m .blocks) (map (under f) (stackOf w d)) st ≡ walks h (scriptOf m .blocks) (map (under f) (stackOf w (topOf (st .marks) w d))) st
         → walks h (scriptOf m .blocks) (map (under f) (stackOf w (suc d))) st ≡ walks h (scriptOf m .blocks) (map (under f) (stackOf w (cond t (topOf (st .marks) w d) (suc d)))) st
-    by true z q = stack-skip h (scriptOf m .blocks) (under f (entry (getD w (2 * d) 0) (getD w (2 * d + 1) 0))) (map (under f) (stackOf w d)) st (or-true _ _ z) ∙ q
+    by true z q = stack-skip h (scriptOf m .blocks) (under f (entry (getD w (2 * d) 0) (getD w (2 * d + 1) 0))) (map (under f) (stackOf w d)) st (or-left _ _ z) ∙ q
     by false z q = refl
 
 under-pushed : (f : ℕ → Option Expr) (nx el : Option ℕ) (t o : ℕ) (es : List (Entry ℕ)) → map (under f) (pushed (waysBy nx el t o) es) ≡ pushed (waysBy nx el (f t) (f o)) (map (under f) es)

@@ -15,7 +15,9 @@ use Rattle.model.specs.Sheet.{Sheet}
 use Rattle.model.specs.Script.{Command, Block, placeholder, code, dataBlock, blockAt}
 use Rattle.model.specs.Parse.{State, refuse, scanned, visited, passedOver, parseBlock, start, parse}
 use Rattle.reach.specs.Dfs.{Entry, entry, Ways, nowhere, to, to-both, waysBy, Stepped, walkA, walksA, pushed, Goes, enough-more, walks-skip, walks-visit, walks-off}
-use Rattle.reach.specs.Marks.{unmarked, unmarked-set, unmarked-most}
+use Rattle.model.specs.Laws.Marks.{unmarked, unmarked-set, unmarked-most}
+use Rattle.model.specs.Laws.Checks.{or-none}
+use Rattle.model.specs.Laws.AllCode.{code-there}
 
 -- one block: 10 where it is not code
 unfoldable pub stepBy : Sheet → ℕ → Option Expr → State → Block → Stepped (Option Expr) State
@@ -61,22 +63,10 @@ Good bs st = length (st .marks) ≡ length bs
 abbrev pub left : State → ℕ
 left st = unmarked (st .marks)
 
-or-false : (a b : Bool) → a || b ≡ false → a ≡ false
-or-false true b e = e
-or-false false b e = refl
-
 goes : {C : Type 0} (w : Ways C) (a b : ℕ) → a < b → Goes w a b
 goes nowhere a b h = omega arith
 goes (to k) a b h = h
 goes (to-both k j) a b h = h
-
--- what is not there is no code
-code-there : (bs : List Block) (b : ℕ) (cs : List Command) (nx el : Option ℕ) → blockAt bs b ≡ code cs nx el → b < length bs
-code-there bs b cs nx el e = by (decLe (length bs) b)
-  where
-    by : Dec (length bs ≤ b) → b < length bs
-    by (yes l) = let d : blockAt bs b ≡ placeholder = List·getD-eq-default bs placeholder l in let z : _≡_ {A = ℕ} 0 1 = cc in absurd (omega arith)
-    by (no n) = omega arith
 
 module _ (h : Sheet) (bs : List Block) where
   pub keeps : (e : Entry (Option Expr)) (st : State) → Good bs st → Good bs (step h bs e st .state)
@@ -97,7 +87,7 @@ module _ (h : Sheet) (bs : List Block) where
       by dataBlock q = omega arith
       by (code cs nx el) q =
           let l = code-there bs (e .block) cs nx el q in
-          let u : suc (unmarked (set (st .marks) (e .block) true)) ≡ unmarked (st .marks) = unmarked-set (st .marks) (e .block) (omega arith) (or-false _ _ z) in
+          let u : suc (unmarked (set (st .marks) (e .block) true)) ≡ unmarked (st .marks) = unmarked-set (st .marks) (e .block) (omega arith) (or-none _ _ z) in
           goes (waysBy nx el (scanned (e .under) cs st .onNext) (scanned (e .under) cs st .onElse)) (unmarked (set (st .marks) (e .block) true)) (unmarked (st .marks)) (omega arith)
 
   -- each depth above the number of blocks gives the same

@@ -17,7 +17,7 @@ use Rattle.shop.specs.Shapes.{slotsOf}
 use Rattle.shop.specs.declared.Shop.{Shop}
 use Rattle.shop.specs.Good.{GoodShop}
 use Rattle.reach.specs.Dfs.{Entry, entry}
-use Rattle.reach.specs.Marks.{unmarked}
+use Rattle.model.specs.Laws.Marks.{unmarked}
 use Rattle.reach.specs.Weights.{weightOf}
 use Rattle.reach.specs.Stacks.{stackOf, AllLow}
 use Rattle.parse_keys.specs.declared.Known.{Known}

@@ -27,7 +27,3 @@ none-at l (negsuc n) h = refl
 pub one-at : (l : List ℕ) (z : ℤ) → ltZ z (pos 0) ≡ false → natAt l z ≡ pos (getD l (natAbs z) 0)
 one-at l (pos n) h = refl
 one-at l (negsuc n) h = let f : _≡_ {A = ℕ} 0 1 = cc in absurd (omega arith)
-
-pub not-negative : (z : ℤ) → ltZ z (pos 0) ≡ false → T (nonNeg z)
-not-negative (pos n) h = tt
-not-negative (negsuc n) h = let f : _≡_ {A = ℕ} 0 1 = cc in absurd (omega arith)

@@ -1,4 +1,3 @@
-pub mod Marks
 pub mod Weights
 pub mod Dfs
 pub mod Stacks

@@ -1,4 +1,3 @@
-pub mod Marks
 pub mod RenamedRun
 pub mod Walked
 pub mod RenamedParse

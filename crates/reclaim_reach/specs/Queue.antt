@@ -9,7 +9,7 @@ use lib.ListN.{getD, set, length, replicate, length-set, length-replicate}
 use lib.Seq.{getD-set-same, getD-set-other}
 use Rattle.model.specs.Limits.{blockLimit}
 use Rattle.reclaim_model.specs.Rename.{Every}
-use Rattle.reclaim_model.specs.Laws.Marks.{unmarked, unmarked-set, unmarked-replicate, all-one}
+use Rattle.model.specs.Laws.Marks.{unmarked, unmarked-set, unmarked-replicate, all-one}
 use Rattle.reclaim_model.specs.Laws.Reached.{mark-in}
 use Rattle.reclaim_reach.specs.Words.{Low}
 

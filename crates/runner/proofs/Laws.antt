@@ -33,10 +33,6 @@ use Rattle.runner.specs.declared.Flow.the-variants.{On, Out}
 
 -- ---- stores and links
 
-pub not-negative : (k : ℤ) → ltZ k (pos 0) ≡ false → T (nonNeg k)
-not-negative (pos n) t = tt
-not-negative (negsuc n) t = absurd (subst T t tt)
-
 pub store-negative : (v : List ℤ) (k x : ℤ) → ltZ k (pos 0) ≡ true → v ≡ store v k x
 store-negative v (pos n) x t = absurd (not-suc-le-zero (ltb-true n 0 t))
 store-negative v (negsuc n) x t = refl

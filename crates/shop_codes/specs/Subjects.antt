@@ -12,6 +12,7 @@ use Rattle.model.specs.Requirement.{Requirement, haveItem, missingItem, haveAtc
 use Rattle.shop_codes.specs.Codes.{half, InRange, unshift, codeOf, idOf, ofKind, requirementOf, Narrow, subject, isMissing, subjectIs}
 use Rattle.shop_codes.specs.Laws.{code-narrow}
 use Rattle.shop_codes.specs.declared.Subject.{Subject}
+use Rattle.model.specs.Laws.Signed.{minus-one}
 
 -- ---- by the kind
 
@@ -97,13 +98,8 @@ subject-number (missingFlag f) = refl
 pub subject-low : (c : ℕ) (s : Requirement) → s ≡ subject (requirementOf c) → InRange (number s)
 subject-low c s e = rw (e, subject-number (requirementOf c)) (code-narrow c .fits)
 
--- −1 less a number below 2 ^ 31, read from its bits
-minus-one-sub : (m : ℕ) → negsuc 0 -ℤ pos m ≡ negsuc m
-minus-one-sub zero = refl
-minus-one-sub (suc m) = ap negsuc (omega arith)
-
 pub turned : (k : ℕ) → k < half → negsuc 0 -ℤ toZ w32 k ≡ negsuc k
-turned k h = ap (λ (z : ℤ). negsuc 0 -ℤ z) (toZ-pos w32 h) ∙ minus-one-sub k
+turned k h = ap (λ (z : ℤ). negsuc 0 -ℤ z) (toZ-pos w32 h) ∙ minus-one k
 
 -- ---- the Missing of a Have
 

@@ -1,5 +1,6 @@
 -- `check_save` meets its contract: the tests come in the definition's order. Assumes nothing.
-use Rattle.checks.proofs.Checks.{save-is, and-true}
+use Rattle.checks.proofs.Checks.{save-is}
+use mathlib.Core.Bool.{and-true}
 use borrow.Author.Tests.{eq-eqb, ne-eqb, not-true, not-false}
 use mathlib.Core.Path.{sym, _∙_}
 use borrow.Author.Needs.{needs}

@@ -1,9 +1,10 @@
 -- `expr::place_of` meets its contract: a number that is not negative is its own place. Assumes nothing.
 use mir.Syntax.{w32}
 use mir.Facts.{toZ-ofZ, fits-natAbs}
-use Rattle.expr.proofs.Signed.{not-negative, place-natural, place-negative}
+use Rattle.expr.proofs.Signed.{place-natural, place-negative}
 use Rattle.expr.proofs.place_of.Statement.{statement}
 use Rattle.expr.proofs.place_of.Tie as tie
+use Rattle.model.specs.Laws.Signed.{not-negative}
 
 returns : tie.Need-returns
 returns c = place-negative (c .before .args .x) _ (rw (toZ-ofZ (c .before .fits .x)) at (c .if1 .taken))

@@ -1,20 +1,21 @@
--- Every block that a compile appends is code. Assumes nothing.
+-- Blocks that are code: every one that a compile appends is, and one that is stands in the script. Assumes nothing.
 use mathlib.Core.Path.{_≡_, refl}
 use mathlib.Core.Bool.{Bool, true, false, cond}
 use mathlib.Core.Option.{Option, none, some}
 use mathlib.Core.List.{List, [], _∷_, _++_}
-use Prim.Native.Nat.{ℕ, zero, suc, _<_}
+use Prim.Native.Nat.{ℕ, zero, suc, _<_, _≤_}
 use native.Mathlib.Omega.{arith}
 use lib.Dec.{leb}
 use lib.IntN.{ℤ}
-use lib.ListN.{getD, length}
+use lib.ListN.{getD, length, List·getD-eq-default}
 use Rattle.model.specs.Expr.{Expr}
 use Rattle.model.specs.Requirement.{Requirement, sorted}
 use Rattle.model.specs.Sheet.{Sheet, all}
 use Rattle.model.specs.Shop.{Slot, Timer, plain, five, ten, fifteen, limitOf, timerOf}
-use Rattle.model.specs.Script.{Block, isCode, placeholder}
+use Rattle.model.specs.Script.{Block, isCode, placeholder, Command, blockAt, code}
 use Rattle.model.specs.Compile.{blocksFor, enableBlocks, limitBlocks, shopBlocks, slotBlocks, slotsBlocks, uniqueBlocks}
 use Rattle.model.specs.Laws.Checks.{and-left, and-right}
+use native.Mathlib.Decide.{decLe}
 
 abbrev AllCode : List Block → Type 0
 AllCode xs = all isCode xs ≡ true
@@ -61,3 +62,11 @@ module _ (h : Sheet) where
   pub shop-code : (n : ℕ) (xs : List Slot) (j : ℕ) → j < length (shopBlocks h n xs) → isCode (getD (shopBlocks h n xs) j placeholder) ≡ true
   unfolding shopBlocks
   shop-code n xs j l = code-at (shopBlocks h n xs) j (slots-code n 0 xs) l
+
+-- a block that is code is there
+pub code-there : (bs : List Block) (b : ℕ) (cs : List Command) (nx el : Option ℕ) → blockAt bs b ≡ code cs nx el → b < length bs
+code-there bs b cs nx el e = by (decLe (length bs) b)
+  where
+    by : Dec (length bs ≤ b) → b < length bs
+    by (yes l) = let d : blockAt bs b ≡ placeholder = List·getD-eq-default bs placeholder l in let z : _≡_ {A = ℕ} 0 1 = cc in absurd (omega arith)
+    by (no n) = omega arith

@@ -1,6 +1,6 @@
 -- What a sheet that check 1 passes and a save that check 12 passes give. Assumes nothing.
 use mathlib.Core.Path.{_≡_, refl, sym, ap, _∙_}
-use mathlib.Core.Bool.{Bool, true, false, not, cond, _&&_}
+use mathlib.Core.Bool.{Bool, true, false, not, cond, _&&_, true≢false}
 use mathlib.Core.Option.{Option, none, some}
 use mathlib.Core.List.{List, [], _∷_}
 use Prim.Native.Nat.{ℕ, zero, suc, _<_, _≤_}
@@ -38,9 +38,6 @@ and5 : (a b c d f : Bool) → a && b && c && d && f ≡ true → (a ≡ true) ×
 and5 a b c d f e =
     let r = and4 a b c d (and-left (a && b && c && d) f e) in
     (r .0, r .1, r .2, r .3, and-right (a && b && c && d) f e)
-
-true≢false : true ≡ false → ⊥
-true≢false e = let z : _≡_ {A = ℕ} 0 1 = cc in omega arith
 
 module _ (h : Sheet) (e : sheetRefusal h ≡ 0) where
   ok : sheetOk h ≡ true

@@ -1,10 +1,9 @@
 -- Checks that were passed. Assumes nothing.
 use mathlib.Core.Path.{_≡_, refl}
-use mathlib.Core.Bool.{Bool, true, false, _&&_}
+use mathlib.Core.Bool.{Bool, true, false, _&&_, _||_}
 use mathlib.Core.List.{List, [], _∷_}
-use Prim.Native.Nat.{ℕ, zero, suc}
+use Prim.Native.Nat.{ℕ, zero, suc, _<_}
 use native.Mathlib.Omega.{arith}
-use Prim.Native.Nat.{_<_}
 use lib.ListN.{length}
 use lib.Dec.{ltb, eqb}
 use borrow.Author.Tests.{ltb-true, eqb-true}
@@ -24,6 +23,10 @@ first-passed (suc n) ns e = absurd (omega arith)
 pub passed : (b : Bool) (n : ℕ) → check b (suc n) ≡ 0 → b ≡ true
 passed true n e = refl
 passed false n e = absurd (omega arith)
+
+pub or-none : (a b : Bool) → a || b ≡ false → a ≡ false
+or-none true b e = e
+or-none false b e = refl
 
 pub and-left : (a b : Bool) → a && b ≡ true → a ≡ true
 and-left true b e = refl

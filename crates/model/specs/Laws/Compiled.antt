@@ -1,6 +1,6 @@
 -- One compile: the setup block links to the shop's blocks, which were appended and are code, and other blocks are as they were. Assumes nothing.
 use mathlib.Core.Path.{_≡_, refl, sym, ap, _∙_}
-use mathlib.Core.Bool.{Bool, true, false, cond, _&&_}
+use mathlib.Core.Bool.{Bool, true, false, cond, _&&_, and-false}
 use mathlib.Core.Logic.{_≢_}
 use mathlib.Core.List.{List, [], _∷_, _++_}
 use Prim.Native.Nat.{ℕ, suc, _-_, _+_, _<_, _≤_}
@@ -49,10 +49,6 @@ pub record Linked (h : Sheet) (n : ℕ) (bs : List Block) (b : ℕ) (xs : List S
   pub returns : Stands bs home returnBlock
   pub rest : After bs home (slotsBlocks h home 0 xs)
   pub inside : rootOf h home 0 xs < length bs
-
-and-false : (b : Bool) → b && false ≡ false
-and-false true = refl
-and-false false = refl
 
 module _ (h : Sheet) (sc : Script) (c : Call) where
   pub length-linked : length (appended h sc c .blocks) ≡ length (sc .blocks) + length (freshBlocks h sc c)

@@ -1,6 +1,6 @@
 -- A compiled test is 1 or 0 as its requirement holds, whatever BitAnd and BitOr make of other values than 1 and 0. Assumes nothing.
 use mathlib.Core.Path.{_≡_, refl, sym, ap, _∙_, subst}
-use mathlib.Core.Bool.{Bool, true, false, not, cond, _&&_, _||_}
+use mathlib.Core.Bool.{Bool, true, false, not, cond, _&&_, _||_, and-true, Bool·not-not}
 use mathlib.Core.Option.{Option, none, some}
 use mathlib.Core.List.{List, [], _∷_}
 use Prim.Native.Nat.{ℕ, zero, suc, _-_, _+_, _<_, _≤_}
@@ -28,14 +28,6 @@ bit : (n : ℕ) → n ≤ 1 → pos n ≡ b2z (not (isZero (pos n)))
 bit zero h = refl
 bit (suc zero) h = refl
 bit (suc (suc n)) h = absurd (omega arith)
-
-not-not : (b : Bool) → not (not b) ≡ b
-not-not true = refl
-not-not false = refl
-
-pub and-true : (b : Bool) → b && true ≡ b
-and-true true = refl
-and-true false = refl
 
 and-assoc : (a b c : Bool) → (a && b) && c ≡ a && (b && c)
 and-assoc true b c = refl
@@ -97,11 +89,11 @@ module _ (s : Save) (v : List ℤ) (bits : Bits (s .flags)) where
 
   eval-negate-test : (r : Requirement) → Worth s v (negate (test r)) (b2z (not (holds s r)))
   unfolding test itemTest atcTest flagTest holds
-  eval-negate-test (haveItem i) j l = rw (eval-imm, not-not)
+  eval-negate-test (haveItem i) j l = rw (eval-imm, Bool·not-not)
   eval-negate-test (missingItem i) j l = rw eval-imm
-  eval-negate-test (haveAtc a) j l = rw (eval-imm, not-not)
+  eval-negate-test (haveAtc a) j l = rw (eval-imm, Bool·not-not)
   eval-negate-test (missingAtc a) j l = rw eval-imm
-  eval-negate-test (haveFlag f) j l = rw (eval-imm, not-not)
+  eval-negate-test (haveFlag f) j l = rw (eval-imm, Bool·not-not)
   eval-negate-test (missingFlag f) j l = rw eval-imm (ap ok (flag-bit f))
 
   eval-and : (e f : Expr) (a b : Bool) → Worth s v e (b2z a) → Worth s v f (b2z b) → Worth s v (two BitAnd e f) (b2z (a && b))

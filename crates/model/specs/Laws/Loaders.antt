@@ -1,6 +1,6 @@
 -- What the loader of a compile asks (02, A.6): the disc no more than 9 does, the demo blocks and commands; and an accepted compile leaves what its loader loads. Assumes nothing.
 use mathlib.Core.Path.{_≡_, refl, _∙_}
-use mathlib.Core.Bool.{Bool, true, false, _&&_}
+use mathlib.Core.Bool.{Bool, true, false, _&&_, and-true}
 use mathlib.Core.List.{List, [], _∷_, _++_}
 use Prim.Native.Nat.{ℕ, _+_, _≤_}
 use native.Mathlib.Omega.{arith}
@@ -17,7 +17,6 @@ use Rattle.model.specs.Image.{Limits}
 use Rattle.model.specs.Judge.{scriptRefusal}
 use Rattle.model.specs.Compile.{Call, compileRefusal, appended, freshBlocks, rootOf, redirect, discLimits, demoLimits, limitsOf, hasRoom, roomRefusal}
 use Rattle.model.specs.Laws.Checks.{compile-passed}
-use Rattle.model.specs.Laws.Eval.{and-true}
 use Rattle.model.specs.Laws.Judged.{room-low}
 
 -- the disc is answered by 9 alone, as document 01 has it

@@ -1,6 +1,6 @@
 -- The normal form, and that the parseBlock reads it. Assumes nothing.
 use mathlib.Core.Path.{_≡_, refl, sym, ap, _∙_, subst}
-use mathlib.Core.Bool.{Bool, true, false, not, cond, _&&_, _||_}
+use mathlib.Core.Bool.{Bool, true, false, not, cond, _&&_, _||_, or-false}
 use mathlib.Core.Option.{Option, none, some}
 use mathlib.Core.List.{List, [], _∷_, map}
 use Prim.Native.Nat.{ℕ, zero, suc, _+_, _<_, _≤_}
@@ -53,7 +53,7 @@ negate-test (haveFlag f) = refl
 negate-test (missingFlag f) = refl
 
 -- two tests of equality that imply one another
-both-ways : (a b : Bool) → (a ≡ true → b ≡ true) → (b ≡ true → a ≡ true) → a ≡ b
+pub both-ways : (a b : Bool) → (a ≡ true → b ≡ true) → (b ≡ true → a ≡ true) → a ≡ b
 both-ways true true f g = refl
 both-ways true false f g = sym (f refl)
 both-ways false true f g = g refl
@@ -64,7 +64,7 @@ same-neg a b = both-ways _ _
     (λ e. let p : a ≡ b = sym (neg-neg a) ∙ ap negateReq (sameReq-true (negateReq a) (negateReq b) e) ∙ neg-neg b in rw p (same-refl b))
     (λ e. rw (sameReq-true a b e) (same-refl (negateReq b)))
 
-same-move : (a b : Requirement) → sameReq a (negateReq b) ≡ sameReq (negateReq a) b
+pub same-move : (a b : Requirement) → sameReq a (negateReq b) ≡ sameReq (negateReq a) b
 same-move a b = sym (same-neg a (negateReq b)) ∙ ap (λ c. sameReq (negateReq a) c) (neg-neg b)
 
 ok-neg : (h : Sheet) (r : Requirement) → reqKnown h (negateReq r) ≡ reqKnown h r
@@ -76,10 +76,6 @@ ok-neg h (haveFlag f) = refl
 ok-neg h (missingFlag f) = refl
 
 -- ---- sets of negations
-
-or-false : (b : Bool) → b || false ≡ b
-or-false true = refl
-or-false false = refl
 
 or-move : (a b c : Bool) → b || (a || c) ≡ (a || b) || c
 or-move true true c = refl

@@ -1,6 +1,6 @@
 -- A slot by its shape, the list of withSlots, and the run. Assumes nothing.
 use mathlib.Core.Path.{_≡_, refl, sym, ap, _∙_, subst}
-use mathlib.Core.Bool.{Bool, true, false, not, cond, _&&_, _||_}
+use mathlib.Core.Bool.{Bool, true, false, not, cond, _&&_, _||_, and-true}
 use mathlib.Core.Option.{Option, none, some}
 use mathlib.Core.List.{List, [], _∷_, _++_}
 use Prim.Native.Nat.{ℕ, zero, suc, _-_, _+_, _*_, _%_, _<_, _≤_}
@@ -23,7 +23,7 @@ use Rattle.model.specs.Compile.{blocksFor, filledBlocks, lastOf, limitBl
 use Rattle.model.specs.Run.{done, oneMore, runBy}
 use Rattle.model.specs.Meaning.{Meaning, acquired, allHold, filledMeaning, held, holds, isHeld, limitMeaning, meaningFor, meaningOf, noTimerHeld, uniqueMeaning}
 use Rattle.model.specs.Laws.Checks.{and-left, and-right}
-use Rattle.model.specs.Laws.Eval.{OnBits, Worth, and-true, eval-acquired, eval-missing, eval-missing-and, eval-reqs}
+use Rattle.model.specs.Laws.Eval.{OnBits, Worth, eval-acquired, eval-missing, eval-missing-and, eval-reqs}
 use Rattle.model.specs.Laws.SlotRuns.{After, Fits, Goes, Reach, Steps, at, does-pair, eval-remaining, go, here, once, stock-bare, stock-hid, unique-bare, unique-hid, weaken}
 use Rattle.model.specs.Laws.Writes.{setTemp, write, writes}
 
@@ -62,7 +62,7 @@ and-idem : (a b : Bool) → a && b ≡ a && (a && b)
 and-idem true b = refl
 and-idem false b = refl
 
-and-swap : (a b c : Bool) → a && (b && c) ≡ b && (a && c)
+pub and-swap : (a b c : Bool) → a && (b && c) ≡ b && (a && c)
 and-swap true true c = refl
 and-swap true false c = refl
 and-swap false true c = refl

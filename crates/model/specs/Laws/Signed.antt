@@ -1,11 +1,14 @@
--- A number that fits a width is not changed by cutting to it, nor by a mask of all its bits. Assumes nothing.
-use mathlib.Core.Path.{_≡_, ap, _∙_}
-use Prim.Native.Nat.{ℕ, suc, _-_, _%_, _^_, _<_}
+-- A number that fits a width is not changed by cutting to it, nor by a mask of all its bits; numbers not below 0, and those below -1. Assumes nothing.
+use mathlib.Core.Path.{_≡_, refl, ap, _∙_, subst}
+use mathlib.Core.Bool.{false}
+use Prim.Native.Nat.{ℕ, zero, suc, _-_, _%_, _^_, _<_}
+use native.Mathlib.Omega.{arith}
 use native.Mathlib.Nat.{mod-eq-of-lt, mod-lt, zero-lt-suc}
 use lib.Bits.{bitAnd, and-comm, and-mask}
-use lib.IntN.{ℤ, pos, negsuc}
+use lib.Dec.{T}
+use lib.IntN.{ℤ, pos, negsuc, _-ℤ_}
 use lib.Pow.{pow-pos, pow-sub-lt}
-use lib.Signed.{mag}
+use lib.Signed.{ltZ, mag, nonNeg}
 use mir.Syntax.{Width}
 use mir.Val.{toZ, bits, hbits}
 use mir.ValLaws.{toZ-pos, toZ-neg, half-full}
@@ -29,3 +32,11 @@ unfolding bitsOf wrap
 mask-all w z h =
     ap (λ n. toZ w (bitAnd (2 ^ bits w - suc n) (lowBits w z))) (mod-eq-of-lt (pow-pos (bits w)))
     ∙ ap (toZ w) (and-comm (2 ^ bits w - 1) (lowBits w z) ∙ and-mask (lowBits w z) (bits w) ∙ mod-eq-of-lt (lowBits-under w z)) ∙ wrap-id w z h
+
+pub not-negative : (z : ℤ) → ltZ z (pos 0) ≡ false → T (nonNeg z)
+not-negative (pos n) t = tt
+not-negative (negsuc n) t = absurd (subst T t tt)
+
+pub minus-one : (m : ℕ) → negsuc 0 -ℤ pos m ≡ negsuc m
+minus-one zero = refl
+minus-one (suc m) = ap negsuc (omega arith)

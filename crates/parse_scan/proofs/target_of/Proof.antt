@@ -5,11 +5,12 @@ use mir.Val.{SFits}
 use mir.Facts.{toZ-ofZ, fits-natAbs}
 use Rattle.model.specs.Parse.{place}
 use Rattle.expr.specs.Requirement.{numberOf}
-use Rattle.parse_scan.specs.Reads.{target-negative, not-negative, target-is, target-fits, place-first, place-low, place-item, place-count, place-high}
+use Rattle.parse_scan.specs.Reads.{target-negative, target-is, target-fits, place-first, place-low, place-item, place-count, place-high}
 use mathlib.Core.Path.{ap, sym, _∙_}
 use borrow.Author.Needs.{needs}
 use Rattle.parse_scan.proofs.target_of.Statement.{statement}
 use Rattle.parse_scan.proofs.target_of.Tie as tie
+use Rattle.model.specs.Laws.Signed.{not-negative}
 
 enum-known-x : tie.Need-enum-known-x
 enum-known-x c = search needs

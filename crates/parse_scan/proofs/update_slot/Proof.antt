@@ -3,11 +3,12 @@ use mathlib.Core.Path.{ap}
 use mir.Syntax.{w16}
 use mir.Val.{SFits}
 use mir.Facts.{toZ-ofZ, fits-natAbs}
-use Rattle.parse_scan.specs.Reads.{shortIs, not-negative}
+use Rattle.parse_scan.specs.Reads.{shortIs}
 use Rattle.parse_scan.specs.InPlace.{good-len, done-none, done-absent, done-below, done-filled}
 use borrow.Author.Needs.{needs}
 use Rattle.parse_scan.proofs.update_slot.Statement.{statement}
 use Rattle.parse_scan.proofs.update_slot.Tie as tie
+use Rattle.model.specs.Laws.Signed.{not-negative}
 
 sizes-requires : tie.Need-sizes-requires
 sizes-requires c κs = search needs

@@ -5,7 +5,7 @@ use native.Mathlib.Omega.{arith}
 use lib.ListN.{getD, take}
 use borrow.Author.Tests.{not-true, not-false}
 use Rattle.shop_arrays.specs.Arrays.{arraysIn, shopFrom}
-use Rattle.reach.specs.Marks.{unmarked}
+use Rattle.model.specs.Laws.Marks.{unmarked}
 use Rattle.reach.specs.Stacks.{top-most}
 use Rattle.parse_visit.specs.State.{storedIn}
 use Rattle.parse_walk.specs.Walks.{Turning, Lengths}

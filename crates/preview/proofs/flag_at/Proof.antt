@@ -5,10 +5,11 @@ use lib.IntN.{ℤ}
 use mir.Syntax.{w32}
 use mir.Facts.{toZ-ofZ, fits-natAbs}
 use Rattle.model.specs.Signed.{isZero}
-use Rattle.preview.proofs.Places.{none-at, one-at, not-negative}
+use Rattle.preview.proofs.Places.{none-at, one-at}
 use borrow.Author.Needs.{needs}
 use Rattle.preview.proofs.flag_at.Statement.{statement}
 use Rattle.preview.proofs.flag_at.Tie as tie
+use Rattle.model.specs.Laws.Signed.{not-negative}
 
 returns : tie.Need-returns
 returns c = let s = c .before .before in sym (ap (λ (z : ℤ). not (isZero z)) (none-at (s .args .flags .now) (s .args .number) (rw (toZ-ofZ (s .fits .number)) at (c .if1 .taken))))

@@ -1,10 +1,11 @@
 -- `store_at` meets its contract: below 0 and past the end nothing is written, as `store` says. Assumes nothing.
-use Rattle.runner.proofs.Laws.{not-negative, store-negative, store-in, store-out}
+use Rattle.runner.proofs.Laws.{store-negative, store-in, store-out}
 use mir.Facts.{toZ-ofZ, fits-natAbs}
 use mir.Syntax.{w32}
 use borrow.Author.Needs.{needs}
 use Rattle.runner.proofs.store_at.Statement.{statement}
 use Rattle.runner.proofs.store_at.Tie as tie
+use Rattle.model.specs.Laws.Signed.{not-negative}
 
 returns : tie.Need-returns
 returns c = store-negative (c .before .args .vars .now) (c .before .args .k) (c .before .args .x) (rw (toZ-ofZ (c .before .fits .k)) at (c .if1 .taken))
