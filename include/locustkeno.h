@@ -4,7 +4,7 @@
  * length is 0 the pointer must still not be null. What is written to must not overlap anything else that is handed in.
  * No call keeps a pointer, allocates, or has any state of its own: threads may call at the same time on different memory.
  * On the largest and nastiest scripts 32 kilobytes of stack were enough for lk_read and lk_preview, 160 for lk_write, lk_run
- * and lk_compile, 512 for lk_parse (rust/locustkeno/tests/stack.rs).
+ * and lk_compile, 512 for lk_parse, 768 for lk_reclaim (rust/locustkeno/tests/stack.rs).
  *
  * A script is four arrays and three kept counts:
  *   ws   nodes: code, left operand, right operand at 3n, 3n + 1, 3n + 2
@@ -12,8 +12,8 @@
  *   cw   commands: code, two expressions, a block at 4c ..; of a Set the fourth is 0 for a target Variable, else 1
  *   bw   blocks: kind, first command, how many, next + 1, else + 1 at 5b ..
  * Beside them lie the birth marks, births: for each block 0 if it was read or built at the start, else the ordinal of the
- * accepted compile that appended it; and the count of accepted compiles, which stays at 4,294,967,295. Only lk_compile and
- * lk_read take them. Marks past the count of blocks mean nothing. An image carries no marks: lk_read starts anew.
+ * accepted compile that appended it; and the count of accepted compiles, which stays at 4,294,967,295. Only lk_read, lk_compile
+ * and lk_reclaim take them. Marks past the count of blocks mean nothing. An image carries no marks: lk_read starts anew.
  * A sheet is attached (for each item its atc + 1, or 0), the count of atcs and the three timers' items.
  * A save is items (a count for each item), held (0 or 1 for each atc), flags, times and vars.
  */
@@ -32,6 +32,7 @@ extern "C" {
 #define LK_COMMAND_WORDS 65536
 #define LK_BLOCK_WORDS 20480
 #define LK_BLOCKS 4096
+#define LK_ROOTS 256
 #define LK_SLOTS 20
 #define LK_ENTRIES 14
 
@@ -73,6 +74,16 @@ lk_ran lk_run(const uint8_t *attached, size_t attached_len, uint16_t atcs, uint1
               uint16_t blocks, uint32_t start, const int16_t *items, size_t items_len, const uint8_t *held,
               size_t held_len, const uint8_t *flags, size_t flags_len, const int16_t *times, size_t times_len,
               int32_t *vars, size_t vars_len, uint32_t budget);
+
+/* Drops every block that is no root and that no root reaches by next, else or command targets. Survivors keep their order and
+ * birth marks, and links follow. The counts are what the survivors hold, so that the freed places serve the next lk_compile;
+ * the count of compiles stays. moved tells for each old block its new number + 1, or 0 where it is gone; past the old blocks it
+ * is 0. What lies past the new counts in the other arrays stays as it was. No roots at all leave no block, roots may repeat, and
+ * placeholder and data may be roots. Refused (18, then 2 to 5), nothing is written and the counts are those handed in.
+ * 18: over LK_ROOTS roots, or one that is not a block. */
+lk_kept lk_reclaim(uint16_t ws[LK_NODE_WORDS], int32_t val[LK_VALUES], uint16_t cw[LK_COMMAND_WORDS],
+                   uint16_t bw[LK_BLOCK_WORDS], uint32_t births[LK_BLOCKS], uint16_t nodes, uint16_t commands,
+                   uint16_t blocks, uint32_t compiles, const uint32_t *roots, size_t roots_len, uint16_t moved[LK_BLOCKS]);
 
 /* A shop is four arrays: items (-1 for none; a number that no item can have stands for an item that no sheet has),
  * limits, LK_ENTRIES codes of requirements for each slot, and how many of them are given (over LK_ENTRIES is refusal 8).

@@ -1,10 +1,12 @@
 //! Times the proved library beside the Rust sides, on the same inputs: microseconds a call, the
 //! best and the median of 31 rounds. With the word `worst` only the slowest inputs that were found.
 
+mod by_hand;
 mod cases;
 mod clock;
 mod place;
 mod program;
+mod reclaim;
 mod shops;
 mod worst;
 
@@ -32,7 +34,7 @@ fn main() {
     program::worst();
 }
 
-/// What users do, on scripts of four sizes, and a run of many blocks.
+/// What users do, on scripts of four sizes and after a reclaim, and a run of many blocks.
 fn ordinary() {
     for case in cases::all() {
         let a = case.script.arrays();
@@ -48,8 +50,10 @@ fn ordinary() {
         write(&case);
         run(&case);
         shops::all(&case);
+        reclaim::case(&case);
         program::case(&case);
     }
+    reclaim::after();
     println!("-- a loop of two blocks, entered 100,000 times in all");
     long_run();
 }

@@ -20,7 +20,7 @@ TOP = HERE.parents[2]
 KIT = pathlib.Path(os.environ.get("RATTLE_HOME") or pathlib.Path(shutil.which("rt")).resolve().parent.parent)
 TOOLS = KIT / "on" / os.uname().machine
 CLANG = TOOLS / "toolchain/bin/clang"
-CALLS = ["lk_read", "lk_write", "lk_run", "lk_compile", "lk_parse", "lk_preview", "lk_with_slots"]
+CALLS = ["lk_read", "lk_write", "lk_run", "lk_compile", "lk_parse", "lk_preview", "lk_with_slots", "lk_reclaim"]
 
 # A program that reaches the calls and makes none of them.
 PROGRAM = """fn main() {
@@ -46,6 +46,9 @@ PROGRAM = """fn main() {
         capi::lk_parse(&bytes, 0, 0, 1, 2, &ws, &val, &cw, &bw, 0, 0, 0, 0, &mut items, &mut limits, &mut codes, &mut lens);
         capi::lk_preview(&bytes, 0, 0, 1, 2, &items, &limits, &codes, &lens, &shorts, &bytes, &bytes, &shorts, &vars);
         capi::lk_compile(&bytes, 0, 0, 1, 2, &mut ws, &mut val, &mut cw, &mut bw, &mut births, 0, 0, 0, 0, 0, &items, &limits, &codes, &lens);
+        let roots = [0, 0];
+        let mut moved = [0; 4096];
+        capi::lk_reclaim(&mut ws, &mut val, &mut cw, &mut bw, &mut births, 0, 0, 0, 0, &roots, &mut moved);
     }
 }
 """

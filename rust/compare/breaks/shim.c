@@ -92,3 +92,15 @@ void lk_with_slots(const int32_t *items, size_t items_len, const int16_t *limits
     slice i = {items, items_len}, l = {limits, limits_len}, c = {codes, codes_len}, n = {lens, lens_len};
     inner_lk_with_slots(&i, &l, &c, &n, to_items, to_limits, to_codes, to_lens);
 }
+
+void inner_lk_reclaim(lk_kept *, uint16_t *, int32_t *, uint16_t *, uint16_t *, uint32_t *, uint16_t, uint16_t, uint16_t,
+                      uint32_t, slice *, uint16_t *);
+
+lk_kept lk_reclaim(uint16_t *ws, int32_t *val, uint16_t *cw, uint16_t *bw, uint32_t *births, uint16_t nodes,
+                   uint16_t commands, uint16_t blocks, uint32_t compiles, const uint32_t *roots, size_t roots_len,
+                   uint16_t *moved) {
+    slice r = {roots, roots_len};
+    lk_kept answer;
+    inner_lk_reclaim(&answer, ws, val, cw, bw, births, nodes, commands, blocks, compiles, &r, moved);
+    return answer;
+}

@@ -6,12 +6,15 @@ pub mod images;
 pub mod interpret;
 pub mod judge;
 pub mod meaning;
+pub mod mixed;
+pub mod reclaim;
 pub mod recounted;
 pub mod runs;
 pub mod saves;
 pub mod shared;
 pub mod shops;
 pub mod small;
+pub mod survivors;
 pub mod tally;
 pub mod tree;
 
@@ -38,6 +41,7 @@ pub fn all(seed: u64, count: usize, longest: usize, small: bool) -> Tally {
         shops::small(&mut tally);
     }
     runs::operators(&mut tally, &mut random);
+    reclaimed(&mut tally, &mut random, count);
     tally
 }
 
@@ -48,4 +52,19 @@ pub fn shops(seed: u64, count: usize) -> Tally {
     shops::parses(&mut tally, &mut random, 10 * count);
     shops::lists(&mut tally, &mut random, count);
     tally
+}
+
+/// Reclaims alone.
+pub fn reclaims(seed: u64, count: usize) -> Tally {
+    let mut tally = Tally::default();
+    reclaimed(&mut tally, &mut Random::new(seed), count);
+    tally
+}
+
+fn reclaimed(tally: &mut Tally, random: &mut Random, count: usize) {
+    reclaim::limits(tally, random);
+    reclaim::random(tally, random, count);
+    reclaim::records(tally, random, count);
+    mixed::filled(tally, random);
+    mixed::lists(tally, random, count);
 }

@@ -3,7 +3,8 @@
 //! `compare SEED COUNT [LONGEST [small]]` makes COUNT cases of each kind from SEED, and reads every
 //! image of at most LONGEST bytes of a small alphabet; with `small` it takes every script of two
 //! small blocks too. `compare SEED COUNT shops` makes COUNT lists of compiles and ten times as many
-//! parses, and nothing else. It ends with 1 where something differs.
+//! parses, and nothing else; `compare SEED COUNT reclaims` makes COUNT reclaims of each kind and COUNT
+//! lists that mix them with compiles. It ends with 1 where something differs.
 
 use compare::all;
 use compare::tally::Tally;
@@ -11,7 +12,8 @@ use oracle::calls;
 use std::process::ExitCode;
 use std::{env, error::Error};
 
-const USAGE: &str = "usage: compare SEED COUNT [LONGEST [small]], or compare SEED COUNT shops";
+const USAGE: &str =
+    "usage: compare SEED COUNT [LONGEST [small]], or compare SEED COUNT shops|reclaims";
 
 fn main() -> Result<ExitCode, Box<dyn Error>> {
     let arguments: Vec<String> = env::args().skip(1).collect();
@@ -23,6 +25,7 @@ fn main() -> Result<ExitCode, Box<dyn Error>> {
     let (longest, small) = match rest[..] {
         [] => (3, false),
         ["shops"] => return said(seed, || compare::shops(seed, count)),
+        ["reclaims"] => return said(seed, || compare::reclaims(seed, count)),
         [longest] => (longest.parse()?, false),
         [longest, "small"] => (longest.parse()?, true),
         _ => return Err(USAGE.into()),

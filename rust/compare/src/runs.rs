@@ -96,7 +96,7 @@ pub fn random(tally: &mut Tally, random: &mut Random, count: usize) {
 }
 
 /// Changes one word of a record, or one of its kept counts.
-fn change(random: &mut Random, a: &mut Arrays) {
+pub fn change(random: &mut Random, a: &mut Arrays) {
     let near = |random: &mut Random, count: u16, width: usize| {
         random.below(width * usize::from(count) + width)
     };

@@ -49,7 +49,7 @@ fn command(random: &mut Random, a: &mut Arrays, at: usize, nodes: usize) {
 }
 
 /// A record of up to `most` nodes and four blocks.
-fn record(random: &mut Random, most: usize) -> Arrays {
+pub fn record(random: &mut Random, most: usize) -> Arrays {
     let mut a = Arrays::default();
     let nodes = random.between(1, most);
     (0..nodes).for_each(|i| node(random, &mut a, i));
@@ -111,7 +111,7 @@ fn words(a: &Arrays) -> [&[u16]; 3] {
 }
 
 /// A record of one If, whose condition is the highest of so many nodes, each `code` over the one below it on both sides.
-fn tower(code: u16, nodes: usize, kept: usize) -> Arrays {
+pub fn tower(code: u16, nodes: usize, kept: usize) -> Arrays {
     stacked(nodes, kept, |below| [code, below, below])
 }
 

@@ -102,7 +102,7 @@ pub fn parse_limits(tally: &mut Tally) {
 
 /// One compile on both sides: the answer, the script after it, its kept counts, its birth marks and
 /// the count of compiles. Refused, no word of the arrays may have changed.
-fn check_compile(
+pub fn check_compile(
     tally: &mut Tally,
     sheet: &Sheet,
     ours: &mut Script,
@@ -162,10 +162,10 @@ fn check_compile(
 }
 
 /// A script on both sides.
-type Both = (Script, InUse);
+pub type Both = (Script, InUse);
 
 /// A script that was just read.
-fn read(before: &plain::Script) -> Both {
+pub fn read(before: &plain::Script) -> Both {
     let bytes = image::write(before);
     let script = Script::read(&bytes).expect("a script that the maker made can be read");
     (script, InUse::new(before.clone()))
@@ -173,7 +173,7 @@ fn read(before: &plain::Script) -> Both {
 
 /// A script that is handed in with marks and a count of compiles of any kind. Marks past the blocks
 /// are litter.
-fn marked(random: &mut Random, before: &plain::Script) -> Both {
+pub fn marked(random: &mut Random, before: &plain::Script) -> Both {
     let mut a = read(before).0.arrays().clone();
     let kinds = [0, 0, 0, 0, 0, 1, 2, u32::MAX];
     a.births.fill_with(|| random.pick(&kinds));
@@ -201,14 +201,25 @@ fn check_list(tally: &mut Tally, random: &mut Random, case: &Case, start: Both) 
         }
         last.retain(|(setup, _)| *setup != step.setup);
         last.push((step.setup, &step.shop));
-        for (setup, slots) in &last {
-            let save = saves::save(random, &case.sheet);
-            runs::check_meaning(tally, &case.sheet, slots, &ours, *setup, &save);
-            check_preview(tally, &case.sheet, slots, &save);
-            let read = rules::parse(&case.sheet, &theirs.script, *setup as usize)
-                .map_err(|refusal| refusal.0);
-            check_parse(tally, &case.sheet, &ours, *setup, read);
-        }
+        check_last(tally, random, &case.sheet, (&ours, &theirs), &last);
+    }
+}
+
+/// Every block that was compiled at runs as the last shop accepted there means, and parses as the original does.
+pub fn check_last(
+    tally: &mut Tally,
+    random: &mut Random,
+    sheet: &Sheet,
+    (ours, theirs): (&Script, &InUse),
+    last: &[(u32, &[Slot])],
+) {
+    for (setup, slots) in last {
+        let save = saves::save(random, sheet);
+        runs::check_meaning(tally, sheet, slots, ours, *setup, &save);
+        check_preview(tally, sheet, slots, &save);
+        let read =
+            rules::parse(sheet, &theirs.script, *setup as usize).map_err(|refusal| refusal.0);
+        check_parse(tally, sheet, ours, *setup, read);
     }
 }
 

@@ -8,4 +8,6 @@ fn no_difference() {
     assert_eq!(tally.differences, 0, "{}", tally.report());
     assert!(tally.total("read") > 400 && tally.total("run") > 1_000);
     assert!(tally.total("recounted") > 200);
+    assert!(tally.total("reclaim") > 800 && tally.total("reclaim of a broken record") > 100);
+    assert!(tally.total("run after a reclaim") > 4_000 && tally.total("block of the start") > 400);
 }

@@ -3,16 +3,23 @@
 use crate::Refused;
 use crate::ffi::Kept;
 
+/// The limits of a script.
+pub const NODES: usize = 32_768;
+pub const COMMANDS: usize = 16_384;
+pub const BLOCKS: usize = 4_096;
+
 /// Nodes: code, left operand, right operand at 3n, 3n + 1, 3n + 2.
-pub type NodeWords = [u16; 98_304];
+pub type NodeWords = [u16; 3 * NODES];
 /// The number of an Imm node.
-pub type Values = [i32; 32_768];
+pub type Values = [i32; NODES];
 /// Commands: code, two expressions, a block at 4c ..
-pub type CommandWords = [u16; 65_536];
+pub type CommandWords = [u16; 4 * COMMANDS];
 /// Blocks: kind, first command, how many, next + 1, else + 1 at 5b ..
-pub type BlockWords = [u16; 20_480];
+pub type BlockWords = [u16; 5 * BLOCKS];
 /// The birth mark of each place of a block.
-pub type Births = [u32; 4_096];
+pub type Births = [u32; BLOCKS];
+/// The new number + 1 of each place of a block, or 0 where the block is gone.
+pub type MovedWords = [u16; BLOCKS];
 
 /// A script record: four arrays with three kept counts, and beside them where each block came from.
 /// What lies past the kept counts means nothing, marks past the block count included.
@@ -39,7 +46,7 @@ fn on_heap<T: std::fmt::Debug, const N: usize>(elements: Vec<T>) -> Box<[T; N]> 
     array.expect("the vector has N elements")
 }
 
-fn zeros<T: Copy + Default + std::fmt::Debug, const N: usize>() -> Box<[T; N]> {
+pub(crate) fn zeros<T: Copy + Default + std::fmt::Debug, const N: usize>() -> Box<[T; N]> {
     on_heap(vec![T::default(); N])
 }
 

@@ -2,7 +2,7 @@
 //!
 //! A slice is a pointer and a length; a reference to an array is a pointer.
 
-use crate::arrays::{Births, BlockWords, CommandWords, NodeWords, Values};
+use crate::arrays::{Births, BlockWords, CommandWords, MovedWords, NodeWords, Values};
 
 /// The refusal or 0, the kept counts of a script and the count of its accepted compiles.
 #[repr(C)]
@@ -81,6 +81,21 @@ unsafe extern "C" {
         vars_len: usize,
         budget: u32,
     ) -> Ran;
+
+    pub fn lk_reclaim(
+        ws: *mut NodeWords,
+        val: *mut Values,
+        cw: *mut CommandWords,
+        bw: *mut BlockWords,
+        births: *mut Births,
+        nodes: u16,
+        commands: u16,
+        blocks: u16,
+        compiles: u32,
+        roots: *const u32,
+        roots_len: usize,
+        moved: *mut MovedWords,
+    ) -> Kept;
 }
 
 pub use shops::*;

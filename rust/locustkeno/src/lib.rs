@@ -16,14 +16,18 @@
 
 mod arrays;
 mod ffi;
+mod reclaim;
 mod refused;
+mod room;
 mod save;
 mod script;
 mod sheet;
 mod shop;
 
 pub use arrays::{Arrays, Births, BlockWords, CommandWords, NodeWords, Values};
+pub use reclaim::Moved;
 pub use refused::Refused;
+pub use room::{Room, Use};
 pub use save::{FLAGS, Save, TIMES, VARIABLES};
 pub use script::Preview;
 pub use script::{Ran, Script};

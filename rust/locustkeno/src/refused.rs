@@ -45,6 +45,7 @@ impl Refused {
             15 => "the run's budget is spent",
             16 => "the slice is too short for the image",
             17 => "the block given was appended by a compile",
+            18 => "over 256 roots are given, or one that is not a block",
             _ => "no refusal of documents 01 and 02",
         }
     }

@@ -18,7 +18,7 @@ use crate::{Refused, Save, Sheet, ffi};
 /// ```
 #[derive(Debug, Clone, PartialEq, Eq, Default)]
 pub struct Script {
-    arrays: Arrays,
+    pub(crate) arrays: Arrays,
 }
 
 /// What a run answers: its refusal, if it was refused, and how many blocks it entered.

@@ -10,6 +10,7 @@ const WRITE: usize = 160 * KILOBYTE;
 const RUN: usize = 160 * KILOBYTE;
 const COMPILE: usize = 160 * KILOBYTE;
 const PARSE: usize = 512 * KILOBYTE;
+const RECLAIM: usize = 768 * KILOBYTE;
 
 fn sheet() -> Sheet {
     Sheet::new(&[None; 3], 0, [Item(0), Item(1), Item(2)])
@@ -72,12 +73,47 @@ fn shared() -> Script {
     Script::from_arrays(arrays)
 }
 
+/// A chain of all blocks from the last to the first by their targets, each with an If under a deep expression of its own.
+fn downwards() -> Vec<u8> {
+    let mut image = Vec::new();
+    number(&mut image, 4_096);
+    for block in 0..4_096usize {
+        image.extend([1, 1, 3, 6, 6, 6, 6, 6, 6, 14, 11, 0]);
+        number(&mut image, block.saturating_sub(1));
+        image.extend([0, 0]);
+    }
+    image
+}
+
+/// Commands that all blocks share, over nodes that all commands share: judged step by step, and written apart they are nearly as
+/// many as a script may have.
+fn webbed() -> Script {
+    let mut arrays = Script::default().arrays().clone();
+    arrays.ws[0] = 11;
+    for node in 1..15 {
+        let below = node as u16 - 1;
+        arrays.ws[3 * node..][..3].copy_from_slice(&[9, below, below]);
+    }
+    for command in 0..4 {
+        arrays.cw[4 * command..][..4].copy_from_slice(&[2, 0, command as u16 % 2, 1]);
+    }
+    arrays.cw[16..20].copy_from_slice(&[3, 12, 0, 4_095]);
+    for (block, words) in arrays.bw.chunks_exact_mut(5).enumerate() {
+        let many = if block == 0 { 5 } else { 3 };
+        words.copy_from_slice(&[1, 0, many, block as u16, 4_096]);
+    }
+    arrays.blocks = 4_096;
+    arrays.commands = 16_384;
+    arrays.nodes = 32_768;
+    Script::from_arrays(arrays)
+}
+
 fn scripts() -> Vec<Script> {
-    let mut scripts: Vec<Script> = [deep(), largest(), conditions()]
+    let mut scripts: Vec<Script> = [deep(), largest(), conditions(), downwards()]
         .iter()
         .map(|image| Script::read(image).unwrap())
         .collect();
-    scripts.push(shared());
+    scripts.extend([shared(), webbed()]);
     scripts
 }
 
@@ -99,7 +135,7 @@ fn scripts_are_judged_fine() {
         .iter()
         .map(|script| script.parse(&sheet(), 0).err())
         .collect();
-    assert_eq!(answers, [None, None, Some(Refused(11)), None]);
+    assert_eq!(answers, [None, None, Some(Refused(11)), None, None, None]);
 }
 
 #[test]
@@ -144,6 +180,19 @@ fn compile() {
 fn parse() {
     for script in scripts() {
         on_stack(PARSE, || done(script.parse(&sheet(), 0)));
+    }
+}
+
+/// All blocks survive, or some of them, or none; and refused ones.
+#[test]
+fn reclaim() {
+    for script in scripts() {
+        let last = script.blocks() as u32 - 1;
+        let roots: [&[u32]; 5] = [&[last; 256], &[0; 256], &[], &[last + 1], &[0; 257]];
+        for roots in roots {
+            let mut script = script.clone();
+            on_stack(RECLAIM, || done(script.reclaim(roots)));
+        }
     }
 }
 
