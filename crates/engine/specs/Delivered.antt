@@ -11,6 +11,7 @@ use lib.ListN.{getD}
 use borrow.Author.Tests.{eqb-true}
 use Rattle.model.specs.Limits.{runBlocks}
 use Rattle.model.specs.Refusal.{bornLater}
+use Rattle.model.specs.declared.Loader.{Loader}
 use Rattle.model.specs.Save.{Save}
 use Rattle.model.specs.Sheet.{Sheet, saveRefusal}
 use Rattle.model.specs.Shop.{Slot}
@@ -45,9 +46,9 @@ use Rattle.reclaim_record.specs.Stands.{LongBorn}
 use Rattle.reclaim_record.specs.Demand.{Demand3MixedIn, demand-3-mixed-in}
 use Rattle.reclaim.specs.Answer.{ReclaimedAs}
 
--- what a call was given: a compile its setup block and its shop, a reclaim its roots and the array in which it tells
+-- what a call was given: a compile its loader, its setup block and its shop, a reclaim its roots and the array in which it tells
 pub data Asked : Type 0 where
-  compile : ℕ → Shop → Asked
+  compile : Loader → ℕ → Shop → Asked
   reclaim : List ℕ → List ℕ → Asked
 
 -- a call as it was made: what it was given, what it answered, the record after it with its marks and count, and what a reclaim's array told
@@ -58,12 +59,12 @@ pub record Made : Type 0 where
   pub told : List ℕ
 
 abbrev pub asChange : Asked → change.Change
-asChange (compile b sh) = change.compile (callOf b sh)
+asChange (compile o b sh) = change.compile (callOf o b sh)
 asChange (reclaim rs mv) = change.reclaim rs
 
 -- where a call says that a block is now: an accepted reclaim by its array
 abbrev pub tellsOf : Asked → ℕ → List ℕ → ℕ → Option ℕ
-tellsOf (compile b sh) r t j = some j
+tellsOf (compile o b sh) r t j = some j
 tellsOf (reclaim rs mv) r t j = cond (eqb r 0) (wordTells (getD t j 0)) (some j)
 
 -- a list of them: what each answered, left and told is what is told of it
@@ -81,7 +82,7 @@ made = record {
 abbrev pub AsPromised : Sheet → Born → Made → Type 0
 AsPromised h k x =
     elim (x .asked) [
-      | compile b sh ↦ CompiledAs h k (callOf b sh) (x .refusal) (x .after)
+      | compile o b sh ↦ CompiledAs h k (callOf o b sh) (x .refusal) (x .after)
       | reclaim rs mv ↦ ReclaimedAs k rs mv (x .refusal) (x .after) (x .told)
     ]
 
@@ -113,7 +114,7 @@ pub record Delivered (h : Sheet) (k : Born) (xs : List Made) : Type 0 where
   -- every surviving block of the start keeps its mark
   pub births : (b b′ : ℕ) → b < k .memory .count → nowAt made k xs b ≡ some b′ → bornAt (afterAll made k xs) b′ ≡ bornAt k b
   -- a compile that names a block which was none of the start is answered 17, and nothing changes
-  pub later : (setup : ℕ) (shop : Shop) (n : ℕ) (after : Born) → CompiledAs h (afterAll made k xs) (callOf setup shop) n after → setup < afterAll made k xs .memory .count
+  pub later : (loader : Loader) (setup : ℕ) (shop : Shop) (n : ℕ) (after : Born) → CompiledAs h (afterAll made k xs) (callOf loader setup shop) n after → setup < afterAll made k xs .memory .count
       → ((b : ℕ) → b < k .memory .count → nowAt made k xs b ≢ some setup) → (n ≡ bornLater) × (after ≡ afterAll made k xs)
 
 -- ---- from the promises to the definitions
@@ -133,17 +134,17 @@ tells-told (some k) = refl
 module _ (h : Sheet) where
   asked-refusal : (a : Asked) (k : Born) (x : Made) → x .asked ≡ a → AsPromised h k x → x .refusal ≡ changeRefusalIn h k (asChange a)
   unfolding changeRefusalIn
-  asked-refusal (compile b sh) k x e p = (rw e at p) .answer
+  asked-refusal (compile o b sh) k x e p = (rw e at p) .answer
   asked-refusal (reclaim rs mv) k x e p = (rw e at p) .answer
 
   asked-next : (a : Asked) (k : Born) (x : Made) → x .asked ≡ a → AsPromised h k x → x .after ≡ changedIn h k (asChange a)
   unfolding changedIn
-  asked-next (compile b sh) k x e p = (rw e at p) .is
+  asked-next (compile o b sh) k x e p = (rw e at p) .is
   asked-next (reclaim rs mv) k x e p = (rw e at p) .is
 
   asked-now : (a : Asked) (k : Born) (x : Made) (j : ℕ) → x .asked ≡ a → AsPromised h k x → tellsOf a (x .refusal) (x .told) j ≡ numberAfterIn k (asChange a) j
   unfolding numberAfterIn
-  asked-now (compile b sh) k x j e p = refl
+  asked-now (compile o b sh) k x j e p = refl
   asked-now (reclaim rs mv) k x j e p =
       let q : ReclaimedAs k rs mv (x .refusal) (x .after) (x .told) = rw e at p in
       rw (q .answer, q .tells) (by (eqb (reclaimRefusalIn k rs) 0) refl)
@@ -221,8 +222,8 @@ module _ (h : Sheet) where
             links = every-same (linksOf (blockIn (k .memory) b)) (w .follow) (w .links);
           };
       births = λ b b′ l n. ap (λ (t : Born). bornAt t b′) (followed .after) ∙ demand .births b b′ l (now-is b ∙ n);
-      later = λ setup shop n after p l u.
-          let c = callOf setup shop in
+      later = λ loader setup shop n after p l u.
+          let c = callOf loader setup shop in
           let t = followed .after in
           let a = demand .later c (subst (λ (j : Born). setup < j .memory .count) t l) (λ b q z. u b q (followed .now b ∙ z)) in
           let m = demand .marked c (a .0) in

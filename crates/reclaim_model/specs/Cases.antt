@@ -14,6 +14,7 @@ use Rattle.model.specs.Cases.{first, opened, sheet}
 use Rattle.reclaim_model.specs.Rename.{linksOf, targets, renameBlock}
 use Rattle.reclaim_model.specs.Reclaim.{reached, reachFrom, missed, firstMissed, survivors, rank, movedFrom, keptBlocks}
 use Rattle.reclaim_model.specs.Changes.{BornScript, appendedBorn, compileRefusalBorn, compiledBorn, keptOnly, reclaimRefusal, reclaimed}
+use Rattle.model.specs.declared.Loader.the-variants.{Disc}
 
 -- block 0 goes on to 4 by next and names 2 by else; 1 links to 0 and is reached by none; 2 and 4 end; 3 is data that 5 leads to by a Goto, and 5 is reached by none
 abbrev blocks : List Block
@@ -76,7 +77,7 @@ left-0 = refl
 
 -- the empty shop at block 0 of one Return block, which is emptied: of 42 commands counted the 22 blocks, all reached, hold 41
 abbrev emptyShop : BornScript
-emptyShop = compiledBorn sheet (record { script = first; births = 0 ∷ []; compiles = 0 }) (record { setup = 0; shop = [] })
+emptyShop = compiledBorn sheet (record { script = first; births = 0 ∷ []; compiles = 0 }) (record { loader = Disc; setup = 0; shop = [] })
 
 abbrev sizes : BornScript → List ℕ
 sizes k = length (k .script .blocks) ∷ k .script .commands ∷ k .script .nodes ∷ length (k .births) ∷ k .compiles ∷ []

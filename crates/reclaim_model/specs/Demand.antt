@@ -16,7 +16,7 @@ use Rattle.model.specs.Shop.{Slot}
 use Rattle.model.specs.Script.{Block, blockAt, isCode}
 use Rattle.model.specs.Judge.{callRefusal, sharedRefusal}
 use Rattle.model.specs.Compile.{Call, redirect}
-use Rattle.model.specs.Run.{run, runCall, runChecked}
+use Rattle.model.specs.Run.{run, runCall, runCheckedBy}
 use Rattle.model.specs.Parse.{parse, parseCall, parseChecked}
 use Rattle.model.specs.Normal.{normal, normalShop}
 use Rattle.model.specs.Lists.{afterAll, lastAt, nowAt}
@@ -85,7 +85,7 @@ module _ (h : Sheet) (k : BornScript) (b : ℕ) (ys : List Slot) (a : Carried h 
       rw (a .shop .sheet, a .judged, lt-ltb b (length bs) l, carried-code)
 
   run-call : (s : Save) → saveRefusal h s ≡ 0 → (budget : ℕ) → runCall h (k .script) b s budget ≡ run (k .script .blocks) s budget b (s .variables)
-  unfolding runChecked
+  unfolding runCheckedBy
   run-call s f budget = rw (carried-passes, f)
 
   run-at : (s : Save) → saveRefusal h s ≡ 0 → RunsAs h s ys (λ budget. runCall h (k .script) b s budget)

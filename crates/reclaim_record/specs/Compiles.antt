@@ -4,11 +4,11 @@ use mathlib.Core.Logic.{_≢_}
 use mathlib.Core.List.{List, [], _∷_}
 use Prim.Native.Nat.{ℕ, zero, suc}
 use borrow.Author.Tests.{ne-eqb}
-use Rattle.model.specs.Refusal.{bornLater, check, firstOf, noRoom}
+use Rattle.model.specs.Refusal.{bornLater, check, firstOf}
 use Rattle.model.specs.Sheet.{Sheet}
 use Rattle.model.specs.Shop.{shopRefusal}
 use Rattle.model.specs.Memory.{scriptOf}
-use Rattle.model.specs.Compile.{Call, compileChecks, discLimits, freshBlocks, hasRoom}
+use Rattle.model.specs.Compile.{Call, compileChecks, freshBlocks, roomRefusal}
 use Rattle.model.specs.RecordCalls.{Born, bornAt, callIn, compileRefusalIn, compiledIn, recordRefusal}
 use Rattle.model.specs.Laws.Checks.{CompilePassed, compile-passed}
 
@@ -26,7 +26,7 @@ module _ (h : Sheet) (k : Born) (c : Call) where
   unfolding compileRefusalIn compileChecks callIn
   later-refused d = (
     rw (ne-eqb (bornAt k (c .setup)) 0 d)
-        (by (callIn h (k .memory) (c .setup)) (shopRefusal h (c .shop) ∷ check (hasRoom discLimits (scriptOf (k .memory)) (freshBlocks h (scriptOf (k .memory)) c)) noRoom ∷ [])),
+        (by (callIn h (k .memory) (c .setup)) (shopRefusal h (c .shop) ∷ roomRefusal (c .loader) (scriptOf (k .memory)) (freshBlocks h (scriptOf (k .memory)) c) ∷ [])),
     compile-stays (λ z. d (passed-in z .born)),
   )
     where

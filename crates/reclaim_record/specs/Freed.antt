@@ -10,7 +10,7 @@ use Rattle.model.specs.Script.{Block, Script, blockCommands, blockNodes, sumOf}
 use Rattle.model.specs.Image.{Limits}
 use Rattle.model.specs.Judge.{counted, scriptRefusal}
 use Rattle.model.specs.Memory.{scriptOf}
-use Rattle.model.specs.Compile.{discLimits, hasRoom}
+use Rattle.model.specs.Compile.{hasRoom}
 use Rattle.model.specs.RecordCalls.{Born}
 use Rattle.model.specs.Laws.Judged.{Room, room-low}
 use Rattle.memory.specs.Sound.{Long}
@@ -31,16 +31,16 @@ pub record RoomAgain (k : Born) (rs : List ℕ) : Type 0 where
   pub blocks : reclaimedIn k rs .memory .count ≡ rank (livesIn k rs) (length (livesIn k rs))
   pub commands : reclaimedIn k rs .memory .coded .count ≡ sumOf blockCommands (survivors (livesIn k rs) (scriptOf (k .memory) .blocks))
   pub nodes : reclaimedIn k rs .memory .coded .nodes .count ≡ sumOf blockNodes (survivors (livesIn k rs) (scriptOf (k .memory) .blocks))
-  -- which is what check 9 of the next compile counts from
+  -- which is what 9 and 19 of the next compile count from
   pub counts : scriptOf (reclaimedIn k rs .memory) ≡ counted (keptBlocks (livesIn k rs) (scriptOf (k .memory) .blocks))
-  -- none is above what it was, so what had room has room
-  pub room : (xs : List Block) → hasRoom discLimits (scriptOf (k .memory)) xs ≡ true → hasRoom discLimits (scriptOf (reclaimedIn k rs .memory)) xs ≡ true
+  -- none is above what it was, so what had room under any limits has room
+  pub room : (l : Limits) (xs : List Block) → hasRoom l (scriptOf (k .memory)) xs ≡ true → hasRoom l (scriptOf (reclaimedIn k rs .memory)) xs ≡ true
 
 low-room : (l : Limits) (sc : Script) (xs : List Block) → Room l sc xs → hasRoom l sc xs ≡ true
 unfolding hasRoom
 low-room l sc xs r = rw (le-leb _ _ (r .blocks), le-leb _ _ (r .commands), le-leb _ _ (r .nodes))
 
-module _ (k : Born) (rs : List ℕ) (l : Long (k .memory)) (e : reclaimRefusalIn k rs ≡ 0) where
+module _ (k : Born) (rs : List ℕ) (g : Long (k .memory)) (e : reclaimRefusalIn k rs ≡ 0) where
   abbrev ms : List Bool
   ms = livesIn k rs
 
@@ -52,7 +52,7 @@ module _ (k : Born) (rs : List ℕ) (l : Long (k .memory)) (e : reclaimRefusalIn
 
   left : scriptOf (reclaimedIn k rs .memory) ≡ counted (keptBlocks (livesIn k rs) (scriptOf (k .memory) .blocks))
   unfolding reclaimedIn keptOnlyIn
-  left = rw e (fresh-put (k .memory) (keptBlocks ms old) l (unfold keptOnly in reclaim-judged (bornScript k) rs ok) .is)
+  left = rw e (fresh-put (k .memory) (keptBlocks ms old) g (unfold keptOnly in reclaim-judged (bornScript k) rs ok) .is)
 
   long : length (keptBlocks (livesIn k rs) (scriptOf (k .memory) .blocks)) ≡ rank (livesIn k rs) (length (livesIn k rs))
   long = unfold keptOnly in length-kept (bornScript k) rs ok
@@ -74,10 +74,10 @@ module _ (k : Born) (rs : List ℕ) (l : Long (k .memory)) (e : reclaimRefusalIn
         commands = ap (λ (s : Script). s .commands) left ∙ commands-left;
         nodes = ap (λ (s : Script). s .nodes) left ∙ nodes-left;
         counts = left;
-        room = λ xs p.
+        room = λ l xs p.
             let d = reclaim-held (bornScript k) rs ok in
-            let r = room-low discLimits (scriptOf (k .memory)) xs p in
-            rw left (low-room discLimits (counted (keptBlocks ms old)) xs
+            let r = room-low l (scriptOf (k .memory)) xs p in
+            rw left (low-room l (counted (keptBlocks ms old)) xs
             (record {
               blocks = omega (arith, long, rank-most ms (length ms), reached-long old rs, r .blocks);
               commands = omega (arith, d .commands, r .commands);

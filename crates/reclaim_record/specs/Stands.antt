@@ -10,7 +10,7 @@ use lib.ListN.{getD, length, replicate, take, drop, length-append, length-replic
 use lib.Seq.{sets, sets-eq, length-sets, take-at, length-take-le, getD-take}
 use borrow.Author.Tests.{eqb-true}
 use Rattle.model.specs.Limits.{blockLimit}
-use Rattle.model.specs.Refusal.{bornLater, check, firstOf, noRoom}
+use Rattle.model.specs.Refusal.{bornLater, check, firstOf}
 use Rattle.model.specs.Save.{Save}
 use Rattle.model.specs.Sheet.{Sheet}
 use Rattle.model.specs.Shop.{shopRefusal}
@@ -20,7 +20,7 @@ use Rattle.model.specs.Judge.{callRefusal, counted, scriptRefusal, sharedRefusa
 use Rattle.model.specs.Memory.{Memory, scriptOf, blockIn, blocksIn, putBlocks}
 use Rattle.model.specs.Record.{judgedRecord}
 use Rattle.model.specs.RecordCalls.{Born, appendedIn, birthsAfter, bornAt, callIn, compileRefusalIn, compiledIn, oneCompile, parseIn, recordRefusal, runIn}
-use Rattle.model.specs.Compile.{Call, appended, compileChecks, compileRefusal, discLimits, freshBlocks, hasRoom}
+use Rattle.model.specs.Compile.{Call, appended, compileChecks, compileRefusal, discLimits, freshBlocks, roomRefusal}
 use Rattle.model.specs.Run.{runCall}
 use Rattle.model.specs.Parse.{parseCall}
 use Rattle.model.specs.Laws.Checks.{setup-inside, shared-passed}
@@ -104,7 +104,7 @@ unfolding compileChecks
 birth-asked h j n n′ sc c e = by (sharedRefusal h j sc (c .setup)) (λ z. e (setup-inside sc (c .setup) (shared-passed h j sc (c .setup) z .2)))
   where
     rest : List ℕ
-    rest = shopRefusal h (c .shop) ∷ check (hasRoom discLimits sc (freshBlocks h sc c)) noRoom ∷ []
+    rest = shopRefusal h (c .shop) ∷ roomRefusal (c .loader) sc (freshBlocks h sc c) ∷ []
 
     by : (a : ℕ) → (a ≡ 0 → n ≡ n′) → firstOf (a ∷ check (eqb n 0) bornLater ∷ rest) ≡ firstOf (a ∷ check (eqb n′ 0) bornLater ∷ rest)
     by zero e = ap (λ (i : ℕ). firstOf (check (eqb i 0) bornLater ∷ rest)) (e refl)

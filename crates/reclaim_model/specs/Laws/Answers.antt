@@ -9,7 +9,7 @@ use Rattle.model.specs.Save.{Save}
 use Rattle.model.specs.Sheet.{Sheet}
 use Rattle.model.specs.Script.{Block, placeholder, code, dataBlock, blockAt, isCode}
 use Rattle.model.specs.Judge.{callRefusal, sharedRefusal}
-use Rattle.model.specs.Run.{runCall, runChecked}
+use Rattle.model.specs.Run.{runCall, runCheckedBy}
 use Rattle.model.specs.Parse.{State, afterChecks, parse, parseCall, parseChecked}
 use Rattle.reclaim_model.specs.Rename.{renameBlock}
 use Rattle.reclaim_model.specs.Reclaim.{rank}
@@ -41,7 +41,7 @@ module _ (h : Sheet) (m : BornScript) (rs : List ℕ) (e : reclaimRefusal m rs �
       rw (j, reclaim-judged m rs j, lt-ltb b (length (m .script .blocks)) (u .inside b live), lt-ltb (rank ms b) (length (keptOnly ms m .script .blocks)) (u .inside′ b live), c)
 
   pub run-survives : (s : Save) (budget : ℕ) → runCall h (reclaimed m rs .script) (rank (lives m rs) b) s budget ≡ runCall h (m .script) b s budget
-  unfolding runChecked
+  unfolding runCheckedBy
   run-survives s budget =
       let j = reclaim-passed m rs e .judged in
       rw (

@@ -10,11 +10,11 @@ use lib.ListN.{getD, length, length-append, replicate, length-replicate, getD-re
 use lib.Seq.{getD-append-add}
 use borrow.Author.Tests.{ne-eqb}
 use Rattle.model.specs.Limits.{mostCompiles}
-use Rattle.model.specs.Refusal.{check, firstOf, noRoom, bornLater}
+use Rattle.model.specs.Refusal.{check, firstOf, bornLater}
 use Rattle.model.specs.Sheet.{Sheet}
 use Rattle.model.specs.Shop.{shopRefusal}
 use Rattle.model.specs.Judge.{callRefusal, scriptRefusal}
-use Rattle.model.specs.Compile.{Call, compileChecks, compileRefusal, discLimits, freshBlocks, hasRoom}
+use Rattle.model.specs.Compile.{Call, compileChecks, compileRefusal, freshBlocks, roomRefusal}
 use Rattle.model.specs.RecordCalls.{oneCompile}
 use Rattle.model.specs.Laws.Checks.{CompilePassed, compile-passed}
 use Rattle.model.specs.Laws.Compiled.{length-linked}
@@ -56,7 +56,7 @@ module _ (h : Sheet) (k : BornScript) (c : Call) where
   unfolding compileRefusalBorn compileChecks
   later-refused d = (
     rw (ne-eqb (birthAt k (c .setup)) 0 d)
-        (by (callRefusal h (k .script) (c .setup)) (shopRefusal h (c .shop) ∷ check (hasRoom discLimits (k .script) (freshBlocks h (k .script) c)) noRoom ∷ [])),
+        (by (callRefusal h (k .script) (c .setup)) (shopRefusal h (c .shop) ∷ roomRefusal (c .loader) (k .script) (freshBlocks h (k .script) c) ∷ [])),
     refused-is (λ z. d (passed-born z .born)),
   )
     where
