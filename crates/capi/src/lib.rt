@@ -14,6 +14,7 @@ ghost use Rattle.memory.specs.View.{memoryOf, bornOf, emptyIn};
 ghost use Rattle.shop.specs.Shapes.{slotsOf};
 ghost use Rattle.shop_arrays.specs.Arrays.{arraysIn, shopFrom};
 ghost use Rattle.compile.specs.Answer.{callOf, CompiledAs};
+ghost use Rattle.reclaim.specs.Answer.{ReclaimedAs};
 ghost use Rattle.parse.specs.Answer.{ParsedInto};
 ghost use Rattle.preview.specs.Shown.{previewedOf};
 ghost use Rattle.shop_with_slots.specs.Twenty.{twenty};
@@ -23,6 +24,7 @@ use compile::compile_arrays;
 use image_read::Image;
 use image_read::read_script;
 use image_write::write_script;
+use memory::BLOCKS;
 use memory::Births;
 use memory::BlockWords;
 use memory::CommandWords;
@@ -33,6 +35,7 @@ use model::BlockNo;
 use model::ItemId;
 use parse::parse_arrays;
 use preview::preview_arrays;
+use reclaim::reclaim;
 use runner::run;
 use shop::Codes;
 use shop::SLOTS;
@@ -248,6 +251,40 @@ pub extern "C" fn lk_compile(
         commands: kept.commands,
         blocks: kept.blocks,
         compiles: r.compiles,
+    }
+}
+
+// Takes back the blocks that no root reaches by next, else and command targets: the others keep their order and get the numbers from 0 on,
+// links and birth marks follow them, and moved tells for each old block its new number and 1, or 0. The count of compiles is kept. Refused, nothing is written and the counts are those handed in.
+#[no_mangle]
+pub extern "C" fn lk_reclaim(
+    ws: &mut NodeWords,
+    val: &mut Values,
+    cw: &mut CommandWords,
+    bw: &mut BlockWords,
+    births: &mut Births,
+    nodes: u16,
+    commands: u16,
+    blocks: u16,
+    compiles: u32,
+    roots: &[u32],
+    moved: &mut [u16; BLOCKS],
+) -> Kept
+    ensures { λ r. ⌜ ReclaimedAs (bornOf (now (ws .entry)) (now (val .entry)) (now (cw .entry)) (now (bw .entry)) (countsBy nodes commands blocks) (now (births .entry)) compiles) (now (roots .entry)) (now (moved .entry)) (r .refusal) (bornOf (now (ws .exit)) (now (val .exit)) (now (cw .exit)) (now (bw .exit)) (countsIn r) (now (births .exit)) (r .compiles)) (now (moved .exit)) ⌝ }
+{
+    let counts = Counts {
+        nodes: nodes,
+        commands: commands,
+        blocks: blocks,
+    };
+    let r = reclaim(ws, val, cw, bw, births, counts, roots, moved);
+    let kept = r.counts;
+    Kept {
+        refusal: r.refusal,
+        nodes: kept.nodes,
+        commands: kept.commands,
+        blocks: kept.blocks,
+        compiles: compiles,
     }
 }
 

@@ -9,13 +9,14 @@ use lib.Dec.{ltb}
 use lib.ListN.{length, length-append}
 use Rattle.model.specs.Expr.{Expr, two, one, imm16, imm32, other, size}
 use Rattle.model.specs.Script.{Command, return, goto, setVariable, setOther, ifElse, endIf, otherCommand, Block, placeholder, code, dataBlock, commandNodes, commandsNodes, blockNodes, blockCommands, sumOf}
-use Rattle.model.specs.Reading.{word, wordTo, zig}
+use Rattle.model.specs.Reading.{got, word, wordTo, zig}
 use Rattle.model.specs.Image.{code2, code1, exprImage, commandImage, commandsImage, linkImage, blockImage, blocksImage, image}
 use Rattle.model.specs.declared.Op2.{Op2}
 use Rattle.model.specs.declared.Op2.the-variants.{Equal, NotEqual, Less, LessEqual, Greater, GreaterEqual, Add, Subtract, BitAnd, BitOr}
 use Rattle.model.specs.declared.Op1.{Op1}
 use Rattle.model.specs.declared.Op1.the-variants.{Not, Flag, Variable, Item, Atc, Time}
 use Rattle.model.specs.Memory.{Memory, scriptOf}
+use Rattle.model.specs.Record.{judgedRecord}
 use Rattle.model.specs.Laws.Judged.{accepted-held}
 use Rattle.memory.specs.RecordLaws.{judged-sound}
 use Rattle.memory.specs.Transfer.{blocks-counted, accepted-script}
@@ -108,26 +109,24 @@ blocks-short (b ∷ bs) = omega (arith, length-append (blockImage b) (blocksImag
 abbrev pub mostBytes : ℕ → ℕ → ℕ → ℕ
 mostBytes blocks commands nodes = 5 + 16 * blocks + 6 * commands + 6 * nodes
 
-module _ (m : Memory) (p : Plain m) where
-  pub plain-accepted : Accepted m (length (image (p .blocks)))
-  plain-accepted = record { blocks = p .blocks; judged = p .judged; same = judged-sound m (p .blocks) [] (p .judged) .image-is; bytes = refl }
+pub record-short : (m : Memory) (bs : List Block) (r : List ℕ) → judgedRecord m ≡ got bs r → length (image bs) ≤ mostBytes (m .count) (m .coded .count) (m .coded .nodes .count)
+unfolding image scriptOf
+record-short m bs r e =
+    let j = judged-sound m bs r e in
+    let d = accepted-held (scriptOf m) (accepted-script m bs r e) .1 in
+    let n = blocks-counted m in
+    omega (
+      arith,
+      n,
+      length-append (word (length bs)) (blocksImage bs),
+      word-short (length bs),
+      blocks-short bs,
+      ap length (j .blocks-are),
+      ap (sumOf blockCommands) (j .blocks-are),
+      ap (sumOf blockNodes) (j .blocks-are),
+      d .commands,
+      d .nodes,
+    )
 
-  pub plain-short : length (image (p .blocks)) ≤ mostBytes (m .count) (m .coded .count) (m .coded .nodes .count)
-  unfolding image scriptOf
-  plain-short =
-      let bs = p .blocks in
-      let j = judged-sound m bs [] (p .judged) in
-      let d = accepted-held (scriptOf m) (accepted-script m bs [] (p .judged)) .1 in
-      let n = blocks-counted m in
-      omega (
-        arith,
-        n,
-        length-append (word (length bs)) (blocksImage bs),
-        word-short (length bs),
-        blocks-short bs,
-        ap length (j .blocks-are),
-        ap (sumOf blockCommands) (j .blocks-are),
-        ap (sumOf blockNodes) (j .blocks-are),
-        d .commands,
-        d .nodes,
-      )
+pub plain-accepted : (m : Memory) (p : Plain m) → Accepted m (length (image (p .blocks)))
+plain-accepted m p = record { blocks = p .blocks; judged = p .judged; same = judged-sound m (p .blocks) [] (p .judged) .image-is; bytes = refl }

@@ -1,1 +1,3 @@
 pub mod Answer
+pub mod Stages
+pub mod Laws

@@ -7,7 +7,7 @@ use Rattle.model.specs.Memory.{Memory, memoryIn}
 use Rattle.judge_plain.specs.Counted.{Plain}
 use Rattle.image_numbers.specs.Stored.{stored-length}
 use Rattle.image_write.specs.Call.{fine-kept, fine-room, call-fine}
-use Rattle.image_write.specs.Lengths.{mostBytes, plain-accepted, plain-short}
+use Rattle.image_write.specs.Lengths.{mostBytes, plain-accepted, record-short}
 use borrow.Author.Needs.{needs}
 use Rattle.image_write.proofs.write_script.Statement.{statement}
 use Rattle.image_write.proofs.write_script.Tie as tie
@@ -17,7 +17,7 @@ me s = memoryIn (s .args .ws .now) (s .args .val .now) (s .args .cw .now) (s .ar
 
 -- the slice holds the image
 fits : (s : tie.Start) (p : Plain (me s)) → mostBytes (s .args .counts .blocks) (s .args .counts .commands) (s .args .counts .nodes) ≤ length (s .args .out .now) → length (image (p .blocks)) ≤ length (s .args .out .now)
-fits s p l = omega (arith, plain-short (me s) p)
+fits s p l = omega (arith, record-short (me s) (p .blocks) _ (p .judged))
 
 most-bytes-requires : tie.Need-most-bytes-requires
 most-bytes-requires c κs = search needs
