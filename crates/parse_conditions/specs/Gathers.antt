@@ -14,10 +14,10 @@ use Rattle.model.specs.Sheet.{Sheet}
 use Rattle.model.specs.Parse.{value, isJoin, isNot, mapReq, ifZero, signed, addReq, parseRequirement, gather}
 use Rattle.model.specs.declared.Op2.the-variants.{Equal, NotEqual, Less, LessEqual, Greater, GreaterEqual, Add, Subtract, BitAnd, BitOr}
 use Rattle.model.specs.declared.Op1.the-variants.{Not, Flag, Variable, Item, Atc, Time}
-use Rattle.expr.specs.Tree.{size-pos}
 use Rattle.expr.specs.Requirement.{negate-twice}
 use Rattle.parse_keys.specs.Turns.{signs-meet}
 use Rattle.parse_conditions.specs.Gathered.{single, alone, gathered, inserted}
+use Rattle.memory.specs.PutNodes.{size-pos}
 
 inserted-append : (xs ys rs : List Requirement) → inserted (xs ++ ys) rs ≡ inserted ys (inserted xs rs)
 inserted-append [] ys rs = refl

@@ -1,5 +1,4 @@
 use Rattle.model.specs.Expr.{negate}
-use Rattle.expr.specs.Tree.{size-pos}
 use Rattle.expr_build.specs.Tests.{joinCodes, acquiredOf}
 use Rattle.expr_build.specs.Laws.{two-put}
 use Rattle.expr_build.specs.AcquiredLaws.{missing-none, missing-some, size-missing-some, size-missing-least}
@@ -7,6 +6,7 @@ use native.Mathlib.Omega.{arith}
 use native.Mathlib.Omega.{arith}
 use Rattle.expr_build.proofs.push_missing_and.Statement.{statement}
 use Rattle.expr_build.proofs.push_missing_and.Tie as tie
+use Rattle.memory.specs.PutNodes.{size-pos}
 
 push-missing-requires : tie.Need-push-missing-requires
 push-missing-requires c κs = (omega (arith, c .before .before .pre .0, size-missing-least (c .before .before .args .a) (c .before .before .args .codes .now) (c .before .before .args .len)), c .before .before .pre .1)

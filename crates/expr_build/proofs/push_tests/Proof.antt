@@ -11,11 +11,11 @@ use Rattle.model.specs.Memory.{Nodes, nodesIn}
 use Rattle.shop_codes.specs.Codes.{requirementOf}
 use Rattle.memory.specs.Pushed.{PutExpr}
 use Rattle.expr_build.specs.Tests.{codesRest, joinCodes}
-use Rattle.expr.specs.Tree.{size-pos}
 use Rattle.expr_build.specs.Laws.{two-put}
 use Rattle.expr_build.specs.Joined.{joined-room, joined-step, joined-grows}
 use Rattle.expr_build.proofs.push_tests.Statement.{statement}
 use Rattle.expr_build.proofs.push_tests.Tie as tie
+use Rattle.memory.specs.PutNodes.{size-pos}
 
 abbrev Inv-loop : tie.InvT-loop
 Inv-loop ws₀ val₀ n codes len at₀ end i₀ ws val at i =
