@@ -10,12 +10,12 @@ use lib.ListN.{getD, set, length, length-set, replicate}
 use lib.Seq.{sets, length-sets, getD-set-same, getD-set-other}
 use borrow.Author.Tests.{ne-eqb}
 use Rattle.model.specs.Limits.{blockLimit, mostCompiles}
-use Rattle.model.specs.Refusal.{check, firstOf, noRoom, bornLater}
+use Rattle.model.specs.Refusal.{firstOf, bornLater}
 use Rattle.model.specs.Sheet.{Sheet}
 use Rattle.model.specs.Shop.{shopRefusal}
 use Rattle.model.specs.Script.{Block, placeholder, code, dataBlock}
 use Rattle.model.specs.Memory.{Memory, scriptOf, putBlock, putBlocks, redirectIn}
-use Rattle.model.specs.Compile.{Call, compileChecks, discLimits, freshBlocks, hasRoom}
+use Rattle.model.specs.Compile.{Call, compileChecks, discLimits, freshBlocks, roomRefusal}
 use Rattle.model.specs.Lists.{Along, NoneAppended}
 use Rattle.model.specs.RecordCalls.{Born, bornAt, callIn, compileRefusalIn, compiledIn, compilesIn, oneCompile, recordRefusal}
 use Rattle.model.specs.Laws.Checks.{CompilePassed, compile-passed}
@@ -79,7 +79,7 @@ module _ (h : Sheet) (k : Born) (c : Call) where
   unfolding compileRefusalIn compileChecks callIn
   later-refused d = (
     rw (ne-eqb (bornAt k (c .setup)) 0 d)
-        (by (callIn h (k .memory) (c .setup)) (shopRefusal h (c .shop) ∷ check (hasRoom discLimits (scriptOf (k .memory)) (freshBlocks h (scriptOf (k .memory)) c)) noRoom ∷ [])),
+        (by (callIn h (k .memory) (c .setup)) (shopRefusal h (c .shop) ∷ roomRefusal (c .loader) (scriptOf (k .memory)) (freshBlocks h (scriptOf (k .memory)) c) ∷ [])),
     refused-stays (λ z. d (passed-in z .born)),
   )
     where

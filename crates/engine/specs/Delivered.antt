@@ -1,9 +1,10 @@
--- Demand 3 over the exported calls: any list of compiles as they were made and answered, at any block numbers, then a run and a parse as they were answered. Each call comes in by its own promise. Assumes nothing.
+-- Demand 3 over the exported calls: any list of compiles as they were made and answered, at any block numbers and for any loaders, then a run and a parse as they were answered. Each call comes in by its own promise. Assumes nothing.
 use mathlib.Core.Path.{_≡_, refl, sym, ap, _∙_, subst}
 use mathlib.Core.Option.{none, some}
 use mathlib.Core.List.{List, map}
 use Prim.Native.Nat.{ℕ, _≤_, _<_}
 use lib.IntN.{ℤ}
+use Rattle.model.specs.declared.Loader.{Loader}
 use Rattle.model.specs.Limits.{runBlocks}
 use Rattle.model.specs.Refusal.{bornLater}
 use Rattle.model.specs.Save.{Save}
@@ -35,6 +36,7 @@ use Rattle.engine.specs.Records.{Demand3In, demand-3-in}
 
 -- a compile as it was made: what was given, what it answered, the record after it with its marks and count
 pub record Made : Type 0 where
+  pub loader : Loader
   pub setup : ℕ
   pub shop : Shop
   pub refusal : ℕ
@@ -45,7 +47,7 @@ abbrev pub made : Step Born Made
 made = compiling (λ k x. x .refusal) (λ k x. x .after) (λ x. x .setup) (λ x. withSlots (slotsOf (x .shop))) (λ k. k .memory .count)
 
 abbrev pub asCall : Made → Call
-asCall x = callOf (x .setup) (x .shop)
+asCall x = callOf (x .loader) (x .setup) (x .shop)
 
 -- x got the record k and answered as compile promises
 abbrev pub AsPromised : Sheet → Born → Made → Type 0
