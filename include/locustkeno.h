@@ -33,6 +33,10 @@ extern "C" {
 #define LK_BLOCK_WORDS 20480
 #define LK_BLOCKS 4096
 #define LK_ROOTS 256
+#define LK_DEMO_BLOCKS 512
+#define LK_DEMO_COMMANDS 2048
+#define LK_DISC 0
+#define LK_DEMO 1
 #define LK_SLOTS 20
 #define LK_ENTRIES 14
 
@@ -97,14 +101,16 @@ typedef struct {
     int32_t temp;
 } lk_previewed;
 
-/* Compiles a shop and links it at block setup; the blocks that it appends bear the new count of compiles. Refused (1 to 7, 17,
- * 8, 9 in this order), nothing is written and the counts are those handed in. 17: the mark of the setup block is not 0. */
+/* Compiles a shop and links it at block setup; the blocks that it appends bear the new count of compiles. loader is
+ * LK_DISC, or any other number for the demo. Refused (1 to 7, 17, 8, 9, 19 in this order), nothing is written and the
+ * counts are those handed in. 17: the mark of the setup block is not 0. 19: the result passes a limit of the demo,
+ * LK_DEMO_BLOCKS blocks or LK_DEMO_COMMANDS commands. */
 lk_kept lk_compile(const uint8_t *attached, size_t attached_len, uint16_t atcs, uint16_t timer5, uint16_t timer10,
                    uint16_t timer15, uint16_t ws[LK_NODE_WORDS], int32_t val[LK_VALUES], uint16_t cw[LK_COMMAND_WORDS],
                    uint16_t bw[LK_BLOCK_WORDS], uint32_t births[LK_BLOCKS], uint16_t nodes, uint16_t commands,
-                   uint16_t blocks, uint32_t compiles, uint32_t setup, const int32_t items[LK_SLOTS],
-                   const int16_t limits[LK_SLOTS], const uint64_t codes[LK_SLOTS * LK_ENTRIES],
-                   const uint8_t lens[LK_SLOTS]);
+                   uint16_t blocks, uint32_t compiles, uint8_t loader, uint32_t setup,
+                   const int32_t items[LK_SLOTS], const int16_t limits[LK_SLOTS],
+                   const uint64_t codes[LK_SLOTS * LK_ENTRIES], const uint8_t lens[LK_SLOTS]);
 
 /* The arrays of a shop from any number of slots, each with LK_ENTRIES codes. As many slots are given as there are items;
  * what another slice lacks of them is 0. Slots past LK_SLOTS are dropped unchecked, missing ones are empty. */

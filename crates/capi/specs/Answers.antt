@@ -1,7 +1,9 @@
--- What the numbers of the library's calls stand for: sheets, and the answers with what they leave in the arrays. Assumes nothing: these are definitions.
+-- What the numbers of the library's calls stand for: sheets, loaders, and the answers with what they leave in the arrays. Assumes nothing: these are definitions.
 use mathlib.Core.List.{List}
 use Prim.Native.Nat.{ℕ, zero, suc}
 use lib.IntN.{ℤ}
+use Rattle.model.specs.declared.Loader.{Loader}
+use Rattle.model.specs.declared.Loader.the-variants.{Disc, Demo}
 use Rattle.memory.specs.declared.Counts.{Counts}
 use Rattle.model.specs.Memory.{Memory}
 use Rattle.model.specs.Run as Run
@@ -21,6 +23,11 @@ countsIn r = countsBy (r .nodes) (r .commands) (r .blocks)
 
 abbrev pub sheetBy : ℕ → ℕ → ℕ → ℕ → Sheet
 sheetBy atcs five ten fifteen = record { atcs = atcs; timer5 = record { 0 = five }; timer10 = record { 0 = ten }; timer15 = record { 0 = fifteen } }
+
+-- 0 is the disc, every other number the demo
+abbrev pub loaderBy : ℕ → Loader
+loaderBy zero = Disc
+loaderBy (suc n) = Demo
 
 -- 0 is acceptance
 abbrev pub outcomeBy : ℕ → Memory → Outcome

@@ -18,7 +18,7 @@ ghost use Rattle.reclaim.specs.Answer.{ReclaimedAs};
 ghost use Rattle.parse.specs.Answer.{ParsedInto};
 ghost use Rattle.preview.specs.Shown.{previewedOf};
 ghost use Rattle.shop_with_slots.specs.Twenty.{twenty};
-ghost use Rattle.capi.specs.Answers.{countsBy, countsIn, sheetBy, readAs, ranAs, previewedAs};
+ghost use Rattle.capi.specs.Answers.{countsBy, countsIn, sheetBy, loaderBy, readAs, ranAs, previewedAs};
 use births::start_anew;
 use compile::compile_arrays;
 use image_read::Image;
@@ -33,6 +33,7 @@ use memory::NodeWords;
 use memory::Values;
 use model::BlockNo;
 use model::ItemId;
+use model::Loader;
 use parse::parse_arrays;
 use preview::preview_arrays;
 use reclaim::reclaim;
@@ -83,6 +84,16 @@ fn sheet_by(atcs: u16, timer5: u16, timer10: u16, timer15: u16) -> Sheet
         timer5: ItemId(timer5),
         timer10: ItemId(timer10),
         timer15: ItemId(timer15),
+    }
+}
+
+// Every number is a loader: 0 the disc, any other the demo.
+fn loader_by(number: u8) -> Loader
+    ensures { λ r. ⌜ r ≡ loaderBy number ⌝ }
+{
+    match number {
+        0 => Loader::Disc,
+        _ => Loader::Demo,
     }
 }
 
@@ -197,7 +208,7 @@ pub extern "C" fn lk_run(
     }
 }
 
-// Compiles the shop that the arrays stand for and links it at block setup. The blocks that it appends bear the new count of compiles. Refused, nothing is written and the counts are those handed in.
+// Compiles the shop that the arrays stand for and links it at block setup, for the disc where loader is 0, else for the demo. The blocks that it appends bear the new count of compiles. Refused, nothing is written and the counts are those handed in.
 #[no_mangle]
 pub extern "C" fn lk_compile(
     attached: &[u8],
@@ -214,13 +225,14 @@ pub extern "C" fn lk_compile(
     commands: u16,
     blocks: u16,
     compiles: u32,
+    loader: u8,
     setup: u32,
     items: &[i32; SLOTS],
     limits: &[i16; SLOTS],
     codes: &Codes,
     lens: &[u8; SLOTS],
 ) -> Kept
-    ensures { λ r. ⌜ CompiledAs (sheetOf (now (attached .entry)) (sheetBy atcs timer5 timer10 timer15)) (bornOf (now (ws .entry)) (now (val .entry)) (now (cw .entry)) (now (bw .entry)) (countsBy nodes commands blocks) (now (births .entry)) compiles) (callOf setup (shopFrom (arraysIn (now (items .entry)) (now (limits .entry)) (now (codes .entry)) (now (lens .entry))))) (r .refusal) (bornOf (now (ws .exit)) (now (val .exit)) (now (cw .exit)) (now (bw .exit)) (countsIn r) (now (births .exit)) (r .compiles)) ⌝ }
+    ensures { λ r. ⌜ CompiledAs (sheetOf (now (attached .entry)) (sheetBy atcs timer5 timer10 timer15)) (bornOf (now (ws .entry)) (now (val .entry)) (now (cw .entry)) (now (bw .entry)) (countsBy nodes commands blocks) (now (births .entry)) compiles) (callOf (loaderBy loader) setup (shopFrom (arraysIn (now (items .entry)) (now (limits .entry)) (now (codes .entry)) (now (lens .entry))))) (r .refusal) (bornOf (now (ws .exit)) (now (val .exit)) (now (cw .exit)) (now (bw .exit)) (countsIn r) (now (births .exit)) (r .compiles)) ⌝ }
 {
     let sheet = sheet_by(atcs, timer5, timer10, timer15);
     let counts = Counts {
@@ -238,6 +250,7 @@ pub extern "C" fn lk_compile(
         births,
         counts,
         compiles,
+        loader_by(loader),
         BlockNo(setup),
         items,
         limits,

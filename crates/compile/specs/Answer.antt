@@ -1,8 +1,6 @@
 -- The answer of a compile and the record that it leaves. Assumes nothing: these are definitions.
 use mathlib.Core.Path.{_≡_}
-use mathlib.Core.List.{List}
 use Prim.Native.Nat.{ℕ}
-use lib.IntN.{ℤ}
 use Rattle.model.specs.declared.Loader.{Loader}
 use Rattle.model.specs.Sheet as Model
 use Rattle.model.specs.Compile.{Call}

@@ -5,7 +5,6 @@ ghost use Rattle.memory.specs.View.{bornOf};
 ghost use Rattle.shop.specs.Shapes.{sheetOf};
 ghost use Rattle.shop_arrays.specs.Arrays.{arraysIn, shopFrom};
 ghost use Rattle.compile.specs.Answer.{callOf, CompiledAs};
-
 use births::birth_of;
 use births::mark_births;
 use births::one_compile;

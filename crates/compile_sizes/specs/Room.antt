@@ -2,14 +2,14 @@
 use mathlib.Core.Path.{_≡_, refl, sym, ap, _∙_}
 use mathlib.Core.Bool.{Bool, true, false, _&&_}
 use mathlib.Core.List.{List, [], _∷_}
-use Prim.Native.Nat.{ℕ, _+_, _≤_, _<_}
+use Prim.Native.Nat.{_+_, _≤_, _<_}
 use native.Mathlib.Omega.{arith}
 use borrow.Author.Tests.{le-leb, lt-leb, leb-true}
 use lib.Dec.{leb}
 use lib.ListN.{length}
 use Rattle.model.specs.declared.Loader.{Loader}
 use Rattle.model.specs.declared.Loader.the-variants.{Disc, Demo}
-use Rattle.model.specs.Limits.{blockLimit, commandLimit, nodeLimit}
+use Rattle.model.specs.Limits.{blockLimit, commandLimit}
 use Rattle.model.specs.Refusal.{check, firstOf, noRoom, demoFull}
 use Rattle.model.specs.Script.{Script}
 use Rattle.model.specs.Sheet.{Sheet}

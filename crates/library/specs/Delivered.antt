@@ -1,4 +1,4 @@
--- Demand 3 over the calls of the library: any list of lk_compile as they were made and answered, at any block numbers, then lk_run, lk_parse and lk_preview as they were answered. Each call comes in by its own promise. Assumes nothing.
+-- Demand 3 over the calls of the library: any list of lk_compile as they were made and answered, at any block numbers and for any loaders, then lk_run, lk_parse and lk_preview as they were answered. Each call comes in by its own promise. Assumes nothing.
 use mathlib.Core.Path.{_≡_, refl, sym, ap, _∙_, subst}
 use mathlib.Core.Option.{none, some}
 use mathlib.Core.List.{List, map}
@@ -29,12 +29,13 @@ use Rattle.preview.specs.Accepted.{with-all}
 use Rattle.capi.specs.declared.Kept.{Kept}
 use Rattle.capi.specs.declared.Ran.{Ran}
 use Rattle.capi.specs.declared.Previewed.{Previewed}
-use Rattle.capi.specs.Answers.{countsIn, ranAs, previewedAs}
+use Rattle.capi.specs.Answers.{countsIn, loaderBy, ranAs, previewedAs}
 use Rattle.engine.specs.Born.{LongBorn}
 use Rattle.engine.specs.Delivered as engine
 
--- an lk_compile as it was made: the block and the arrays given, what it answered and what it left in the script's arrays
+-- an lk_compile as it was made: the loader's number, the block and the arrays given, what it answered and what it left in the script's arrays
 pub record Made : Type 0 where
+  pub loader : ℕ
   pub setup : ℕ
   pub shop : Arrays
   pub answer : Kept
@@ -58,7 +59,7 @@ made = compiling (λ k x. x .answer .refusal) (λ k x. leftBy x) (λ x. x .setup
 
 -- x got the script k and answered as lk_compile promises
 abbrev pub AsPromised : Sheet → Born → Made → Type 0
-AsPromised h k x = CompiledAs h k (callOf (x .setup) (shopFrom (x .shop))) (x .answer .refusal) (leftBy x)
+AsPromised h k x = CompiledAs h k (callOf (loaderBy (x .loader)) (x .setup) (shopFrom (x .shop))) (x .answer .refusal) (leftBy x)
 
 abbrev pub ranBy : Ran → code.Ran
 ranBy r = record { refusal = r .refusal; entered = r .entered }
@@ -85,7 +86,7 @@ pub record Delivered (h : Sheet) (k : Born) (xs : List Made) : Type 0 where
 -- ---- as the calls that lk_compile makes
 
 abbrev compileOf : Made → engine.Made
-compileOf x = record { setup = x .setup; shop = shopFrom (x .shop); refusal = x .answer .refusal; after = leftBy x }
+compileOf x = record { loader = loaderBy (x .loader); setup = x .setup; shop = shopFrom (x .shop); refusal = x .answer .refusal; after = leftBy x }
 
 -- arrays stand for twenty slots
 with-shop : (a : Arrays) → withSlots (shopOf a) ≡ shopOf a

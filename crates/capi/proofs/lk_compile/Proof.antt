@@ -6,11 +6,14 @@ use Rattle.capi.proofs.lk_compile.Tie as tie
 sheet-by-requires : tie.Need-sheet-by-requires
 sheet-by-requires c κs = search needs
 
+loader-by-requires : tie.Need-loader-by-requires
+loader-by-requires c κs = search needs
+
 compile-arrays-requires : tie.Need-compile-arrays-requires
 compile-arrays-requires c κs = search needs
 
 returns : tie.Need-returns
-returns c = rw (c .before .before .before .before .before .before .before .sheet-by .ensures) at (c .before .compile-arrays .ensures)
+returns c = rw (c .before .before .before .before .before .before .before .before .sheet-by .ensures, c .before .before .loader-by .ensures) at (c .before .compile-arrays .ensures)
 
 pub lk-compile-spec : {M : Type 1} → statement M
-lk-compile-spec = tie.close (tie.spec sheet-by-requires compile-arrays-requires returns)
+lk-compile-spec = tie.close (tie.spec sheet-by-requires loader-by-requires compile-arrays-requires returns)

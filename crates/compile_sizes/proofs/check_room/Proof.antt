@@ -1,5 +1,5 @@
 -- `check_room` meets its contract: there is room for every shop, or the shop is counted and asked by both limits. Assumes nothing.
-use mathlib.Core.Path.{refl, ap, sym, _∙_}
+use mathlib.Core.Path.{refl, ap, _∙_}
 use native.Mathlib.Omega.{arith}
 use borrow.Author.Needs.{needs}
 use borrow.Author.Tests.{not-true, not-false}
