@@ -138,7 +138,15 @@ fn keep_survivors(
     let mut todo = [0u16; BLOCKS];
     let mut table = [0u16; BLOCKS];
     reach_roots(cw, bw, counts.blocks, roots, &mut live, &mut todo);
-    let total = pack_marked(&live, &mut table, counts, &mut commands, &mut blocks, births, moved);
+    let total = pack_marked(
+        &live,
+        &mut table,
+        counts,
+        &mut commands,
+        &mut blocks,
+        births,
+        moved,
+    );
     let packed = Counts {
         nodes: counts.nodes,
         commands: counts.commands,
