@@ -1,5 +1,7 @@
 -- `keep_survivors` meets its contract: the marks are what the roots reach, the packed record is judged, and its blocks are the survivors. Assumes nothing.
 use lib.ListN.{length-replicate}
+use Rattle.model.specs.Limits.{blockLimit, commandLimit, nodeLimit}
+use Rattle.image_write.specs.Lengths.{mostBytes}
 use Rattle.reclaim_reach.specs.Roots.{roots-inside}
 use Rattle.reclaim.specs.Laws.{words-safe, kept-low, packed-fine, kept-only}
 use mathlib.Core.Path.{refl}
@@ -25,7 +27,7 @@ slice-aggregate-through-image c = search needs
 through-image-requires : tie.Need-through-image-requires
 through-image-requires c κs =
     let s = c .before .before .before .before .before .before .before .before .before .before .before .before .before .before .before .before .before .before .before .before .before .before in
-    (packed-fine (s .args .ws .now) (s .args .val .now) (s .args .cw .now) (s .args .bw .now) (s .args .counts) (s .pre .0) _ _ _ (c .before .before .before .before .before .before .before .before .before .before .before .before .before .before .reach-roots .ensures) _ _ _ _ _ (c .before .before .before .before .before .before .before .pack-marked .ensures), omega (arith, length-replicate {A = ℕ} 360453 0))
+    (packed-fine (s .args .ws .now) (s .args .val .now) (s .args .cw .now) (s .args .bw .now) (s .args .counts) (s .pre .0) _ _ _ (c .before .before .before .before .before .before .before .before .before .before .before .before .before .before .reach-roots .ensures) _ _ _ _ _ (c .before .before .before .before .before .before .before .pack-marked .ensures), omega (arith, length-replicate {A = ℕ} (mostBytes blockLimit commandLimit nodeLimit) 0))
 
 returns : tie.Need-returns
 returns c =
