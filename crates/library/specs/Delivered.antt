@@ -1,7 +1,8 @@
--- Demand 3 over the calls of the library: any list of lk_compile as they were made and answered, at any block numbers and for any loaders, then lk_run, lk_parse and lk_preview as they were answered. Each call comes in by its own promise. Assumes nothing.
+-- Demand 3 over the calls of the library: any list of lk_compile and lk_reclaim as they were made and answered, at any block numbers and for any loaders, then lk_run, lk_parse and lk_preview as they were answered. Each call comes in by its own promise. Assumes nothing.
 use mathlib.Core.Path.{_≡_, refl, sym, ap, _∙_, subst}
-use mathlib.Core.Option.{none, some}
-use mathlib.Core.List.{List, map}
+use mathlib.Core.Logic.{_≢_}
+use mathlib.Core.Option.{Option, none, some}
+use mathlib.Core.List.{List, [], map}
 use Prim.Native.Nat.{ℕ, zero, suc, _≤_, _<_}
 use lib.IntN.{ℤ}
 use lib.ListN.{length-map}
@@ -13,8 +14,8 @@ use Rattle.model.specs.Shop.{Slot, withSlots}
 use Rattle.model.specs.Normal.{normalShop}
 use Rattle.model.specs.Memory.{blockIn}
 use Rattle.model.specs.Preview.{previewCall}
-use Rattle.model.specs.RecordCalls.{Born, runIn, parseIn}
-use Rattle.model.specs.Lists.{Along, Step, afterAll, compiling, lastAt}
+use Rattle.model.specs.RecordCalls.{Born, bornAt, runIn, parseIn}
+use Rattle.model.specs.Lists.{Along, Step, afterAll, lastAt, nowAt}
 use Rattle.model.specs.Laws.Lists.{Follows, Followed, follows-all, follows-along}
 use Rattle.memory.specs.View.{bornOf}
 use Rattle.shop.specs.Shapes.{slotsOf, slotOf}
@@ -26,24 +27,31 @@ use Rattle.runner.specs.declared.Ran as code
 use Rattle.preview.specs.Shown.{previewedOf}
 use Rattle.preview.specs.Agree.{AgreesCall}
 use Rattle.preview.specs.Accepted.{with-all}
+use Rattle.reclaim_model.specs.Changes.{givenTo, namesOf}
+use Rattle.reclaim_model.specs.Laws.Others.{AsWas}
+use Rattle.reclaim_record.specs.Stands.{LongBorn}
+use Rattle.reclaim.specs.Answer.{ReclaimedAs}
 use Rattle.capi.specs.declared.Kept.{Kept}
 use Rattle.capi.specs.declared.Ran.{Ran}
 use Rattle.capi.specs.declared.Previewed.{Previewed}
 use Rattle.capi.specs.Answers.{countsIn, loaderBy, ranAs, previewedAs}
-use Rattle.engine.specs.Born.{LongBorn}
 use Rattle.engine.specs.Delivered as engine
 
--- an lk_compile as it was made: the loader's number, the block and the arrays given, what it answered and what it left in the script's arrays
+-- what a call was given: lk_compile the loader's number, the setup block and the arrays of a shop, lk_reclaim the roots and the array in which it tells
+pub data Asked : Type 0 where
+  compile : ℕ → ℕ → Arrays → Asked
+  reclaim : List ℕ → List ℕ → Asked
+
+-- a call as it was made: what it was given, what it answered, what it left in the script's arrays, and what lk_reclaim's array told
 pub record Made : Type 0 where
-  pub loader : ℕ
-  pub setup : ℕ
-  pub shop : Arrays
+  pub asked : Asked
   pub answer : Kept
   pub ws : List ℕ
   pub val : List ℤ
   pub cw : List ℕ
   pub bw : List ℕ
   pub births : List ℕ
+  pub told : List ℕ
 
 -- the script as it left it: the arrays, its birth marks among them, and the counts that it answered
 abbrev pub leftBy : Made → Born
@@ -53,86 +61,142 @@ leftBy x = bornOf (x .ws) (x .val) (x .cw) (x .bw) (countsIn (x .answer)) (x .bi
 abbrev pub shopOf : Arrays → List Slot
 shopOf a = slotsOf (shopFrom a)
 
--- a list of them: what each answered and left is what is told of it
-abbrev pub made : Step Born Made
-made = compiling (λ k x. x .answer .refusal) (λ k x. leftBy x) (λ x. x .setup) (λ x. shopOf (x .shop)) (λ k. k .memory .count)
+abbrev pub givenBy : Asked → List Slot
+givenBy (compile o b a) = shopOf a
+givenBy (reclaim rs mv) = []
 
--- x got the script k and answered as lk_compile promises
+-- as the calls that lk_compile and lk_reclaim make
+abbrev pub asCall : Asked → engine.Asked
+asCall (compile o b a) = engine.compile (loaderBy o) b (shopFrom a)
+asCall (reclaim rs mv) = engine.reclaim rs mv
+
+-- a list of them: what each answered, left and told is what is told of it
+abbrev pub made : Step Born Made
+made = record {
+  refusal = λ k x. x .answer .refusal;
+  next = λ k x. leftBy x;
+  names = λ x b. namesOf (engine.asChange (asCall (x .asked))) b;
+  given = λ x. givenBy (x .asked);
+  count = λ k. k .memory .count;
+  now = λ k x b. engine.tellsOf (asCall (x .asked)) (x .answer .refusal) (x .told) b;
+}
+
+-- x got the script k and answered as lk_compile and lk_reclaim promise
 abbrev pub AsPromised : Sheet → Born → Made → Type 0
-AsPromised h k x = CompiledAs h k (callOf (loaderBy (x .loader)) (x .setup) (shopFrom (x .shop))) (x .answer .refusal) (leftBy x)
+AsPromised h k x =
+    elim (x .asked) [
+      | compile o b a ↦ CompiledAs h k (callOf (loaderBy o) b (shopFrom a)) (x .answer .refusal) (leftBy x)
+      | reclaim rs mv ↦ ReclaimedAs k rs mv (x .answer .refusal) (leftBy x) (x .told)
+    ]
 
 abbrev pub ranBy : Ran → code.Ran
 ranBy r = record { refusal = r .refusal; entered = r .entered }
 
+-- b is a block of the start, b′ its number after the list
 pub record Delivered (h : Sheet) (k : Born) (xs : List Made) : Type 0 where
-  -- lk_run at any block where one was accepted, under any save that fits the sheet and any budget
-  pub runs : (b : ℕ) (ys : List Slot) → lastAt made k xs b ≡ some ys → (s : Save) → saveRefusal h s ≡ 0 → (budget : ℕ) (r : Ran) (v : List ℤ)
-      → ranAs r v ≡ runIn h (afterAll made k xs .memory) b s budget → engine.RanWell h s ys budget (ranBy r) v
+  -- lk_run from any surviving block where an lk_compile was accepted, under any save that fits the sheet and any budget
+  pub runs : (b b′ : ℕ) (ys : List Slot) → nowAt made k xs b ≡ some b′ → lastAt made k xs b ≡ some ys → (s : Save) → saveRefusal h s ≡ 0 → (budget : ℕ) (r : Ran) (v : List ℤ)
+      → ranAs r v ≡ runIn h (afterAll made k xs .memory) b′ s budget → engine.RanWell h s ys budget (ranBy r) v
   -- one that is not refused ends the same with any other budget
-  pub same : (b : ℕ) (ys : List Slot) → lastAt made k xs b ≡ some ys → (s : Save) → saveRefusal h s ≡ 0 → (budget other : ℕ) (r q : Ran) (v w : List ℤ)
-      → ranAs r v ≡ runIn h (afterAll made k xs .memory) b s budget → ranAs q w ≡ runIn h (afterAll made k xs .memory) b s other → r .refusal ≡ 0 → q .refusal ≡ 0 → ranAs r v ≡ ranAs q w
+  pub same : (b b′ : ℕ) (ys : List Slot) → nowAt made k xs b ≡ some b′ → lastAt made k xs b ≡ some ys → (s : Save) → saveRefusal h s ≡ 0
+      → (budget other : ℕ) (r q : Ran) (v w : List ℤ) → ranAs r v ≡ runIn h (afterAll made k xs .memory) b′ s budget
+      → ranAs q w ≡ runIn h (afterAll made k xs .memory) b′ s other → r .refusal ≡ 0 → q .refusal ≡ 0 → ranAs r v ≡ ranAs q w
   -- lk_parse leaves there the arrays of exactly that shop in normal form
-  pub parses : (b : ℕ) (ys : List Slot) → lastAt made k xs b ≡ some ys → (n : ℕ) (t : Arrays) → ParsedInto (parseIn h (afterAll made k xs .memory) b) n t
+  pub parses : (b b′ : ℕ) (ys : List Slot) → nowAt made k xs b ≡ some b′ → lastAt made k xs b ≡ some ys → (n : ℕ) (t : Arrays) → ParsedInto (parseIn h (afterAll made k xs .memory) b′) n t
       → (n ≡ 0) × (shopOf t ≡ normalShop h ys)
   -- with a budget of 82 blocks or more the run leaves what lk_preview of arrays that stand for that shop answers
-  pub previews : (b : ℕ) (ys : List Slot) → lastAt made k xs b ≡ some ys → (s : Save) → saveRefusal h s ≡ 0 → (budget : ℕ) → runBlocks ≤ budget → (r : Ran) (v : List ℤ) (q : Previewed)
-      → ranAs r v ≡ runIn h (afterAll made k xs .memory) b s budget → previewedAs q ≡ previewedOf (previewCall h ys s) → AgreesCall (previewedAs q) v
-  -- every block of the start where none was accepted is as it was
-  pub others : (b : ℕ) → b < k .memory .count → lastAt made k xs b ≡ none → blockIn (afterAll made k xs .memory) b ≡ blockIn (k .memory) b
-  -- an lk_compile that names a block which the list appended is answered 17, and nothing changes
-  pub later : (x : Made) → AsPromised h (afterAll made k xs) x → k .memory .count ≤ x .setup → x .setup < afterAll made k xs .memory .count
-      → (x .answer .refusal ≡ bornLater) × (leftBy x ≡ afterAll made k xs)
+  pub previews : (b b′ : ℕ) (ys : List Slot) → nowAt made k xs b ≡ some b′ → lastAt made k xs b ≡ some ys → (s : Save) → saveRefusal h s ≡ 0
+      → (budget : ℕ) → runBlocks ≤ budget → (r : Ran) (v : List ℤ) (q : Previewed)
+      → ranAs r v ≡ runIn h (afterAll made k xs .memory) b′ s budget → previewedAs q ≡ previewedOf (previewCall h ys s) → AgreesCall (previewedAs q) v
+  -- every other surviving block of the start is as it was but for its number and the links, which go where the blocks are now that they named
+  pub others : (b b′ : ℕ) → b < k .memory .count → nowAt made k xs b ≡ some b′ → lastAt made k xs b ≡ none
+      → AsWas (nowAt made k xs) (blockIn (k .memory) b) (blockIn (afterAll made k xs .memory) b′)
+  -- every surviving block of the start keeps its mark
+  pub births : (b b′ : ℕ) → b < k .memory .count → nowAt made k xs b ≡ some b′ → bornAt (afterAll made k xs) b′ ≡ bornAt k b
+  -- an lk_compile that names a block which was none of the start is answered 17, and nothing changes
+  pub later : (loader setup : ℕ) (shop : Arrays) (n : ℕ) (after : Born) → CompiledAs h (afterAll made k xs) (callOf (loaderBy loader) setup (shopFrom shop)) n after → setup < afterAll made k xs .memory .count
+      → ((b : ℕ) → b < k .memory .count → nowAt made k xs b ≢ some setup) → (n ≡ bornLater) × (after ≡ afterAll made k xs)
 
--- ---- as the calls that lk_compile makes
+-- ---- as the calls that they make
 
-abbrev compileOf : Made → engine.Made
-compileOf x = record { loader = loaderBy (x .loader); setup = x .setup; shop = shopFrom (x .shop); refusal = x .answer .refusal; after = leftBy x }
+abbrev callBy : Made → engine.Made
+callBy x = record { asked = asCall (x .asked); refusal = x .answer .refusal; after = leftBy x; told = x .told }
 
 -- arrays stand for twenty slots
 with-shop : (a : Arrays) → withSlots (shopOf a) ≡ shopOf a
 unfolding slotsOf
 with-shop a = with-all (shopOf a) (length-map (shopFrom a .slots) slotOf ∙ slots-long a)
 
-follows : (P : Born → Made → Type 0) → Follows made engine.made compileOf P (λ k t. k ≡ t)
+given-is : (a : Asked) → givenBy a ≡ givenTo (engine.asChange (asCall a))
+given-is (compile o b a) = sym (with-shop a)
+given-is (reclaim rs mv) = refl
+
+follows : (P : Born → Made → Type 0) → Follows made engine.made callBy P (λ k t. k ≡ t)
 follows P = record {
   refusal = λ k t x e p. refl;
   next = λ k t x e p. refl;
   now = λ k t x b e p. refl;
   names = λ x b. refl;
-  given = λ x. sym (with-shop (x .shop));
+  given = λ x. given-is (x .asked);
   count = λ k t e. ap (λ (j : Born). j .memory .count) e;
 }
 
+promised-is : (h : Sheet) (k : Born) (x : Made) (a : Asked) → x .asked ≡ a → AsPromised h k x → engine.AsPromised h k (callBy x)
+promised-is h k x (compile o b a) e p = rw e (rw e at p)
+promised-is h k x (reclaim rs mv) e p = rw e (rw e at p)
+
 -- ---- demand 3
 
--- the first gets the script k, each later one the script as the one before left it. long: the lengths of the five arrays, which the types of lk_compile say; nothing is asked of what they hold, marks and count are taken as they stand
+-- the first gets the script k, each later one the script as the one before left it. long: the lengths of the five arrays, which the types of the calls say; nothing is asked of what they hold, marks and count are taken as they stand
 module _ (h : Sheet) (k : Born) (xs : List Made) (long : LongBorn k) (promised : Along made (AsPromised h) k xs) where
-  followed : Followed made engine.made (λ k t. k ≡ t) k k xs (map compileOf xs)
-  followed = follows-all made engine.made compileOf (AsPromised h) (λ k t. k ≡ t) (follows (AsPromised h)) k k refl xs promised
+  abbrev calls : List engine.Made
+  calls = map callBy xs
 
-  demand : engine.Delivered h k (map compileOf xs)
-  demand =
-      engine.delivered h k (map compileOf xs) long
-      (follows-along made engine.made compileOf (AsPromised h) (λ k t. k ≡ t) (follows (AsPromised h)) (AsPromised h) (engine.AsPromised h)
-      (λ k t x e p. subst (λ (j : Born). engine.AsPromised h j (compileOf x)) e p) k k refl xs promised promised)
+  along : (Q : Born → Made → Type 0) (Q′ : Born → engine.Made → Type 0) → ((t : Born) (x : Made) → Q t x → Q′ t (callBy x)) → Along made Q k xs → Along engine.made Q′ k (map callBy xs)
+  along Q Q′ f q =
+      follows-along made engine.made callBy (AsPromised h) (λ k t. k ≡ t) (follows (AsPromised h)) Q Q′ (λ k t x e p. subst (λ (j : Born). Q′ j (callBy x)) e (f k x p)) k k refl xs promised q
 
-  last-is : (b : ℕ) → lastAt engine.made k (map compileOf xs) b ≡ lastAt made k xs b
+  followed : Followed made engine.made (λ k t. k ≡ t) k k xs (map callBy xs)
+  followed = follows-all made engine.made callBy (AsPromised h) (λ k t. k ≡ t) (follows (AsPromised h)) k k refl xs promised
+
+  promises : Along engine.made (engine.AsPromised h) k (map callBy xs)
+  promises = along (AsPromised h) (engine.AsPromised h) (λ t x p. promised-is h t x (x .asked) refl p) promised
+
+  demand : engine.Delivered h k (map callBy xs)
+  demand = engine.delivered h k calls long promises
+
+  now-is : (b : ℕ) → nowAt engine.made k (map callBy xs) b ≡ nowAt made k xs b
+  now-is b = sym (followed .now b)
+
+  last-is : (b : ℕ) → lastAt engine.made k (map callBy xs) b ≡ lastAt made k xs b
   last-is b = sym (followed .last none b)
 
   -- a run on the script after the list, as the engine names it
-  run-at : (b : ℕ) (s : Save) (n : ℕ) → runIn h (afterAll made k xs .memory) b s n ≡ runIn h (afterAll engine.made k (map compileOf xs) .memory) b s n
+  run-at : (b : ℕ) (s : Save) (n : ℕ) → runIn h (afterAll made k xs .memory) b s n ≡ runIn h (afterAll engine.made k (map callBy xs) .memory) b s n
   run-at b s n = ap (λ (t : Born). runIn h (t .memory) b s n) (followed .after)
 
   pub delivered : Delivered h k xs
   delivered = record {
-    runs = λ b ys e s f budget r v p. demand .runs b ys (last-is b ∙ e) s f budget (ranBy r) v (p ∙ run-at b s budget);
-    same = λ b ys e s f budget other r q v w p u o i. demand .same b ys (last-is b ∙ e) s f budget other (ranBy r) (ranBy q) v w (p ∙ run-at b s budget) (u ∙ run-at b s other) o i;
-    parses = λ b ys e n t p.
-        demand .parses b ys (last-is b ∙ e) (record { refusal = n; shop = shopFrom t })
-        (subst (λ (g : Born). ParsedAs (parseIn h (g .memory) b) (record { refusal = n; shop = shopFrom t })) (followed .after) (p .stands));
-    previews = λ b ys e s f budget l r v q p u. demand .previews b ys (last-is b ∙ e) s f budget l (ranBy r) v (previewedAs q) (p ∙ run-at b s budget) u;
-    others = λ b l e. ap (λ (t : Born). blockIn (t .memory) b) (followed .after) ∙ demand .others b l (last-is b ∙ e);
-    later = λ x p l u.
-        let a = demand .later (compileOf x) (subst (λ (t : Born). AsPromised h t x) (followed .after) p) l (subst (λ (t : Born). x .setup < t .memory .count) (followed .after) u) in
-        (a .0, a .1 ∙ sym (followed .after));
+    runs = λ b b′ ys n e s f budget r v p. demand .runs b b′ ys (now-is b ∙ n) (last-is b ∙ e) s f budget (ranBy r) v (p ∙ run-at b′ s budget);
+    same = λ b b′ ys n e s f budget other r q v w p u o i.
+        demand .same b b′ ys (now-is b ∙ n) (last-is b ∙ e) s f budget other (ranBy r) (ranBy q) v w (p ∙ run-at b′ s budget) (u ∙ run-at b′ s other) o i;
+    parses = λ b b′ ys n e m t p.
+        demand .parses b b′ ys (now-is b ∙ n) (last-is b ∙ e) (record { refusal = m; shop = shopFrom t })
+        (subst (λ (g : Born). ParsedAs (parseIn h (g .memory) b′) (record { refusal = m; shop = shopFrom t })) (followed .after) (p .stands));
+    previews = λ b b′ ys n e s f budget l r v q p u. demand .previews b b′ ys (now-is b ∙ n) (last-is b ∙ e) s f budget l (ranBy r) v (previewedAs q) (p ∙ run-at b′ s budget) u;
+    others = λ b b′ l n e.
+        subst (λ (f : ℕ → Option ℕ). AsWas f (blockIn (k .memory) b) (blockIn (afterAll made k xs .memory) b′)) (λ i j. now-is j i)
+        (subst (λ (t : Born). AsWas (nowAt engine.made k calls) (blockIn (k .memory) b) (blockIn (t .memory) b′)) (sym (followed .after)) (demand .others b b′ l (now-is b ∙ n) (last-is b ∙ e)));
+    births = λ b b′ l n. ap (λ (t : Born). bornAt t b′) (followed .after) ∙ demand .births b b′ l (now-is b ∙ n);
+    later = λ loader setup shop n after p l u.
+        let t = followed .after in
+        let a = demand .later (loaderBy loader) setup (shopFrom shop) n after (subst (λ (j : Born). CompiledAs h j (callOf (loaderBy loader) setup (shopFrom shop)) n after) t p) (subst (λ (j : Born). setup < j .memory .count) t l) (λ b q z. u b q (followed .now b ∙ z)) in
+        (a .0, a .1 ∙ sym t);
   }
+
+  -- where no call moves a block, as lk_compile and a refused lk_reclaim do not, every block of the start where none was accepted is as it was
+  pub unmoved : Along made (λ t x. (j : ℕ) → made .now t x j ≡ some j) k xs → (b : ℕ) → b < k .memory .count → lastAt made k xs b ≡ none
+      → blockIn (afterAll made k xs .memory) b ≡ blockIn (k .memory) b
+  unmoved a b l e =
+      ap (λ (t : Born). blockIn (t .memory) b) (followed .after)
+      ∙ engine.unmoved h k calls long promises (along (λ t x. (j : ℕ) → made .now t x j ≡ some j) (λ t x. (j : ℕ) → engine.made .now t x j ≡ some j) (λ t x p. p) a) b l (last-is b ∙ e)

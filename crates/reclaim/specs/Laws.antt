@@ -2,7 +2,7 @@
 use mathlib.Core.Path.{_≡_, refl, sym, ap, _∙_, subst}
 use mathlib.Core.Bool.{Bool, true, false}
 use mathlib.Core.List.{List, [], _∷_}
-use Prim.Native.Nat.{ℕ, zero, suc, _*_, _≤_, _<_}
+use Prim.Native.Nat.{ℕ, zero, suc, _≤_, _<_}
 use native.Mathlib.Omega.{arith}
 use lib.IntN.{ℤ}
 use lib.ListN.{length, take, drop, length-append}
@@ -11,7 +11,7 @@ use borrow.Author.Tests.{le-leb}
 use Rattle.model.specs.Limits.{blockLimit, commandLimit, nodeLimit}
 use Rattle.model.specs.Refusal.{badRoots, firstOf}
 use Rattle.model.specs.Script.{Block}
-use Rattle.model.specs.Reading.{Answer, got, refused, refusalOf}
+use Rattle.model.specs.Reading.{got, refusalOf}
 use Rattle.model.specs.Image.{image, readImage}
 use Rattle.model.specs.Memory.{Memory, memoryIn, scriptOf, putBlocks}
 use Rattle.model.specs.Record.{judgedRecord}
@@ -28,14 +28,13 @@ use Rattle.image_read.specs.declared.Image.{Image}
 use Rattle.image_read.specs.declared.Image.the-variants.{Read, No}
 use Rattle.image_write.specs.Call.{wrote, lengthOf, lengthIn}
 use Rattle.image_write.specs.Lengths.{mostBytes, record-short}
-use Rattle.reclaim_model.specs.Rename.{Every}
 use Rattle.reclaim_model.specs.Reclaim.{keptBlocks, movedWords, rank, rootsOk, survivors}
 use Rattle.reclaim_record.specs.Calls.{livesIn, keptOnlyIn, movedIn, reclaimRefusalIn, reclaimedIn}
 use Rattle.reclaim_record.specs.Checks.{roots-first, refused-stays}
 use Rattle.reclaim_record.specs.Packed.{Packed, Route, route}
 use Rattle.reclaim_reach.specs.Words.{Safe}
-use Rattle.reclaim_reach.specs.Roots.{roots-inside}
-use Rattle.reclaim_reach.specs.Marks.{Reaching, reached-of, safe}
+use Rattle.reclaim_reach.specs.Marks.{Reaching}
+use Rattle.reclaim_reach.specs.Judged.{marks-reached, safe}
 use Rattle.reclaim_pack.specs.Table.{ranksTo, rankTo, tableRank, Ranks, Small, followedTo, packedTo}
 use Rattle.reclaim_pack.specs.Whole.{table-ranks, table-small, table-places, packs}
 use Rattle.reclaim.specs.Answer.{ReclaimedAs}
@@ -85,7 +84,10 @@ module _ (m : Memory) (ws : List ℕ) (vs : List ℤ) (cw bw s : List ℕ) (i : 
 
   pub read-never : (n : ℕ) → i ≡ No n → ⊥
   unfolding outcome readInto
-  read-never n q = let u : outcome (No n) ws vs cw bw ≡ readInto m (got bs r) = rw (q, e) at p in let z : _≡_ {A = ℕ} 0 1 = cc in absurd (omega arith)
+  read-never n q =
+      let u : outcome (No n) ws vs cw bw ≡ readInto m (got bs r) = rw (q, e) at p in
+      let z : _≡_ {A = ℕ} 0 1 = cc in
+      absurd (omega arith)
 
 -- ---- packed
 
@@ -127,7 +129,10 @@ module _ (ws : List ℕ) (vs : List ℤ) (cw bw : List ℕ) (k : Counts) (fine :
   m = memoryOf ws vs cw bw k
 
   pub kept-low : (k .blocks ≤ blockLimit) × (k .commands ≤ commandLimit)
-  kept-low = let j = judged-of m fine in let l = judged-kept m (j .value) (j .rest) (j .was) in (l .0, l .1)
+  kept-low =
+      let j = judged-of m fine in
+      let l = judged-kept m (j .value) (j .rest) (j .was) in
+      (l .0, l .1)
 
   pub words-safe : Safe cw bw (k .blocks)
   words-safe = let j = judged-of m fine in safe m (j .value) (j .rest) (j .was)
@@ -137,7 +142,7 @@ module _ (ws : List ℕ) (vs : List ℤ) (cw bw : List ℕ) (k : Counts) (fine :
     m′ = memoryIn ws vs cw′ bw′ (k .nodes) (k .commands) total
 
     same : take (k .blocks) live ≡ livesOf (memoryOf ws vs cw bw k) rs
-    same = reach .is ∙ sym (reached-of m rs)
+    same = marks-reached m rs live reach
 
     way : Route (memoryOf ws vs cw bw k) (memoryIn ws vs cw′ bw′ (k .nodes) (k .commands) total) (keptBlocks (livesOf (memoryOf ws vs cw bw k) rs) (scriptOf (memoryOf ws vs cw bw k) .blocks))
     way =

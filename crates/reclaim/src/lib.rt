@@ -22,8 +22,10 @@ use image_write::write_script;
 use memory::BLOCKS;
 use memory::Births;
 use memory::BlockWords;
+use memory::COMMANDS;
 use memory::CommandWords;
 use memory::Counts;
+use memory::NODES;
 use memory::NodeWords;
 use memory::Values;
 use reclaim_pack::answer::pack_births;
@@ -34,8 +36,8 @@ use reclaim_pack::pack;
 use reclaim_reach::reach_roots;
 use reclaim_reach::roots_ok;
 
-// An image of so many bytes is enough for every accepted script: 5, and 16 for each block, 6 for each command and each node.
-const IMAGE: usize = 360453;
+// So many bytes hold the image of any accepted script.
+const IMAGE: usize = 5 + 16 * BLOCKS + 6 * COMMANDS + 6 * NODES;
 
 // The refusal or 0, and the counts of the script after the call.
 pub struct Reclaimed {
@@ -138,7 +140,15 @@ fn keep_survivors(
     let mut todo = [0u16; BLOCKS];
     let mut table = [0u16; BLOCKS];
     reach_roots(cw, bw, counts.blocks, roots, &mut live, &mut todo);
-    let total = pack_marked(&live, &mut table, counts, &mut commands, &mut blocks, births, moved);
+    let total = pack_marked(
+        &live,
+        &mut table,
+        counts,
+        &mut commands,
+        &mut blocks,
+        births,
+        moved,
+    );
     let packed = Counts {
         nodes: counts.nodes,
         commands: counts.commands,

@@ -1,4 +1,7 @@
+-- `keep_survivors` meets its contract: the marks are what the roots reach, the packed record is judged, and its blocks are the survivors. Assumes nothing.
 use lib.ListN.{length-replicate}
+use Rattle.model.specs.Limits.{blockLimit, commandLimit, nodeLimit}
+use Rattle.image_write.specs.Lengths.{mostBytes}
 use Rattle.reclaim_reach.specs.Roots.{roots-inside}
 use Rattle.reclaim.specs.Laws.{words-safe, kept-low, packed-fine, kept-only}
 use mathlib.Core.Path.{refl}
@@ -7,35 +10,25 @@ use native.Mathlib.Omega.{arith}
 use borrow.Author.Needs.{needs}
 use Rattle.reclaim.proofs.keep_survivors.Statement.{statement}
 use Rattle.reclaim.proofs.keep_survivors.Tie as tie
-use Rattle.reclaim.proofs.keep_survivors.Reads as reads
-use Rattle.reclaim.proofs.keep_survivors.Lts as lts
-use Rattle.reclaim.proofs.pack_marked.Reads as pack-marked-reads
-use Rattle.reclaim.proofs.through_image.Reads as through-image-reads
-use Rattle.reclaim_reach.proofs.reach_roots.Reads as reach-roots-reads
 
--- src/lib.rt:140:5
 reach-roots-requires : tie.Need-reach-roots-requires
 reach-roots-requires c κs =
     let s = c .before .before .before .before .before .before .before in
     (words-safe (s .args .ws .now) (s .args .val .now) _ _ (s .args .counts) (s .pre .0), roots-inside (s .args .counts .blocks) (s .args .roots .now) (s .pre .1), refl)
 
--- src/lib.rt:141:9
 pack-marked-requires : tie.Need-pack-marked-requires
 pack-marked-requires c κs =
     let s = c .before .before .before .before .before .before .before .before .before .before .before .before .before .before in
     kept-low (s .args .ws .now) (s .args .val .now) (s .args .cw .now) (s .args .bw .now) (s .args .counts) (s .pre .0)
 
--- src/lib.rt:147:64
 slice-aggregate-through-image : tie.Need-slice-aggregate-through-image
 slice-aggregate-through-image c = search needs
 
--- src/lib.rt:147:5
 through-image-requires : tie.Need-through-image-requires
 through-image-requires c κs =
     let s = c .before .before .before .before .before .before .before .before .before .before .before .before .before .before .before .before .before .before .before .before .before .before in
-    (packed-fine (s .args .ws .now) (s .args .val .now) (s .args .cw .now) (s .args .bw .now) (s .args .counts) (s .pre .0) _ _ _ (c .before .before .before .before .before .before .before .before .before .before .before .before .before .before .reach-roots .ensures) _ _ _ _ _ (c .before .before .before .before .before .before .before .pack-marked .ensures), omega (arith, length-replicate {A = ℕ} 360453 0))
+    (packed-fine (s .args .ws .now) (s .args .val .now) (s .args .cw .now) (s .args .bw .now) (s .args .counts) (s .pre .0) _ _ _ (c .before .before .before .before .before .before .before .before .before .before .before .before .before .before .reach-roots .ensures) _ _ _ _ _ (c .before .before .before .before .before .before .before .pack-marked .ensures), omega (arith, length-replicate {A = ℕ} (mostBytes blockLimit commandLimit nodeLimit) 0))
 
--- src/lib.rt:121:1
 returns : tie.Need-returns
 returns c =
     let s = c .before .before .before .before .before .before .before .before .before .before .before .before .before .before .before .before .before .before .before .before .before .before .before .before in

@@ -1,28 +1,21 @@
+-- `read_back` meets its contract: an image that is one is read, so no refusal is left. Assumes nothing.
 use Rattle.reclaim.specs.Laws.{read-is, read-never}
 use borrow.Author.Needs.{needs}
 use Rattle.reclaim.proofs.read_back.Statement.{statement}
 use Rattle.reclaim.proofs.read_back.Tie as tie
-use Rattle.reclaim.proofs.read_back.Reads as reads
-use Rattle.reclaim.proofs.read_back.Lts as lts
-use Rattle.image_read.proofs.read_script.Reads as read-script-reads
 
--- src/lib.rt:89:9
 read-script-requires : tie.Need-read-script-requires
 read-script-requires c κs = search needs
 
--- src/lib.rt:91:21
 enum-known-r : tie.Need-enum-known-r
 enum-known-r c = search needs
 
--- src/lib.rt:92:25
 enum-told : tie.Need-enum-told
 enum-told c = search needs
 
--- src/lib.rt:80:1
 returns : tie.Need-returns
 returns c = λ bs e. read-is _ _ _ _ _ _ _ (c .before .before .before .read-script .ensures) bs _ e _ (c .before .r .given .1)
 
--- src/lib.rt:80:1
 returns-2 : tie.Need-returns-2
 returns-2 c = λ bs e. absurd (read-never _ _ _ _ _ _ _ (c .before .before .read-script .ensures) bs _ e _ (c .enum-told .given .1))
 

@@ -1,3 +1,4 @@
+-- `reclaim` meets its contract: the checks answer in their order, then the survivors are kept. Assumes nothing.
 use mathlib.Core.Path.{sym, _∙_}
 use borrow.Author.Tests.{not-true, not-false}
 use Rattle.memory.specs.View.{bornOf}
@@ -5,33 +6,22 @@ use Rattle.reclaim.specs.Laws.{answer-roots, answer-judged, answer-kept,
 use borrow.Author.Needs.{needs}
 use Rattle.reclaim.proofs.reclaim.Statement.{statement}
 use Rattle.reclaim.proofs.reclaim.Tie as tie
-use Rattle.reclaim.proofs.reclaim.Reads as reads
-use Rattle.reclaim.proofs.reclaim.Lts as lts
-use Rattle.checks.proofs.check_record.Reads as check-record-reads
-use Rattle.reclaim.proofs.keep_survivors.Reads as keep-survivors-reads
-use Rattle.reclaim_reach.proofs.roots_ok.Reads as roots-ok-reads
 
--- src/lib.rt:163:9
 roots-ok-requires : tie.Need-roots-ok-requires
 roots-ok-requires c κs = search needs
 
--- src/lib.rt:164:9
 returns : tie.Need-returns
 returns c = λ n. answer-roots _ _ _ (sym (c .before .roots-ok .ensures) ∙ not-true _ (c .if1 .taken))
 
--- src/lib.rt:169:9
 check-record-requires : tie.Need-check-record-requires
 check-record-requires c κs = search needs
 
--- src/lib.rt:171:9
 returns-2 : tie.Need-returns-2
 returns-2 c = λ n. answer-judged _ _ _ (sym (c .before .before .before .before .before .before .before .roots-ok .ensures) ∙ not-false _ (c .before .before .before .before .before .before .if1 .left)) _ (c .before .check-record .ensures) (c .if2 .taken)
 
--- src/lib.rt:176:9
 keep-survivors-requires : tie.Need-keep-survivors-requires
 keep-survivors-requires c κs = (sym (c .before .before .before .before .before .before .before .check-record .ensures) ∙ c .before .before .before .before .before .before .if2 .left, sym (c .before .before .before .before .before .before .before .before .before .before .before .before .before .roots-ok .ensures) ∙ not-false _ (c .before .before .before .before .before .before .before .before .before .before .before .before .if1 .left))
 
--- src/lib.rt:151:1
 returns-3 : tie.Need-returns-3
 returns-3 c =
     let s = c .before .before .before .before .before .before .before .before .before .before .before .before .before .before .before .before in
