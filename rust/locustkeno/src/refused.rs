@@ -45,6 +45,7 @@ impl Refused {
             15 => "the run's budget is spent",
             16 => "the slice is too short for the image",
             17 => "the block given was appended by a compile",
+            19 => "the compile would pass a limit of the demo loader",
             _ => "no refusal of documents 01 and 02",
         }
     }
