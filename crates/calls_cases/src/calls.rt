@@ -19,6 +19,7 @@ use memory::NodeWords;
 use memory::Values;
 use model::BlockNo;
 use model::ItemId;
+use model::Loader;
 use parse::ParsedShop;
 use parse::parse;
 use preview::Previewed;
@@ -171,7 +172,29 @@ fn compile_by(
     let at = BlockNo(a[8]);
     let k = kept.counts;
     let n = kept.compiles;
-    compile(&atcs, sheet, ws, val, cw, bw, births, k, n, at, shop_of(a))
+    let loader = loader_of(a[10]);
+    compile(
+        &atcs,
+        sheet,
+        ws,
+        val,
+        cw,
+        bw,
+        births,
+        k,
+        n,
+        loader,
+        at,
+        shop_of(a),
+    )
+}
+
+// A line that names none is for the disc.
+fn loader_of(x: u32) -> Loader {
+    match x {
+        0 => Loader::Disc,
+        _ => Loader::Demo,
+    }
 }
 
 // The block that a setup block has as next; 0 where it has none.

@@ -25,6 +25,7 @@ use memory::NodeWords;
 use memory::Values;
 use model::BlockNo;
 use model::ItemId;
+use model::Loader;
 use shop::ENTRIES;
 use shop::Row;
 use shop::Sheet;
@@ -384,7 +385,7 @@ fn all_compiles(
     t
 }
 
-// Setup number, shop, answer.
+// Setup number, shop, answer. Recorded compiles are for the disc.
 fn one_compile(
     s: &[u8],
     attached: &[u8],
@@ -413,6 +414,7 @@ fn one_compile(
         births,
         counts,
         n,
+        Loader::Disc,
         at,
         shop,
     );

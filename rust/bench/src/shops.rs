@@ -3,7 +3,7 @@
 use crate::cases::{self, Case};
 use crate::clock::{by_turns, row, time};
 use compare::{convert, meaning};
-use locustkeno::Shop;
+use locustkeno::{Loader, Shop};
 use oracle::calls::{self, Original};
 use std::cell::RefCell;
 use std::hint::black_box;
@@ -70,7 +70,9 @@ fn compile(case: &Case) {
             fresh,
             |place| {
                 let script = &mut scripts.borrow_mut()[*place];
-                script.compile(&sheet, 0, &shop).expect("it has room")
+                script
+                    .compile(&sheet, Loader::Disc, 0, &shop)
+                    .expect("it has room")
             },
             || Original::new(&case.plain),
             |script| script.compile(0, &slots),

@@ -45,7 +45,7 @@ PROGRAM = """fn main() {
         capi::lk_with_slots(&vars, &shorts, &given, &bytes, &mut items, &mut limits, &mut codes, &mut lens);
         capi::lk_parse(&bytes, 0, 0, 1, 2, &ws, &val, &cw, &bw, 0, 0, 0, 0, &mut items, &mut limits, &mut codes, &mut lens);
         capi::lk_preview(&bytes, 0, 0, 1, 2, &items, &limits, &codes, &lens, &shorts, &bytes, &bytes, &shorts, &vars);
-        capi::lk_compile(&bytes, 0, 0, 1, 2, &mut ws, &mut val, &mut cw, &mut bw, &mut births, 0, 0, 0, 0, 0, &items, &limits, &codes, &lens);
+        capi::lk_compile(&bytes, 0, 0, 1, 2, &mut ws, &mut val, &mut cw, &mut bw, &mut births, 0, 0, 0, 0, 0, 0, &items, &limits, &codes, &lens);
         let roots = [0, 0];
         let mut moved = [0; 4096];
         capi::lk_reclaim(&mut ws, &mut val, &mut cw, &mut bw, &mut births, 0, 0, 0, 0, &roots, &mut moved);

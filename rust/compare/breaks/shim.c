@@ -44,7 +44,7 @@ lk_ran lk_run(const uint8_t *attached, size_t attached_len, uint16_t atcs, uint1
 }
 
 void inner_lk_compile(lk_kept *, slice *, uint16_t, uint16_t, uint16_t, uint16_t, uint16_t *, int32_t *, uint16_t *,
-                      uint16_t *, uint32_t *, uint16_t, uint16_t, uint16_t, uint32_t, uint32_t, const int32_t *,
+                      uint16_t *, uint32_t *, uint16_t, uint16_t, uint16_t, uint32_t, uint8_t, uint32_t, const int32_t *,
                       const int16_t *, const uint64_t *, const uint8_t *);
 uint8_t inner_lk_parse(slice *, uint16_t, uint16_t, uint16_t, uint16_t, const uint16_t *, const int32_t *,
                        const uint16_t *, const uint16_t *, uint16_t, uint16_t, uint16_t, uint32_t, int32_t *, int16_t *,
@@ -54,12 +54,12 @@ void inner_lk_preview(lk_previewed *, slice *, uint16_t, uint16_t, uint16_t, uin
 
 lk_kept lk_compile(const uint8_t *attached, size_t attached_len, uint16_t atcs, uint16_t timer5, uint16_t timer10,
                    uint16_t timer15, uint16_t *ws, int32_t *val, uint16_t *cw, uint16_t *bw, uint32_t *births,
-                   uint16_t nodes, uint16_t commands, uint16_t blocks, uint32_t compiles, uint32_t setup,
-                   const int32_t *items, const int16_t *limits, const uint64_t *codes, const uint8_t *lens) {
+                   uint16_t nodes, uint16_t commands, uint16_t blocks, uint32_t compiles, uint8_t loader,
+                   uint32_t setup, const int32_t *items, const int16_t *limits, const uint64_t *codes, const uint8_t *lens) {
     slice a = {attached, attached_len};
     lk_kept answer;
     inner_lk_compile(&answer, &a, atcs, timer5, timer10, timer15, ws, val, cw, bw, births, nodes, commands, blocks,
-                     compiles, setup, items, limits, codes, lens);
+                     compiles, loader, setup, items, limits, codes, lens);
     return answer;
 }
 

@@ -2,7 +2,7 @@
 
 use crate::tally::Tally;
 use crate::{convert, judge, saves};
-use locustkeno::{Arrays, Script, Shop};
+use locustkeno::{Arrays, Loader, Script, Shop};
 use oracle::image;
 use oracle::plain::Sheet;
 use record::parse_cases;
@@ -64,7 +64,7 @@ fn check(tally: &mut Tally, random: &mut Random, sheet: &Sheet, setup: u32, a: &
         script.run(&sheet_of, setup, &mut save, 9).refusal,
         script.parse(&sheet_of, setup).err(),
         script
-            .compile(&sheet_of, setup, &Shop::with_slots([]))
+            .compile(&sheet_of, Loader::Disc, setup, &Shop::with_slots([]))
             .err(),
     ]
     .map(|refused| refused.map(|refused| refused.0));

@@ -3,7 +3,7 @@
 use crate::meaning::meaning;
 use crate::tally::Tally;
 use crate::{convert, runs, saves, small, tree};
-use locustkeno::{Preview, Script, Shop};
+use locustkeno::{Loader, Preview, Script, Shop};
 use oracle::plain::{self, Block, Code, Command, Expr, Sheet, Slot, Target};
 use oracle::rules::{self, InUse};
 use oracle::{image, slots};
@@ -100,6 +100,31 @@ pub fn parse_limits(tally: &mut Tally) {
     }
 }
 
+/// What the demo disc loads at most (document 02, A.6).
+const DEMO_BLOCKS: usize = 512;
+const DEMO_COMMANDS: usize = 2_048;
+
+/// One compile on the other side. Right after 9 comes 19: the loader is demo, and the kept counts with what is
+/// appended pass a limit of the demo.
+fn their_compile(
+    theirs: &mut InUse,
+    sheet: &Sheet,
+    loader: Loader,
+    setup: u32,
+    slots: &[Slot],
+) -> Result<(), u8> {
+    let before = theirs.clone();
+    theirs
+        .compile(sheet, setup as usize, slots)
+        .map_err(|refusal| refusal.0)?;
+    let kept = theirs.kept;
+    if loader == Loader::Demo && (kept.blocks > DEMO_BLOCKS || kept.commands > DEMO_COMMANDS) {
+        *theirs = before;
+        return Err(19);
+    }
+    Ok(())
+}
+
 /// One compile on both sides: the answer, the script after it, its kept counts, its birth marks and
 /// the count of compiles. Refused, no word of the arrays may have changed.
 pub fn check_compile(
@@ -107,20 +132,19 @@ pub fn check_compile(
     sheet: &Sheet,
     ours: &mut Script,
     theirs: &mut InUse,
+    loader: Loader,
     setup: u32,
     slots: &[Slot],
 ) -> bool {
     let before = ours.clone();
     let answer = ours
-        .compile(&convert::sheet(sheet), setup, &shop(slots))
+        .compile(&convert::sheet(sheet), loader, setup, &shop(slots))
         .map_err(|refused| refused.0);
     tally.count("compile", answer.err().unwrap_or(0));
-    let expected = theirs
-        .compile(sheet, setup as usize, slots)
-        .map_err(|refusal| refusal.0);
+    let expected = their_compile(theirs, sheet, loader, setup, slots);
     let case = || {
         format!(
-            "setup {setup}, sheet {sheet:?}, shop {slots:?}, image {:02X?}, marks {:?}, {} compiles",
+            "loader {loader:?}, setup {setup}, sheet {sheet:?}, shop {slots:?}, image {:02X?}, marks {:?}, {} compiles",
             before.write(),
             &before.arrays().births[..before.blocks()],
             before.compiles()
@@ -183,9 +207,25 @@ pub fn marked(random: &mut Random, before: &plain::Script) -> Both {
     (Script::from_arrays(a), theirs)
 }
 
-/// A list of compiles at any block numbers. After each, every block that was named runs as the last
+/// The script with more commands kept than its blocks hold, near the limit of the demo.
+fn crowded(random: &mut Random, start: Both) -> Both {
+    let (ours, mut theirs) = start;
+    let commands = random.between(1_900, DEMO_COMMANDS);
+    let mut a = ours.arrays().clone();
+    a.commands = commands as u16;
+    theirs.kept.commands = commands;
+    (Script::from_arrays(a), theirs)
+}
+
+/// A list of compiles at any block numbers, each for one of the loaders. After each, every block that was named runs as the last
 /// shop accepted there means, and parses as the original does.
-fn check_list(tally: &mut Tally, random: &mut Random, case: &Case, start: Both) {
+fn check_list(
+    tally: &mut Tally,
+    random: &mut Random,
+    case: &Case,
+    start: Both,
+    loaders: &[Loader],
+) {
     let (mut ours, mut theirs) = start;
     let mut last: Vec<(u32, &[Slot])> = Vec::new();
     for step in &case.steps {
@@ -194,6 +234,7 @@ fn check_list(tally: &mut Tally, random: &mut Random, case: &Case, start: Both) 
             &case.sheet,
             &mut ours,
             &mut theirs,
+            random.pick(loaders),
             step.setup,
             &step.shop,
         ) {
@@ -223,23 +264,43 @@ pub fn check_last(
     }
 }
 
-/// Random lists of compiles.
+/// Random lists of compiles. Half of them mix loaders, and most of those start near a limit of the demo.
 pub fn lists(tally: &mut Tally, random: &mut Random, count: usize) {
     for _ in 0..count {
-        let case = compile_cases::case(random);
-        let start = if random.once_in(2) {
+        let mut case = compile_cases::case(random);
+        let near = if random.once_in(2) {
+            Some(random.below(3))
+        } else {
+            None
+        };
+        if near == Some(0) {
+            let blocks = random.between(380, DEMO_BLOCKS);
+            case.before.blocks.resize(blocks, Block::Placeholder);
+        }
+        let mut start = if random.once_in(2) {
             marked(random, &case.before)
         } else {
             read(&case.before)
         };
-        check_list(tally, random, &case, start);
+        if near == Some(1) {
+            start = crowded(random, start);
+        }
+        let loaders: &[Loader] = match near {
+            Some(_) => &[Loader::Disc, Loader::Demo],
+            None => &[Loader::Disc],
+        };
+        check_list(tally, random, &case, start, loaders);
     }
 }
 
-/// Compiles that just fit and that just do not.
+/// Compiles that just fit and that just do not, by the disc's limits and by the demo's, for each loader.
 pub fn compile_limits(tally: &mut Tally, random: &mut Random) {
-    for case in record::limits::compile_cases() {
-        check_list(tally, random, &case, read(&case.before));
+    let mut cases = record::limits::compile_cases();
+    cases.extend(record::limits::filled_cases(DEMO_BLOCKS, DEMO_COMMANDS));
+    for case in cases {
+        for loader in [Loader::Disc, Loader::Demo] {
+            check_list(tally, random, &case, read(&case.before), &[loader]);
+        }
     }
 }
 

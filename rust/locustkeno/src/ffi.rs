@@ -132,6 +132,7 @@ mod shops {
             commands: u16,
             blocks: u16,
             compiles: u32,
+            loader: u8,
             setup: u32,
             items: *const [i32; NUM_SLOTS],
             limits: *const [i16; NUM_SLOTS],

@@ -30,6 +30,6 @@ pub use refused::Refused;
 pub use room::{Room, Use};
 pub use save::{FLAGS, Save, TIMES, VARIABLES};
 pub use script::Preview;
-pub use script::{Ran, Script};
+pub use script::{Loader, Ran, Script};
 pub use sheet::{Atc, Item, Sheet};
 pub use shop::{ENTRIES, NUM_SLOTS, Requirement, Shop, Slot};

@@ -46,6 +46,7 @@ impl Refused {
             16 => "the slice is too short for the image",
             17 => "the block given was appended by a compile",
             18 => "over 256 roots are given, or one that is not a block",
+            19 => "the compile would pass a limit of the demo loader",
             _ => "no refusal of documents 01 and 02",
         }
     }

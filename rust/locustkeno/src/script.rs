@@ -21,6 +21,14 @@ pub struct Script {
     pub(crate) arrays: Arrays,
 }
 
+/// What is to load a compiled script. The demo disc loads at most 512 blocks and 2,048 commands; it has no limit of
+/// nodes.
+#[derive(Debug, Copy, Clone, PartialEq, Eq, Hash)]
+pub enum Loader {
+    Disc,
+    Demo,
+}
+
 /// What a run answers: its refusal, if it was refused, and how many blocks it entered.
 #[derive(Debug, Copy, Clone, PartialEq, Eq)]
 pub struct Ran {
@@ -28,21 +36,31 @@ pub struct Ran {
     pub entered: u32,
 }
 
+impl Loader {
+    /// The number that the library takes.
+    fn number(self) -> u8 {
+        match self {
+            Self::Disc => 0,
+            Self::Demo => 1,
+        }
+    }
+}
+
 impl Script {
     /// Reads the image of a script, with refusals 2 to 5. An image carries no birth marks: every block
     /// that was read has mark 0, and the count of compiles starts at 0.
     ///
     /// ```
-    /// use locustkeno::{Item, Refused, Script, Sheet, Shop};
+    /// use locustkeno::{Item, Loader, Refused, Script, Sheet, Shop};
     /// let sheet = Sheet::new(&[None; 3], 0, [Item(0), Item(1), Item(2)]);
     /// let shop = Shop::with_slots([]);
     /// let mut script = Script::read(&[1, 1, 1, 0, 0, 0])?;
-    /// script.compile(&sheet, 0, &shop)?;
-    /// assert_eq!(script.compile(&sheet, 1, &shop), Err(Refused(17)));
+    /// script.compile(&sheet, Loader::Disc, 0, &shop)?;
+    /// assert_eq!(script.compile(&sheet, Loader::Disc, 1, &shop), Err(Refused(17)));
     /// // Block 1 is the shop's Return, and after reading it is a block like any other.
     /// let mut anew = Script::read(&script.write()?)?;
     /// assert_eq!((anew.birth(1), anew.compiles()), (Some(0), 0));
-    /// assert_eq!(anew.compile(&sheet, 1, &shop), Ok(()));
+    /// assert_eq!(anew.compile(&sheet, Loader::Disc, 1, &shop), Ok(()));
     /// # Ok::<(), Refused>(())
     /// ```
     pub fn read(image: &[u8]) -> Result<Self, Refused> {
@@ -168,13 +186,13 @@ impl Script {
     /// compile that appended it. `None` where there is no such block.
     ///
     /// ```
-    /// use locustkeno::{Item, Refused, Script, Sheet, Shop};
+    /// use locustkeno::{Item, Loader, Refused, Script, Sheet, Shop};
     /// let sheet = Sheet::new(&[None; 3], 0, [Item(0), Item(1), Item(2)]);
     /// let mut script = Script::read(&[1, 1, 1, 0, 0, 0])?;
-    /// script.compile(&sheet, 0, &Shop::with_slots([]))?;
+    /// script.compile(&sheet, Loader::Disc, 0, &Shop::with_slots([]))?;
     /// // Block 0 is the setup block, blocks 1 to 21 are the empty shop's.
     /// assert_eq!([0, 1, 21, 22].map(|b| script.birth(b)), [Some(0), Some(1), Some(1), None]);
-    /// script.compile(&sheet, 0, &Shop::with_slots([]))?;
+    /// script.compile(&sheet, Loader::Disc, 0, &Shop::with_slots([]))?;
     /// assert_eq!([0, 1, 21, 22].map(|b| script.birth(b)), [Some(0), Some(1), Some(1), Some(2)]);
     /// # Ok::<(), Refused>(())
     /// ```
@@ -186,14 +204,14 @@ impl Script {
     /// How many compiles were accepted since the script was read or built. At 4,294,967,295 it stays.
     ///
     /// ```
-    /// use locustkeno::{Item, Refused, Script, Sheet, Shop};
+    /// use locustkeno::{Item, Loader, Refused, Script, Sheet, Shop};
     /// let sheet = Sheet::new(&[None; 3], 0, [Item(0), Item(1), Item(2)]);
     /// let shop = Shop::with_slots([]);
     /// let mut script = Script::read(&[1, 1, 1, 0, 0, 0])?;
     /// assert_eq!(script.compiles(), 0);
-    /// script.compile(&sheet, 0, &shop)?;
+    /// script.compile(&sheet, Loader::Disc, 0, &shop)?;
     /// // A refused compile is not counted.
-    /// assert_eq!(script.compile(&sheet, 1, &shop), Err(Refused(17)));
+    /// assert_eq!(script.compile(&sheet, Loader::Disc, 1, &shop), Err(Refused(17)));
     /// assert_eq!(script.compiles(), 1);
     /// # Ok::<(), Refused>(())
     /// ```
@@ -214,29 +232,55 @@ impl Script {
 }
 
 mod shops {
-    use super::Script;
+    use super::{Loader, Script};
     use crate::shop::{NUM_SLOTS, ShopArrays};
     use crate::{Refused, Save, Sheet, Shop, ffi};
 
     impl Script {
-        /// Compiles a shop and links it at block `setup`. A block that a compile appended is refusal 17
-        /// (see [`Script::birth`]). Refused, the script stays as it was.
+        /// Compiles a shop for a loader and links it at block `setup`. A block that a compile appended is refusal 17
+        /// (see [`Script::birth`]); 19 is for a result that the demo does not load. Refused, the script stays as it was.
         ///
         /// ```
-        /// use locustkeno::{Item, Refused, Save, Script, Sheet, Shop, Slot};
+        /// use locustkeno::{Item, Loader, Refused, Save, Script, Sheet, Shop, Slot};
         /// let sheet = Sheet::new(&[None; 8], 0, [Item(0), Item(1), Item(2)]);
         /// let slot = Slot { item: Some(Item(7)), limit: 3, requirements: vec![] };
         /// let shop = Shop::with_slots([slot]);
         /// let mut script = Script::read(&[1, 1, 1, 0, 0, 0])?;
-        /// script.compile(&sheet, 0, &shop)?;
+        /// script.compile(&sheet, Loader::Disc, 0, &shop)?;
         /// assert_eq!(script.parse(&sheet, 0)?, shop);
         /// let mut save = Save::new(&sheet);
         /// script.run(&sheet, 0, &mut save, 100);
         /// assert_eq!(save.pair(0), (7, 3));
-        /// assert_eq!(script.compile(&sheet, 9_999, &shop), Err(Refused(6)));
+        /// assert_eq!(script.compile(&sheet, Loader::Disc, 9_999, &shop), Err(Refused(6)));
         /// # Ok::<(), Refused>(())
         /// ```
-        pub fn compile(&mut self, sheet: &Sheet, setup: u32, shop: &Shop) -> Result<(), Refused> {
+        ///
+        /// An empty shop adds 21 blocks:
+        ///
+        /// ```
+        /// use locustkeno::{Item, Loader, Refused, Script, Sheet, Shop};
+        /// let sheet = Sheet::new(&[None; 3], 0, [Item(0), Item(1), Item(2)]);
+        /// let shop = Shop::with_slots([]);
+        /// // A block of code and 490 or 491 placeholders.
+        /// let of_blocks = |low: u8, count: usize| {
+        ///     let mut image = vec![low, 3, 1, 0, 0, 0];
+        ///     image.resize(5 + count, 0);
+        ///     Script::read(&image)
+        /// };
+        /// assert_eq!(of_blocks(0xEB, 491)?.compile(&sheet, Loader::Demo, 0, &shop), Ok(()));
+        /// let mut script = of_blocks(0xEC, 492)?;
+        /// assert_eq!(script.compile(&sheet, Loader::Demo, 0, &shop), Err(Refused(19)));
+        /// assert_eq!(script.blocks(), 492);
+        /// assert_eq!(script.compile(&sheet, Loader::Disc, 0, &shop), Ok(()));
+        /// # Ok::<(), Refused>(())
+        /// ```
+        pub fn compile(
+            &mut self,
+            sheet: &Sheet,
+            loader: Loader,
+            setup: u32,
+            shop: &Shop,
+        ) -> Result<(), Refused> {
             let a = &mut self.arrays;
             let [timer5, timer10, timer15] = sheet.timers.map(|item| item.0);
             let arrays = shop.arrays();
@@ -258,6 +302,7 @@ mod shops {
                     a.commands,
                     a.blocks,
                     a.compiles,
+                    loader.number(),
                     setup,
                     &arrays.items,
                     &arrays.limits,

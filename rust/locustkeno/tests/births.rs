@@ -1,6 +1,6 @@
 //! Birth marks and the count of accepted compiles (document 02, A.2) over the crate.
 
-use locustkeno::{Arrays, Item, Refused, Script, Sheet, Shop, Slot};
+use locustkeno::{Arrays, Item, Loader, Refused, Script, Sheet, Shop, Slot};
 
 fn sheet() -> Sheet {
     Sheet::new(&[None; 8], 0, [Item(0), Item(1), Item(2)])
@@ -33,7 +33,10 @@ fn with(script: &Script, change: impl FnOnce(&mut Arrays)) -> Script {
 /// A compile that is refused and changes nothing.
 fn refused(script: &mut Script, setup: u32, shop: &Shop, number: u8) {
     let before = script.clone();
-    assert_eq!(script.compile(&sheet(), setup, shop), Err(Refused(number)));
+    assert_eq!(
+        script.compile(&sheet(), Loader::Disc, setup, shop),
+        Err(Refused(number))
+    );
     assert!(*script == before);
 }
 
@@ -47,7 +50,7 @@ fn seventeen_is_right_after_seven() {
     refused(&mut script, 0, &empty(), 17);
     let mut script = with(&script, |a| a.births[0] = 0);
     refused(&mut script, 0, &bad, 8);
-    script.compile(&sheet(), 0, &empty()).unwrap();
+    script.compile(&sheet(), Loader::Disc, 0, &empty()).unwrap();
 }
 
 #[test]
@@ -57,8 +60,10 @@ fn marks_of_each_compile() {
         a.births[1] = 9;
         a.births[2..].fill(5);
     });
-    script.compile(&sheet(), 0, &empty()).unwrap();
-    script.compile(&sheet(), 0, &of_item(3)).unwrap();
+    script.compile(&sheet(), Loader::Disc, 0, &empty()).unwrap();
+    script
+        .compile(&sheet(), Loader::Disc, 0, &of_item(3))
+        .unwrap();
     assert_eq!(script.compiles(), 2);
     let marks: Vec<u32> = (0..).map_while(|b| script.birth(b)).collect();
     assert_eq!(marks.len(), script.blocks());
@@ -77,7 +82,7 @@ fn marks_of_each_compile() {
 fn the_count_stays() {
     for (before, after) in [(u32::MAX - 1, u32::MAX), (u32::MAX, u32::MAX)] {
         let mut script = with(&two_blocks(), |a| a.compiles = before);
-        script.compile(&sheet(), 0, &empty()).unwrap();
+        script.compile(&sheet(), Loader::Disc, 0, &empty()).unwrap();
         assert_eq!((script.compiles(), script.birth(2)), (after, Some(after)));
         refused(&mut script, 2, &empty(), 17);
     }
@@ -86,7 +91,7 @@ fn the_count_stays() {
 #[test]
 fn an_image_starts_anew() {
     let mut script = two_blocks();
-    script.compile(&sheet(), 0, &empty()).unwrap();
+    script.compile(&sheet(), Loader::Disc, 0, &empty()).unwrap();
     refused(&mut script, 2, &of_item(3), 17);
     let image = script.write().unwrap();
     // The same arrays are read into, with marks and a count left in them.
@@ -97,7 +102,9 @@ fn an_image_starts_anew() {
     again.read_again(&image).unwrap();
     assert!(again.arrays().births.iter().all(|mark| *mark == 0));
     assert_eq!(again.compiles(), 0);
-    again.compile(&sheet(), 2, &of_item(3)).unwrap();
+    again
+        .compile(&sheet(), Loader::Disc, 2, &of_item(3))
+        .unwrap();
     assert_eq!((again.birth(2), again.compiles()), (Some(0), 1));
     // Refused, nothing is handed out.
     assert_eq!(again.read_again(&image[1..]), Err(Refused(2)));

@@ -1,6 +1,6 @@
 //! Document 01's cases P1 to P10 over the crate, and compile, parse and preview on a small stack.
 
-use locustkeno::{Atc, Item, Refused, Requirement, Save, Script, Sheet, Shop, Slot};
+use locustkeno::{Atc, Item, Loader, Refused, Requirement, Save, Script, Sheet, Shop, Slot};
 use std::thread;
 
 /// What a thread gets where nobody asks for more.
@@ -32,7 +32,7 @@ fn slot(item: u16, limit: i16, requirements: &[Requirement]) -> Slot {
 fn compiled(slot: &Slot) -> Script {
     let mut script = one_return();
     let shop = Shop::with_slots([slot.clone()]);
-    script.compile(&sheet(), 0, &shop).unwrap();
+    script.compile(&sheet(), Loader::Disc, 0, &shop).unwrap();
     script
 }
 
@@ -124,7 +124,10 @@ fn p10_an_empty_shop_adds_21_blocks() {
         image.resize(image.len() + blocks as usize - 1, 0);
         let mut script = Script::read(&image).unwrap();
         let before = script.clone();
-        assert_eq!(script.compile(&sheet(), 0, &Shop::with_slots([])), answer);
+        assert_eq!(
+            script.compile(&sheet(), Loader::Disc, 0, &Shop::with_slots([])),
+            answer
+        );
         assert_eq!(script == before, answer.is_err());
     }
 }
@@ -161,9 +164,15 @@ fn on_a_small_stack() {
 fn too_many_entries() {
     let mut script = one_return();
     let many = Shop::with_slots([slot(7, 3, &[Requirement::HaveFlag(1); 300])]);
-    assert_eq!(script.compile(&sheet(), 0, &many), Err(Refused(8)));
+    assert_eq!(
+        script.compile(&sheet(), Loader::Disc, 0, &many),
+        Err(Refused(8))
+    );
     let unknown = Shop::with_slots([slot(65_535, 3, &[])]);
-    assert_eq!(script.compile(&sheet(), 0, &unknown), Err(Refused(8)));
+    assert_eq!(
+        script.compile(&sheet(), Loader::Disc, 0, &unknown),
+        Err(Refused(8))
+    );
 }
 
 /// Fourteen entries are taken and read back, a fifteenth is refused, be it one given before.
@@ -174,7 +183,10 @@ fn fourteen_entries() {
     for fifteenth in [flags[0], Requirement::MissingFlag(0)] {
         let given = [&flags[..], &[fifteenth]].concat();
         let shop = Shop::with_slots([slot(7, 3, &given)]);
-        assert_eq!(one_return().compile(&sheet(), 0, &shop), Err(Refused(8)));
+        assert_eq!(
+            one_return().compile(&sheet(), Loader::Disc, 0, &shop),
+            Err(Refused(8))
+        );
     }
 }
 
@@ -204,7 +216,10 @@ fn any_number_of_slots() {
         let kept = count.min(20);
         assert_eq!(shop.slots()[..kept], vec![given.clone(); kept]);
         assert_eq!(shop.slots()[kept..], vec![Slot::default(); 20 - kept]);
-        assert_eq!(one_return().compile(&sheet(), 0, &shop), Ok(()));
+        assert_eq!(
+            one_return().compile(&sheet(), Loader::Disc, 0, &shop),
+            Ok(())
+        );
     }
     // An item on no sheet and over 14 entries, as the 21st and as the 20th.
     let bad = slot(65_535, 3, &[Requirement::HaveFlag(1); 15]);
@@ -212,8 +227,14 @@ fn any_number_of_slots() {
     slots[20] = bad.clone();
     let dropped = Shop::with_slots(slots.clone());
     assert_eq!(dropped, Shop::with_slots(vec![given; 20]));
-    assert_eq!(one_return().compile(&sheet(), 0, &dropped), Ok(()));
+    assert_eq!(
+        one_return().compile(&sheet(), Loader::Disc, 0, &dropped),
+        Ok(())
+    );
     slots[19] = bad;
     let kept = Shop::with_slots(slots);
-    assert_eq!(one_return().compile(&sheet(), 0, &kept), Err(Refused(8)));
+    assert_eq!(
+        one_return().compile(&sheet(), Loader::Disc, 0, &kept),
+        Err(Refused(8))
+    );
 }

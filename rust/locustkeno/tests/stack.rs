@@ -1,6 +1,6 @@
 //! Each call on a thread with just the stack that the header promises to be enough, on the largest and nastiest scripts.
 
-use locustkeno::{Item, Refused, Save, Script, Sheet, Shop, Slot};
+use locustkeno::{Item, Loader, Refused, Save, Script, Sheet, Shop, Slot};
 use std::thread;
 
 const KILOBYTE: usize = 1 << 10;
@@ -172,7 +172,9 @@ fn compile() {
     };
     let shop = Shop::with_slots(vec![slot; 20]);
     for mut script in scripts() {
-        on_stack(COMPILE, || done(script.compile(&sheet(), 0, &shop)));
+        on_stack(COMPILE, || {
+            done(script.compile(&sheet(), Loader::Disc, 0, &shop))
+        });
     }
 }
 

@@ -130,23 +130,37 @@ fn shop() -> Vec<Slot> {
     ]
 }
 
+/// Scripts that one or two compiles of the shop fill to so many blocks or commands, or to one more.
+fn filled(most_blocks: usize, most_commands: usize, past: usize) -> Vec<(Vec<Block>, usize)> {
+    let added = rules::added(&sheet(), &shop());
+    vec![
+        (blocks(most_blocks - added.blocks + past), 1),
+        (commands(most_commands - added.commands + past), 1),
+        (commands(most_commands - 2 * added.commands + past), 2),
+    ]
+}
+
+/// A list of so many compiles of the shop at block 0.
+fn at_block_0((blocks, compiles): (Vec<Block>, usize)) -> Case {
+    let calls = vec![(0, shop()); compiles];
+    answered(sheet(), Script { blocks }, calls)
+}
+
 /// Compiles that just fit and that just do not, for each of the three counts; and lists in which
 /// what the emptied setup block held decides.
 pub fn compile_cases() -> Vec<Case> {
     let added = rules::added(&sheet(), &shop());
     let mut cases = Vec::new();
     for past in [0, 1] {
-        let scripts = [
-            (blocks(BLOCKS - added.blocks + past), 1),
-            (commands(COMMANDS - added.commands + past), 1),
-            (commands(COMMANDS - 2 * added.commands + past), 2),
-            (nodes(NODES - added.nodes + past), 1),
-            (nodes(NODES - 2 * added.nodes + past), 2),
-        ];
-        for (blocks, compiles) in scripts {
-            let calls = vec![(0, shop()); compiles];
-            cases.push(answered(sheet(), Script { blocks }, calls));
-        }
+        cases.extend(filled(BLOCKS, COMMANDS, past).into_iter().map(at_block_0));
+        cases.push(at_block_0((nodes(NODES - added.nodes + past), 1)));
+        cases.push(at_block_0((nodes(NODES - 2 * added.nodes + past), 2)));
     }
     cases
+}
+
+/// The same for other limits of blocks and commands.
+pub fn filled_cases(most_blocks: usize, most_commands: usize) -> Vec<Case> {
+    let scripts = [0, 1].map(|past| filled(most_blocks, most_commands, past));
+    scripts.into_iter().flatten().map(at_block_0).collect()
 }
