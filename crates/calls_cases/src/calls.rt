@@ -46,7 +46,7 @@ fn signed16(x: u32) -> i16 {
     ints::from_bits16(low16(x))
 }
 
-fn wide(x: u16) -> u32 {
+pub fn wide(x: u16) -> u32 {
     x as u32
 }
 

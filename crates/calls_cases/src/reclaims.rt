@@ -3,6 +3,7 @@ use crate::calls::Kept;
 use crate::calls::bit;
 use crate::calls::tell_counts;
 use crate::calls::whole;
+use crate::calls::wide;
 use crate::changes::size;
 use memory::BLOCKS;
 use memory::Births;
@@ -29,16 +30,37 @@ pub fn reclaimed(
     let mut roots: [u32; MOST] = [0; MOST];
     let mut moved: [u16; BLOCKS] = [7; BLOCKS];
     let n = fill(a, &mut roots);
-    reclaim_by(a, &roots[..n], &mut moved, ws, val, cw, bw, births, kept, t)
+    reclaim_some(a, &roots, n, &mut moved, ws, val, cw, bw, births, kept, t)
+}
+
+// The first n roots.
+fn reclaim_some(
+    a: &[u32; 224],
+    roots: &[u32; MOST],
+    n: usize,
+    moved: &mut [u16; BLOCKS],
+    ws: &mut NodeWords,
+    val: &mut Values,
+    cw: &mut CommandWords,
+    bw: &mut BlockWords,
+    births: &mut Births,
+    kept: Kept,
+    t: &mut [u32; 16],
+) -> Kept {
+    let all: &[u32] = roots;
+    if all.len() < n {
+        return kept;
+    }
+    reclaim_by(a, &all[..n], moved, ws, val, cw, bw, births, kept, t)
 }
 
 // How many roots, the first, and what each further one is more.
-fn fill(a: &[u32; 224], roots: &mut [u32]) -> usize {
+fn fill(a: &[u32; 224], roots: &mut [u32; MOST]) -> usize {
     let n = size(a[1]);
     let mut root = a[2];
     let mut i: usize = 0;
     while i < n {
-        if roots.len() <= i {
+        if MOST <= i {
             return i;
         }
         roots[i] = root;
@@ -77,7 +99,7 @@ fn reclaim_by(
 // Past the array's end 0.
 fn word_of(moved: &[u16], b: usize) -> u32 {
     if b < moved.len() {
-        return moved[b] as u32;
+        return wide(moved[b]);
     }
     0
 }

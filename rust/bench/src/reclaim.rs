@@ -5,7 +5,7 @@ use crate::by_hand;
 use crate::cases::{self, Case};
 use crate::clock::{Times, by_turns, row};
 use compare::convert;
-use locustkeno::{Moved, Script, Shop};
+use locustkeno::{Loader, Moved, Script, Shop};
 use std::hint::black_box;
 
 /// With block 0 as the only root, into copies of the script: twenty one after the other, and one alone.
@@ -66,7 +66,11 @@ fn parse(case: &Case, [reclaimed, one]: [&Script; 2]) {
 fn compile(case: &Case, [reclaimed, one]: [&Script; 2]) {
     let sheet = convert::sheet(&case.sheet);
     let shop = Shop::with_slots(case.slots.iter().map(convert::slot));
-    let compile = |script: &mut Script| script.compile(&sheet, 0, &shop).expect("it has room");
+    let compile = |script: &mut Script| {
+        script
+            .compile(&sheet, Loader::Disc, 0, &shop)
+            .expect("it has room")
+    };
     let times = by_turns(20, || reclaimed.clone(), compile, || one.clone(), compile);
     beside("compile", times);
 }

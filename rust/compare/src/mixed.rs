@@ -5,7 +5,7 @@ use crate::shops::{self, Both};
 use crate::survivors::{self, Numbers};
 use crate::tally::Tally;
 use crate::{reclaim, tree};
-use locustkeno::Moved;
+use locustkeno::{Loader, Moved};
 use oracle::image::BLOCKS;
 use oracle::plain::{Block, Code, SLOTS, Script, Sheet, Slot};
 use record::make::{self, Maker};
@@ -71,8 +71,9 @@ impl List {
         } else {
             maker.shop()
         };
+        let loader = maker.random.pick(&[Loader::Disc, Loader::Demo]);
         let (ours, theirs) = &mut self.both;
-        if !shops::check_compile(tally, &self.sheet, ours, theirs, setup, &slots) {
+        if !shops::check_compile(tally, &self.sheet, ours, theirs, loader, setup, &slots) {
             return;
         }
         self.last.retain(|(at, _)| *at != setup);
@@ -172,9 +173,11 @@ pub fn filled(tally: &mut Tally, random: &mut Random) {
         let blocks = vec![Block::Code(Code::default())];
         let (mut ours, mut theirs) = shops::read(&Script { blocks });
         // A shop has 21 blocks and more, so that the answers end.
-        (0..BLOCKS).all(|_| shops::check_compile(tally, &sheet, &mut ours, &mut theirs, 0, &slots));
+        let disc = Loader::Disc;
+        (0..BLOCKS)
+            .all(|_| shops::check_compile(tally, &sheet, &mut ours, &mut theirs, disc, 0, &slots));
         (theirs, _) = reclaim::check(tally, &full, &mut ours, &[0]).expect("block 0 is one");
-        let fits = shops::check_compile(tally, &sheet, &mut ours, &mut theirs, 0, &slots);
+        let fits = shops::check_compile(tally, &sheet, &mut ours, &mut theirs, disc, 0, &slots);
         let case = || format!("sheet {sheet:?}, shop {slots:?}");
         tally.same("compile after a reclaim", &fits, &true, case);
         shops::check_last(tally, random, &sheet, (&ours, &theirs), &[(0, &slots)]);

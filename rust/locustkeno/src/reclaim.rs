@@ -35,14 +35,14 @@ impl Script {
     /// one that is not a block, are refusal 18 before any other check. Refused, the script stays as it was.
     ///
     /// ```
-    /// use locustkeno::{Item, Refused, Script, Sheet, Shop, Slot};
+    /// use locustkeno::{Item, Loader, Refused, Script, Sheet, Shop, Slot};
     /// let sheet = Sheet::new(&[None; 8], 0, [Item(0), Item(1), Item(2)]);
     /// let slot = Slot { item: Some(Item(7)), limit: 3, requirements: vec![] };
     /// let (empty, shop) = (Shop::with_slots([]), Shop::with_slots([slot]));
     /// // A data block, and a Return block at which a shop is compiled, and then another.
     /// let mut script = Script::read(&[2, 2, 1, 1, 0, 0, 0])?;
-    /// script.compile(&sheet, 1, &empty)?;
-    /// script.compile(&sheet, 1, &shop)?;
+    /// script.compile(&sheet, Loader::Disc, 1, &empty)?;
+    /// script.compile(&sheet, Loader::Disc, 1, &shop)?;
     /// let blocks = script.blocks();
     /// let moved = script.reclaim(&[1])?;
     /// // The data block is gone, and so are the 21 blocks of the first shop.
@@ -51,7 +51,7 @@ impl Script {
     /// assert_eq!(script.parse(&sheet, 0)?, shop);
     /// // Block 23 was appended by the second compile, and is block 1 now.
     /// assert_eq!((script.birth(0), script.birth(1), script.compiles()), (Some(0), Some(2), 2));
-    /// assert_eq!(script.compile(&sheet, 1, &empty), Err(Refused(17)));
+    /// assert_eq!(script.compile(&sheet, Loader::Disc, 1, &empty), Err(Refused(17)));
     /// assert_eq!(script.reclaim(&[0, blocks as u32]), Err(Refused(18)));
     /// # Ok::<(), Refused>(())
     /// ```

@@ -38,14 +38,14 @@ impl Script {
     /// it empties a block; [`Script::reclaim`] counts afresh.
     ///
     /// ```
-    /// use locustkeno::{Item, Refused, Script, Sheet, Shop};
+    /// use locustkeno::{Item, Loader, Refused, Script, Sheet, Shop};
     /// let sheet = Sheet::new(&[None; 3], 0, [Item(0), Item(1), Item(2)]);
     /// let mut script = Script::read(&[1, 1, 1, 0, 0, 0])?;
     /// let room = script.room();
     /// assert_eq!([room.blocks, room.commands, room.nodes].map(|one| one.used), [1, 1, 0]);
     /// assert_eq!([room.blocks, room.commands, room.nodes].map(|one| one.limit), [4_096, 16_384, 32_768]);
     /// // The shop's blocks have 41 commands, and the Return of the emptied block 0 still counts.
-    /// script.compile(&sheet, 0, &Shop::with_slots([]))?;
+    /// script.compile(&sheet, Loader::Disc, 0, &Shop::with_slots([]))?;
     /// assert_eq!(script.room().commands.used, 42);
     /// script.reclaim(&[0])?;
     /// assert_eq!(script.room().commands.used, 41);

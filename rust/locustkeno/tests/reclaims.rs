@@ -1,6 +1,8 @@
 //! Taking back dead blocks (document 02, A.4) over the crate.
 
-use locustkeno::{Arrays, Item, Moved, Refused, Requirement, Save, Script, Sheet, Shop, Slot};
+use locustkeno::{
+    Arrays, Item, Loader, Moved, Refused, Requirement, Save, Script, Sheet, Shop, Slot,
+};
 
 /// The most roots that a reclaim is given.
 const ROOTS: usize = 256;
@@ -119,7 +121,7 @@ fn eighteen_is_before_two_to_five() {
 #[test]
 fn no_roots_leave_no_block() {
     let mut script = one_return();
-    script.compile(&sheet(), 0, &large()).unwrap();
+    script.compile(&sheet(), Loader::Disc, 0, &large()).unwrap();
     let before = script.arrays().clone();
     let mut moved = full();
     script.reclaim_into(&[], &mut moved).unwrap();
@@ -137,7 +139,7 @@ fn no_roots_leave_no_block() {
 #[test]
 fn roots_may_repeat() {
     let mut script = one_return();
-    script.compile(&sheet(), 0, &empty()).unwrap();
+    script.compile(&sheet(), Loader::Disc, 0, &empty()).unwrap();
     let mut once = script.clone();
     let moved = once.reclaim(&[0]).unwrap();
     assert_eq!(script.reclaim(&[0; ROOTS]), Ok(moved));
@@ -199,16 +201,20 @@ fn links_of_each_kind() {
 #[test]
 fn a_script_full_of_dead_shops() {
     let mut script = one_return();
-    let accepted = (0..100).take_while(|_| script.compile(&sheet(), 0, &large()).is_ok());
+    let accepted =
+        (0..100).take_while(|_| script.compile(&sheet(), Loader::Disc, 0, &large()).is_ok());
     assert_eq!(accepted.count(), 43);
     assert_eq!(script.blocks(), 1 + 43 * 95);
-    assert_eq!(script.compile(&sheet(), 0, &large()), Err(Refused(9)));
+    assert_eq!(
+        script.compile(&sheet(), Loader::Disc, 0, &large()),
+        Err(Refused(9))
+    );
     let moved = script.reclaim(&[0]).unwrap();
     let last = 1 + 42 * 95;
     assert_eq!((script.blocks(), moved.now(last)), (96, Some(1)));
     assert_eq!(moved.now(last - 1), None);
     assert_eq!(script.parse(&sheet(), 0), Ok(large()));
-    assert_eq!(script.compile(&sheet(), 0, &empty()), Ok(()));
+    assert_eq!(script.compile(&sheet(), Loader::Disc, 0, &empty()), Ok(()));
     assert_eq!(script.compiles(), 44);
     assert_eq!(script.parse(&sheet(), 0), Ok(empty()));
     let room = script.room();
@@ -224,7 +230,9 @@ fn marks_are_kept() {
         a.births[3..].fill(5);
     });
     for (setup, shop) in [(0, empty()), (2, large()), (0, large()), (2, empty())] {
-        script.compile(&sheet(), setup, &shop).unwrap();
+        script
+            .compile(&sheet(), Loader::Disc, setup, &shop)
+            .unwrap();
     }
     let before = script.clone();
     let moved = script.reclaim(&[2, 1]).unwrap();
@@ -241,12 +249,12 @@ fn marks_are_kept() {
     );
     for block in 2..23 {
         assert_eq!(
-            script.compile(&sheet(), block, &empty()),
+            script.compile(&sheet(), Loader::Disc, block, &empty()),
             Err(Refused(17)),
             "an appended block stays one"
         );
     }
-    script.compile(&sheet(), 1, &large()).unwrap();
+    script.compile(&sheet(), Loader::Disc, 1, &large()).unwrap();
     assert_eq!((script.birth(22), script.birth(23)), (Some(4), Some(5)));
     assert_eq!(script.parse(&sheet(), 1), Ok(large()));
 }
@@ -255,8 +263,8 @@ fn marks_are_kept() {
 #[test]
 fn shops_move() {
     let mut script = Script::read(&[3, 1, 1, 0, 0, 0, 2, 1, 1, 0, 0, 0]).unwrap();
-    script.compile(&sheet(), 0, &empty()).unwrap();
-    script.compile(&sheet(), 2, &large()).unwrap();
+    script.compile(&sheet(), Loader::Disc, 0, &empty()).unwrap();
+    script.compile(&sheet(), Loader::Disc, 2, &large()).unwrap();
     let mut before = Save::new(&sheet());
     before.items[7] = 1;
     let mut after = before.clone();
