@@ -28,6 +28,9 @@ check-call-requires c κs = search needs
 returns : tie.Need-returns
 returns c = refused-call _ _ _ _ (size (c .before .before .before)) _ (c .before .check-call .ensures) (c .if1 .taken)
 
+birth-of-requires : tie.Need-birth-of-requires
+birth-of-requires c κs = search needs
+
 returns-2 : tie.Need-returns-2
 returns-2 c =
     let a = c .before .before in
@@ -75,6 +78,7 @@ check-compile-spec =
     (tie.spec
     check-call-requires
     returns
+    birth-of-requires
     returns-2
     check-arrays-requires
     returns-3
