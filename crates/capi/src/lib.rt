@@ -291,12 +291,12 @@ pub extern "C" fn lk_reclaim(
         blocks: blocks,
     };
     let r = reclaim(ws, val, cw, bw, births, counts, roots, moved);
-    let kept = r.counts;
+    let left = r.counts;
     Kept {
         refusal: r.refusal,
-        nodes: kept.nodes,
-        commands: kept.commands,
-        blocks: kept.blocks,
+        nodes: left.nodes,
+        commands: left.commands,
+        blocks: left.blocks,
         compiles: compiles,
     }
 }

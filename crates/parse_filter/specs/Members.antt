@@ -52,7 +52,6 @@ has-stay p e [] = by (p e)
     by false = refl
 has-stay p e (x ∷ xs) = by (eqb e x) (p x) refl refl (has-stay p e xs)
   where
-
     by : (s t : Bool) → eqb e x ≡ s → p x ≡ t → has e (stay p xs) ≡ p e && has e xs → has e (cond t (x ∷ stay p xs) (stay p xs)) ≡ p e && (s || has e xs)
     by true true a b ih = let q : p e ≡ true = ap p (eqb-true e x a) ∙ b in rw (a, q)
     by true false a b ih = let q : p e ≡ false = ap p (eqb-true e x a) ∙ b in ih ∙ rw q

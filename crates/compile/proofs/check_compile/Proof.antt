@@ -31,9 +31,6 @@ returns c = refused-call _ _ _ _ _ (size (c .before .before .before)) _ (c .befo
 birth-of-requires : tie.Need-birth-of-requires
 birth-of-requires c κs = search needs
 
-birth-of-requires : tie.Need-birth-of-requires
-birth-of-requires c κs = search needs
-
 returns-2 : tie.Need-returns-2
 returns-2 c =
     let a = c .before .before in
