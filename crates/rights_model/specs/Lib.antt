@@ -1,0 +1,6 @@
+pub mod Names
+pub mod Rights
+pub mod Fields
+pub mod Changed
+pub mod Seen
+pub mod Cases
