@@ -44,7 +44,8 @@ put-field-requires c κs =
 returns-2 : tie.Need-returns-2
 returns-2 c =
     let s = c .before .before .before .before .before .before .before .before .before .before .before in
-    arrays-now (tableOf (s .args .rights .now)) (sheetOf (s .args .attached .now) (s .args .sheet)) (arrays s) (s .args .user) (s .args .slot) (s .args .field) (given s) _ _ _ _ (c .before .before .before .before .before .before .before .before .before .place-for .ensures) (c .before .before .before .before .before .before .before .field-from .ensures) (rw (toZ-ofZ {w = w32} {z = s .args .item} (s .fits .item), toZ-ofZ {w = w16} {z = s .args .limit} (s .fits .limit)) at (c .before .before .before .before .before .before .before .before .slot-by .ensures)) (c .before .before .before .before .before .before .refusal-of .ensures) (c .before .before .before .before .before .if1 .left) _ (rw (toZ-ofZ {w = w32} {z = s .args .item} (s .fits .item), toZ-ofZ {w = w16} {z = s .args .limit} (s .fits .limit)) at (c .put-field .ensures))
+    arrays-now (tableOf (s .args .rights .now)) (sheetOf (s .args .attached .now) (s .args .sheet)) (arrays s) (s .args .user) (s .args .slot) (s .args .field) (given s) _ _ _ _
+    (c .before .before .before .before .before .before .before .before .before .place-for .ensures) (c .before .before .before .before .before .before .before .field-from .ensures) (rw (toZ-ofZ {w = w32} {z = s .args .item} (s .fits .item), toZ-ofZ {w = w16} {z = s .args .limit} (s .fits .limit)) at (c .before .before .before .before .before .before .before .before .slot-by .ensures)) (c .before .before .before .before .before .before .refusal-of .ensures) (c .before .before .before .before .before .if1 .left) _ (rw (toZ-ofZ {w = w32} {z = s .args .item} (s .fits .item), toZ-ofZ {w = w16} {z = s .args .limit} (s .fits .limit)) at (c .put-field .ensures))
 
 pub edit-arrays-spec : {M : Type 1} → statement M
 edit-arrays-spec =
