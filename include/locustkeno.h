@@ -1,4 +1,4 @@
-/* The calls of the static library libcapi.a.
+/* The calls of the static library liblocustkeno.a.
  *
  * Every call answers with a refusal's number from documents 01 and 02, or 0. A slice is a pointer and a length; where the
  * length is 0 the pointer must still not be null. What is written to must not overlap anything else that is handed in.

@@ -2,6 +2,6 @@
 # Proves and builds the static library, looks for late stack probes in it (docs/TRUST.md), then builds and tests the safe crate over it.
 set -eu
 cd "$(dirname "$0")"
-(cd .. && rt staticlib capi && tools/probes target/staticlib/libcapi.a)
+../tools/library
 cargo build -j1 --offline --release -p locustkeno
 cargo test -j1 --offline --release -p locustkeno

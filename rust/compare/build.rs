@@ -9,7 +9,7 @@ fn main() {
     let top = Path::new(env!("CARGO_MANIFEST_DIR")).join("../..");
     println!("cargo::rerun-if-env-changed=LOCUSTKENO_LIB");
     let folder = env::var_os("LOCUSTKENO_LIB").map_or(top.join("target/staticlib"), PathBuf::from);
-    let archive = folder.join("libcapi.a");
+    let archive = folder.join("liblocustkeno.a");
     println!("cargo::rerun-if-changed={}", archive.display());
     if fs::exists(&archive).unwrap_or(false) {
         let probes = Command::new(top.join("tools/probes"))

@@ -1,4 +1,4 @@
-//! Links the proved static library, `libcapi.a`.
+//! Links the proved static library, `liblocustkeno.a`.
 
 use std::path::{Path, PathBuf};
 use std::{env, fs};
@@ -6,18 +6,18 @@ use std::{env, fs};
 fn main() {
     println!("cargo:rerun-if-env-changed=LOCUSTKENO_LIB");
     let folder = folder();
-    let library = folder.join("libcapi.a");
+    let library = folder.join("liblocustkeno.a");
     assert!(
         library.is_file(),
-        "{} is not there: run `rt staticlib capi` at the top of the repository",
+        "{} is not there: run `tools/library` at the top of the repository",
         library.display()
     );
     println!("cargo:rerun-if-changed={}", library.display());
     println!("cargo:rustc-link-search=native={}", folder.display());
-    println!("cargo:rustc-link-lib=static=capi");
+    println!("cargo:rustc-link-lib=static=locustkeno");
 }
 
-/// The folder that `LOCUSTKENO_LIB` names, or else the one that `rt staticlib` writes to.
+/// The folder that `LOCUSTKENO_LIB` names, or else the one that `tools/library` writes to.
 fn folder() -> PathBuf {
     let here = env::var("CARGO_MANIFEST_DIR").expect("cargo names the crate's folder");
     let folder = env::var("LOCUSTKENO_LIB").map_or_else(

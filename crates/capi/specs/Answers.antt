@@ -1,4 +1,4 @@
--- What the numbers of the library's calls stand for: sheets, loaders, and the answers with what they leave in the arrays. Assumes nothing: these are definitions.
+-- What the numbers of the library's calls stand for: loaders, and the answers with what they leave in the arrays. Assumes nothing: these are definitions.
 use mathlib.Core.List.{List}
 use Prim.Native.Nat.{ℕ, zero, suc}
 use lib.IntN.{ℤ}
@@ -8,21 +8,15 @@ use Rattle.memory.specs.declared.Counts.{Counts}
 use Rattle.model.specs.Memory.{Memory}
 use Rattle.model.specs.Run as Run
 use Rattle.memory.specs.View.{memoryOf}
-use Rattle.shop.specs.declared.Sheet.{Sheet}
 use Rattle.image_read.specs.Outcome.{Outcome, held, nothing}
+use Rattle.capi_values.specs.Values.{countsBy}
 use Rattle.capi.specs.declared.Kept.{Kept}
 use Rattle.preview.specs.declared.Previewed as Preview
 use Rattle.capi.specs.declared.Ran.{Ran}
 use Rattle.capi.specs.declared.Previewed.{Previewed}
 
-abbrev pub countsBy : ℕ → ℕ → ℕ → Counts
-countsBy n c b = record { nodes = n; commands = c; blocks = b }
-
 abbrev pub countsIn : Kept → Counts
 countsIn r = countsBy (r .nodes) (r .commands) (r .blocks)
-
-abbrev pub sheetBy : ℕ → ℕ → ℕ → ℕ → Sheet
-sheetBy atcs five ten fifteen = record { atcs = atcs; timer5 = record { 0 = five }; timer10 = record { 0 = ten }; timer15 = record { 0 = fifteen } }
 
 -- 0 is the disc, every other number the demo
 abbrev pub loaderBy : ℕ → Loader

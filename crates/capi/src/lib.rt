@@ -18,8 +18,10 @@ ghost use Rattle.reclaim.specs.Answer.{ReclaimedAs};
 ghost use Rattle.parse.specs.Answer.{ParsedInto};
 ghost use Rattle.preview.specs.Shown.{previewedOf};
 ghost use Rattle.shop_with_slots.specs.Twenty.{twenty};
-ghost use Rattle.capi.specs.Answers.{countsBy, countsIn, sheetBy, loaderBy, readAs, ranAs, previewedAs};
+ghost use Rattle.capi_values.specs.Values.{countsBy, sheetBy};
+ghost use Rattle.capi.specs.Answers.{countsIn, loaderBy, readAs, ranAs, previewedAs};
 use births::start_anew;
+use capi_values::sheet_by;
 use compile::compile_arrays;
 use image_read::Image;
 use image_read::read_script;
@@ -32,7 +34,6 @@ use memory::Counts;
 use memory::NodeWords;
 use memory::Values;
 use model::BlockNo;
-use model::ItemId;
 use model::Loader;
 use parse::parse_arrays;
 use preview::preview_arrays;
@@ -40,7 +41,6 @@ use reclaim::reclaim;
 use runner::run;
 use shop::Codes;
 use shop::SLOTS;
-use shop::Sheet;
 use shop_with_slots::with_slots;
 
 // The refusal or 0, the kept counts of the script and the count of its accepted compiles; all counts are 0 where a read is refused.
@@ -74,17 +74,6 @@ pub struct Previewed {
 pub struct Ran {
     pub refusal: u8,
     pub entered: u32,
-}
-
-fn sheet_by(atcs: u16, timer5: u16, timer10: u16, timer15: u16) -> Sheet
-    ensures { λ r. ⌜ r ≡ sheetBy atcs timer5 timer10 timer15 ⌝ }
-{
-    Sheet {
-        atcs: atcs,
-        timer5: ItemId(timer5),
-        timer10: ItemId(timer10),
-        timer15: ItemId(timer15),
-    }
 }
 
 // Every number is a loader: 0 the disc, any other the demo.

@@ -69,6 +69,34 @@ demoBlocks = 512
 abbrev pub demoCommands : ℕ
 demoCommands = 2048
 
+-- 02, A.7: up to so many users work on one shop
+abbrev pub userCount : ℕ
+userCount = 16
+
+-- 02, A.8: the saves of one walk, the budget of each run, and the blocks read at most for a setup block compiled at
+abbrev pub mostSaves : ℕ
+mostSaves = 64
+
+abbrev pub laneBudget : ℕ
+laneBudget = 4096
+
+abbrev pub walkBlocks : ℕ
+walkBlocks = 142
+
+-- 02, A.11: the coins of a price, and the parts of one that a discount is counted in
+abbrev pub mostPrice : ℕ
+mostPrice = 30000
+
+abbrev pub thousand : ℕ
+thousand = 1000
+
+-- 02, A.13: the wishes of a shopper and the coins of its money
+abbrev pub mostWishes : ℕ
+mostWishes = 1000
+
+abbrev pub mostMoney : ℕ
+mostMoney = 1000000
+
 -- demand 3: the blocks after which the run of a compiled shop has reached Return
 abbrev pub runBlocks : ℕ
 runBlocks = 82

@@ -67,6 +67,42 @@ badRoots = 18
 abbrev pub demoFull : ℕ
 demoFull = 19
 
+-- 02, A.7: a user outside 0 to 15, editing or being shown
+abbrev pub noUser : ℕ
+noUser = 20
+
+-- 02, A.7: an edit with a slot outside 0 to 19, or without the right to change that field
+abbrev pub noRight : ℕ
+noRight = 21
+
+-- 02, A.8: 0 or more than 64 saves, or a block that is led to has a link that does not go to a lower number
+abbrev pub badWalk : ℕ
+badWalk = 22
+
+-- 02, A.10: a run reads a flag outside the save
+abbrev pub noFlag : ℕ
+noFlag = 23
+
+-- 02, A.11: a price or discount out of range, or a tariff without exactly one price per item
+abbrev pub badTariff : ℕ
+badTariff = 24
+
+-- 02, A.11: a basket number below 0, above its count, or above 0 where the slot's item is not on the sheet
+abbrev pub badBasket : ℕ
+badBasket = 25
+
+-- 02, A.13: a list of wishes over its limit
+abbrev pub tooManyWishes : ℕ
+tooManyWishes = 26
+
+-- 02, A.13: a wished slot outside 0 to 19
+abbrev pub noSuchWish : ℕ
+noSuchWish = 27
+
+-- 02, A.13: money out of range
+abbrev pub badMoney : ℕ
+badMoney = 28
+
 -- a check refuses with its number where its test fails
 abbrev pub check : Bool → ℕ → ℕ
 check true n = accepted

@@ -10,13 +10,12 @@ use lib.Dec.{ltb}
 use lib.IntN.{ℤ}
 use lib.ListN.{getD, set, length, length-map, length-set, List·getD-map}
 use lib.Seq.{ext-getD, getD-set-other, getD-set-same}
-use Rattle.model.specs.Limits.{slotCount}
-use Rattle.model.specs.Refusal.{badShop, check, firstOf}
+use Rattle.model.specs.Limits.{slotCount, userCount}
+use Rattle.model.specs.Refusal.{badShop, check, firstOf, noRight, noUser}
 use Rattle.model.specs.Sheet as Model
 use Rattle.model.specs.Sheet.{sheetOk}
 use Rattle.model.specs.Shop as Shops
 use Rattle.model.specs.Shop.{emptySlot, itemKnown}
-use Rattle.rights_model.specs.Names.{noRight, noUser, userCount}
 use Rattle.rights_model.specs.Rights as Rights
 use Rattle.rights_model.specs.Rights.{Content, Edit, Field, Table, contentOk, editCall, editRefusal, editedOf, fieldOf, mayChange, put, showCall, shownFrom, shownSlot, itemField, limitField, requirementsField}
 use Rattle.shop.specs.Shapes.{entries, entriesOk, itemOf, noSlot, placed, slotOf, slotsOf}

@@ -4,10 +4,9 @@ use mathlib.Core.List.{List, []}
 use Prim.Native.Nat.{ℕ, zero, suc, _+_, _*_, _/_, _%_}
 use lib.Dec.{ltb, eqb}
 use lib.ListN.{getD, set}
-use Rattle.model.specs.Limits.{slotCount}
-use Rattle.model.specs.Refusal.{accepted}
+use Rattle.model.specs.Limits.{slotCount, userCount}
+use Rattle.model.specs.Refusal.{accepted, noUser}
 use Rattle.model.specs.Sheet as Model
-use Rattle.rights_model.specs.Names.{noUser, userCount}
 use Rattle.rights_model.specs.Rights as Rights
 use Rattle.rights_model.specs.Rights.{Content, Edit, Table, editRefusal, fieldIn, itemField, limitField, requirementsField}
 use Rattle.shop.specs.Shapes.{noShop, noSlot, placed, slotOf, slotsOf}

@@ -8,11 +8,10 @@ use lib.Dec.{eqb}
 use lib.ListN.{replicate, set}
 use lib.IntN.{pos}
 use Rattle.model.specs.Limits.{slotCount}
-use Rattle.model.specs.Refusal.{badSheet, badShop}
+use Rattle.model.specs.Refusal.{badSheet, badShop, noRight, noUser}
 use Rattle.model.specs.Requirement.{Requirement, haveFlag, haveItem}
 use Rattle.model.specs.Sheet.{Sheet, sheetOk}
 use Rattle.model.specs.Shop.{Slot, emptySlot}
-use Rattle.rights_model.specs.Names.{noRight, noUser}
 use Rattle.rights_model.specs.Rights.{Content, Edit, Table, afterEdits, answers, editCall, editRefusal, newItem, newLimit, newRequirements, showCall, shownFrom}
 
 -- three items, no atcs; and a sheet of no items

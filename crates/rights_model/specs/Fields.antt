@@ -9,13 +9,12 @@ use lib.Dec.{ltb, eqb}
 use borrow.Author.Tests.{eq-eqb, ne-eqb, ltb-true}
 use lib.ListN.{getD, set, length, length-set}
 use lib.Seq.{getD-set-same, getD-set-other}
-use Rattle.model.specs.Limits.{slotCount}
-use Rattle.model.specs.Refusal.{check, firstOf}
+use Rattle.model.specs.Limits.{slotCount, userCount}
+use Rattle.model.specs.Refusal.{check, firstOf, noUser}
 use Rattle.model.specs.Sheet.{Sheet, sheetRefusal}
 use Rattle.model.specs.Shop.{Slot, emptySlot}
 use Rattle.model.specs.Laws.Checks.{and-left, and-right, first-passed, passed}
 use Rattle.rights_model.specs.Rights.{Content, Edit, Field, Table, newItem, newLimit, newRequirements, itemField, limitField, requirementsField, contentCheck, editCall, editRefusal, editedOf, rightCheck, fieldCode, fieldIn, fieldOf, mayChange, put, touches}
-use Rattle.rights_model.specs.Names.{noUser, userCount}
 
 -- ---- the field that is put, and the others
 

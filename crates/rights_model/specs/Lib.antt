@@ -1,4 +1,3 @@
-pub mod Names
 pub mod Rights
 pub mod Fields
 pub mod Changed

@@ -7,12 +7,11 @@ use Prim.Native.Nat.{ℕ, zero, suc, _<_}
 use lib.Dec.{ltb, leb, eqb}
 use lib.ListN.{getD, set, length}
 use lib.IntN.{ℤ}
-use Rattle.model.specs.Limits.{slotCount, entryLimit}
-use Rattle.model.specs.Refusal.{check, firstOf, badShop}
+use Rattle.model.specs.Limits.{slotCount, entryLimit, userCount}
+use Rattle.model.specs.Refusal.{check, firstOf, badShop, noRight, noUser}
 use Rattle.model.specs.Sheet.{Sheet, all, sheetRefusal}
 use Rattle.model.specs.Requirement.{Requirement}
 use Rattle.model.specs.Shop.{Slot, emptySlot, itemKnown, reqKnown}
-use Rattle.rights_model.specs.Names.{noRight, noUser, userCount}
 
 -- ---- rights
 

@@ -125,7 +125,7 @@ def library(crates, work, folder):
     subprocess.run([CLANG, "-O3", "-fPIC", "-c", work / "module.ll", "-o", work / "module.o"], check=True, capture_output=True)
     shim = ["cc", "-O2", "-fPIC", "-I", TOP / "include", "-c", HERE / "shim.c", "-o", work / "shim.o"]
     subprocess.run(shim, check=True)
-    archive = folder / "libcapi.a"
+    archive = folder / "liblocustkeno.a"
     archive.unlink(missing_ok=True)
     subprocess.run(["ar", "rcs", archive, work / "module.o", work / "shim.o"], check=True)
 

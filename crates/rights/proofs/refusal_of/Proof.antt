@@ -5,10 +5,9 @@ use mathlib.Core.List.{[], _∷_}
 use native.Mathlib.Omega.{arith}
 use lib.Dec.{ltb}
 use borrow.Author.Tests.{lt-ltb, le-ltb, not-true, not-false}
-use Rattle.model.specs.Limits.{slotCount}
-use Rattle.model.specs.Refusal.{badSheet, badShop, check, firstOf}
+use Rattle.model.specs.Limits.{slotCount, userCount}
+use Rattle.model.specs.Refusal.{badSheet, badShop, check, firstOf, noRight, noUser}
 use Rattle.model.specs.Sheet.{sheetOk}
-use Rattle.rights_model.specs.Names.{noRight, noUser, userCount}
 use Rattle.rights_model.specs.Rights.{contentOk, editRefusal, fieldOf, mayChange}
 use Rattle.shop.specs.Shapes.{sheetOf}
 use Rattle.rights.specs.Values.{contentOf, editOf, fieldIs, tableOf}
