@@ -137,4 +137,6 @@ lk_previewed lk_preview(const uint8_t *attached, size_t attached_len, uint16_t a
 }
 #endif
 
+#include "locustkeno_structs.h"
+
 #endif
