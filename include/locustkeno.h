@@ -164,4 +164,6 @@ uint8_t lk_show(const uint8_t rights[LK_USERS * LK_SLOTS], int32_t items[LK_SLOT
 }
 #endif
 
+#include "locustkeno_structs.h"
+
 #endif
