@@ -12,9 +12,7 @@ use shop::ENTRIES;
 use shop::Row;
 use shop::SLOTS;
 
-// The requirements HaveItem 3, HaveFlag 1 and HaveFlag 2 by their codes.
-const ITEM_3: u64 = 2147483651;
-
+// The requirements HaveFlag 1 and HaveFlag 2 by their codes.
 const FLAG_1: u64 = 19327352833;
 
 const FLAG_2: u64 = 19327352834;
@@ -24,78 +22,89 @@ fn main() {
     let mut rights: [u8; RIGHTS] = [0; RIGHTS];
     rights[60] = CHANGE_ITEM + CHANGE_REQUIREMENTS;
     rights[20] = SEE;
+    in_order(&rights);
+    contents(&rights);
     session(&rights, 9);
     session(&rights, -9);
-}
-
-// Slot 0 holds an item that is not on the sheet, slot 1, which nobody sees, what is given: 8 would refuse the shop.
-fn session(rights: &[u8; RIGHTS], hidden: i32) {
-    let mut items: [i32; SLOTS] = [-1; SLOTS];
-    let mut limits: [i16; SLOTS] = [0; SLOTS];
-    let mut codes: Codes = [0; CODES];
-    let mut lens: [u8; SLOTS] = [0; SLOTS];
-    items[0] = 7;
-    items[1] = hidden;
-    limits[1] = 5;
-    in_order(rights, &mut items, &mut limits, &mut codes, &mut lens);
-    contents(rights, &mut items, &mut limits, &mut codes, &mut lens);
-    shown(rights, &mut items, &mut limits, &mut codes, &mut lens);
 }
 
 // ---- the cases
 
 // 1, 20, 21 and 8, each where those after it would be met too: with timer 15 twice the sheet is none.
-fn in_order(
-    rights: &[u8; RIGHTS],
-    items: &mut [i32; SLOTS],
-    limits: &mut [i16; SLOTS],
-    codes: &mut Codes,
-    lens: &mut [u8; SLOTS],
-) {
-    let row: Row = [ITEM_3; ENTRIES];
-    edit(1, rights, items, limits, codes, lens, 16, 20, 0, 3, &row, 0);
-    edit(2, rights, items, limits, codes, lens, 16, 20, 0, 3, &row, 0);
-    edit(2, rights, items, limits, codes, lens, 3, 20, 0, 3, &row, 0);
-    edit(2, rights, items, limits, codes, lens, 1, 0, 0, 3, &row, 0);
-    edit(2, rights, items, limits, codes, lens, 3, 0, 0, 3, &row, 0);
+fn in_order(rights: &[u8; RIGHTS]) {
+    alone(rights, 1, 16, 20, 0, 3, 0);
+    alone(rights, 2, 16, 20, 0, 3, 0);
+    alone(rights, 2, 3, 20, 0, 3, 0);
+    alone(rights, 2, 1, 0, 0, 3, 0);
+    alone(rights, 2, 3, 0, 0, 3, 0);
 }
 
-// The item's right is none for the limit, and there is no fourth field. Fifteen entries are 8; a set in no order with a repeat is kept as given.
-fn contents(
-    rights: &[u8; RIGHTS],
-    items: &mut [i32; SLOTS],
-    limits: &mut [i16; SLOTS],
-    codes: &mut Codes,
-    lens: &mut [u8; SLOTS],
-) {
+// The item's right is none for the limit, and there is no fourth field. Fifteen entries are 8, fourteen are not.
+fn contents(rights: &[u8; RIGHTS]) {
+    alone(rights, 2, 3, 0, 1, 1, 0);
+    alone(rights, 2, 3, 0, 3, 1, 0);
+    alone(rights, 2, 3, 0, 2, 1, 15);
+    alone(rights, 2, 3, 0, 2, 1, 14);
+}
+
+// One edit of an empty shop, its entries HaveFlag 1.
+fn alone(rights: &[u8; RIGHTS], timer15: u16, user: u32, slot: u32, field: u8, item: i32, len: u8) {
+    let mut items: [i32; SLOTS] = [-1; SLOTS];
+    let mut limits: [i16; SLOTS] = [0; SLOTS];
+    let mut codes: Codes = [0; CODES];
+    let mut lens: [u8; SLOTS] = [0; SLOTS];
+    let row: Row = [FLAG_1; ENTRIES];
+    edit(
+        rights,
+        timer15,
+        &mut items,
+        &mut limits,
+        &mut codes,
+        &mut lens,
+        user,
+        slot,
+        field,
+        item,
+        &row,
+        len,
+    );
+}
+
+// Slot 0 holds an item that is not on the sheet, slot 1, which nobody sees, what is given: 8 would refuse the shop, and edits and shows do not
+// ask. A set in no order with a repeat is kept as given. A show leaves what it shows: the next is of that.
+fn session(rights: &[u8; RIGHTS], hidden: i32) {
+    let mut items: [i32; SLOTS] = [-1; SLOTS];
+    let mut limits: [i16; SLOTS] = [0; SLOTS];
+    let mut codes: Codes = [0; CODES];
+    let mut lens: [u8; SLOTS] = [0; SLOTS];
     let mut row: Row = [FLAG_1; ENTRIES];
+    items[0] = 7;
+    items[1] = hidden;
+    limits[1] = 5;
     row[0] = FLAG_2;
-    edit(2, rights, items, limits, codes, lens, 3, 0, 1, 1, &row, 0);
-    edit(2, rights, items, limits, codes, lens, 3, 0, 3, 1, &row, 0);
-    edit(2, rights, items, limits, codes, lens, 3, 0, 2, 1, &row, 15);
-    edit(2, rights, items, limits, codes, lens, 3, 0, 2, 1, &row, 3);
-    edit(2, rights, items, limits, codes, lens, 3, 0, 0, 2, &row, 3);
-}
-
-// User 1 sees slot 0, user 3 nothing, and there is no user 16. A show leaves what it shows: the next is of that.
-fn shown(
-    rights: &[u8; RIGHTS],
-    items: &mut [i32; SLOTS],
-    limits: &mut [i16; SLOTS],
-    codes: &mut Codes,
-    lens: &mut [u8; SLOTS],
-) {
-    show(rights, items, limits, codes, lens, 1);
-    show(rights, items, limits, codes, lens, 3);
-    items[1] = 1;
-    show(rights, items, limits, codes, lens, 16);
+    edit(
+        rights,
+        2,
+        &mut items,
+        &mut limits,
+        &mut codes,
+        &mut lens,
+        3,
+        0,
+        2,
+        0,
+        &row,
+        3,
+    );
+    show(rights, &mut items, &mut limits, &mut codes, &mut lens, 1);
+    show(rights, &mut items, &mut limits, &mut codes, &mut lens, 16);
 }
 
 // ---- a line for each
 
 fn edit(
-    timer15: u16,
     rights: &[u8; RIGHTS],
+    timer15: u16,
     items: &mut [i32; SLOTS],
     limits: &mut [i16; SLOTS],
     codes: &mut Codes,
