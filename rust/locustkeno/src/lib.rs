@@ -23,6 +23,7 @@ mod save;
 mod script;
 mod sheet;
 mod shop;
+mod text;
 
 pub use arrays::{Arrays, Births, BlockWords, CommandWords, NodeWords, Values};
 pub use reclaim::Moved;
@@ -33,3 +34,4 @@ pub use script::Preview;
 pub use script::{Loader, Ran, Script};
 pub use sheet::{Atc, Item, Sheet};
 pub use shop::{ENTRIES, NUM_SLOTS, Requirement, Shop, Slot};
+pub use text::BadText;
