@@ -103,7 +103,7 @@ pub fn check(
             check_left(tally, before.arrays(), script, left, case);
         }
         Err(_) => {
-            let same = *script == before && moved == *full;
+            let same = script.arrays() == before.arrays() && moved == *full;
             tally.same("arrays after a refused reclaim", &same, &true, case);
         }
     }

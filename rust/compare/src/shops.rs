@@ -177,7 +177,7 @@ pub fn check_compile(
         Ok(()) => tally.same("compiled script", &tree::script(a), &theirs.script, case),
         Err(_) => tally.same(
             "arrays after a refused compile",
-            &(*ours == before),
+            &(ours.arrays() == before.arrays()),
             &true,
             case,
         ),

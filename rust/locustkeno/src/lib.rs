@@ -24,6 +24,8 @@ mod save;
 mod script;
 mod sheet;
 mod shop;
+mod text;
+mod view;
 
 pub use arrays::{Arrays, Births, BlockWords, CommandWords, NodeWords, Values};
 pub use reclaim::Moved;
@@ -35,3 +37,5 @@ pub use script::Preview;
 pub use script::{Loader, Ran, Script};
 pub use sheet::{Atc, Item, Sheet};
 pub use shop::{ENTRIES, NUM_SLOTS, Requirement, Shop, Slot};
+pub use text::BadText;
+pub use view::{Block, Command, Expr, Op1, Op2};

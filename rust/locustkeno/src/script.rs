@@ -16,7 +16,7 @@ use crate::{Refused, Save, Sheet, ffi};
 /// assert_eq!(Script::read(&[0x81, 0x00]).unwrap_err(), Refused(2));
 /// # Ok::<(), Refused>(())
 /// ```
-#[derive(Debug, Clone, PartialEq, Eq, Default)]
+#[derive(Clone, Default)]
 pub struct Script {
     pub(crate) arrays: Arrays,
 }

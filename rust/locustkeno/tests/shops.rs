@@ -128,7 +128,7 @@ fn p10_an_empty_shop_adds_21_blocks() {
             script.compile(&sheet(), Loader::Disc, 0, &Shop::with_slots([])),
             answer
         );
-        assert_eq!(script == before, answer.is_err());
+        assert_eq!(script.arrays() == before.arrays(), answer.is_err());
     }
 }
 
