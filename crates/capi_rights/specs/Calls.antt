@@ -2,20 +2,21 @@
 use mathlib.Core.Path.{_≡_, refl, sym, ap, _∙_, subst}
 use mathlib.Core.Bool.{true, not}
 use mathlib.Core.List.{List, [], _∷_, _++_, map}
-use Prim.Native.Nat.{ℕ, suc, _<_}
+use Prim.Native.Nat.{ℕ, zero, suc, _<_}
 use native.Mathlib.Omega.{arith}
 use lib.ListN.{drop, getD, length}
-use Rattle.model.specs.Limits.{entryLimit, userCount}
+use Rattle.model.specs.Limits.{entryLimit, slotCount, userCount}
 use Rattle.model.specs.Sheet as Model
 use Rattle.model.specs.Sheet.{all}
 use Rattle.rights_model.specs.Rights.{Edit, Field, LastEdit, Table, afterEdits, answers, editCall, editRefusal, fieldOf, mayChange, showCall, touches}
+use Rattle.rights_model.specs.Fields.{allowed}
 use Rattle.rights_model.specs.Changed.{changed, heldIn}
 use Rattle.rights_model.specs.Seen.{AlikeTo, answers-same, seen-same}
 use Rattle.shop.specs.Shapes.{sheetOf}
 use Rattle.shop_arrays.specs.Arrays.{Arrays}
 use Rattle.shop_arrays.specs.Back.{Full}
 use Rattle.rights.specs.Values.{tableOf}
-use Rattle.rights.specs.InArrays.{Answer, Contents, arraysEdited, arraysShown}
+use Rattle.rights.specs.InArrays.{Answer, Contents, arraysEdited, arraysShown, placeFor}
 use Rattle.capi_values.specs.Values.{sheetBy}
 use Rattle.capi_rights.specs.Stands.{answerIs, edit-answer, edit-full, edit-stands, editBy, shop-long, shopIn, show-stands, shownIs}
 
@@ -45,6 +46,14 @@ editsIn ms = map (λ m. editIn (m .asked)) ms
 abbrev pub refusalsIn : List Made → List ℕ
 refusalsIn ms = map (λ m. m .answer .refusal) ms
 
+-- a slot that is there is the one that was named
+place-own : (n i : ℕ) → placeFor n i < slotCount → placeFor n i ≡ i
+unfolding placeFor
+place-own zero i l = refl
+place-own (suc zero) i l = refl
+place-own (suc (suc zero)) i l = refl
+place-own (suc (suc (suc n))) i l = absurd (omega arith)
+
 -- the rights and the sheet that all of them were given: bytes, the lent slice and the four numbers
 module _ (rights attached : List ℕ) (atcs five ten fifteen : ℕ) where
   abbrev pub table : Table
@@ -69,7 +78,7 @@ module _ (rights attached : List ℕ) (atcs five ten fifteen : ℕ) where
     pub later : List Made
     pub inside : ms ≡ earlier ++ m ∷ later
     pub accepted : m .answer .refusal ≡ 0
-    pub slot : editIn (m .asked) .slot ≡ i
+    pub slot : m .asked .slot ≡ i
     pub field : fieldOf (editIn (m .asked) .content) ≡ f
     pub user : m .asked .user < userCount
     pub right : mayChange (table (m .asked .user) i) f ≡ true
@@ -130,7 +139,7 @@ module _ (rights attached : List ℕ) (atcs five ten fifteen : ℕ) where
           later = q .later;
           inside = q .inside;
           accepted = answered (q .earlier) m (q .later) a (subst (AsPromised a) (q .inside) p) ∙ ap (editRefusal table sheet) (q .is) ∙ k .accepted;
-          slot = ap (λ (d : Edit). d .slot) (q .is) ∙ k .slot;
+          slot = sym (place-own (m .asked .field) (m .asked .slot) (subst (λ (d : Edit). d .slot < slotCount) (sym (q .is)) (allowed table sheet e (k .accepted) .slot))) ∙ ap (λ (d : Edit). d .slot) (q .is) ∙ k .slot;
           field = ap (λ (d : Edit). fieldOf (d .content)) (q .is) ∙ k .field;
           user = subst (λ (d : Edit). d .user < userCount) (sym (q .is)) (k .user);
           right = ap (λ (d : Edit). mayChange (table (d .user) i) f) (q .is) ∙ k .right;
