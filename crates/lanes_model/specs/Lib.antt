@@ -2,3 +2,4 @@ pub mod Falls
 pub mod Walk
 pub mod Flat
 pub mod Lanes
+pub mod Laws

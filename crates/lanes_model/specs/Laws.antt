@@ -1,0 +1,5 @@
+pub mod Bools
+pub mod Falls
+pub mod Steps
+pub mod Runs
+pub mod Reads
