@@ -3,3 +3,4 @@ pub mod Falls
 pub mod Steps
 pub mod Runs
 pub mod Reads
+pub mod Walks
