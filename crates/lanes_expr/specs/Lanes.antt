@@ -24,7 +24,12 @@ pub record Lies (n m : ℕ) (f : Save) (vs : List ℤ) (l : ℕ) : Type 0 where
   pub times : l * timeCount + timeCount ≤ length (f .times)
   pub variables : l * variableCount + variableCount ≤ length vs
 
--- the first s numbers of ls are lanes
+-- the first s numbers of ls are lanes: of a list of parts of width w
+pub record Parts {A : Type 0} (w : ℕ) (ls : List ℕ) (s : ℕ) (xs : List A) : Type 0 where
+  pub few : s ≤ mostSaves
+  pub lie : (j : ℕ) → j < s → getD ls j 0 * w + w ≤ length xs
+
+-- and of the saves
 pub record Stand (n m : ℕ) (f : Save) (vs : List ℤ) (ls : List ℕ) (s : ℕ) : Type 0 where
   pub few : s ≤ mostSaves
   pub lie : (j : ℕ) → j < s → Lies n m f vs (getD ls j 0)
