@@ -16,6 +16,7 @@
 
 mod arrays;
 mod ffi;
+mod lanes;
 mod reclaim;
 mod refused;
 mod room;
@@ -25,6 +26,7 @@ mod sheet;
 mod shop;
 
 pub use arrays::{Arrays, Births, BlockWords, CommandWords, NodeWords, Values};
+pub use lanes::{LANES, Saves, Walk};
 pub use reclaim::Moved;
 pub use refused::Refused;
 pub use room::{Room, Use};

@@ -47,6 +47,7 @@ impl Refused {
             17 => "the block given was appended by a compile",
             18 => "over 256 roots are given, or one that is not a block",
             19 => "the compile would pass a limit of the demo loader",
+            22 => "there are no saves or over 64, or a link does not go to a lower block",
             _ => "no refusal of documents 01 and 02",
         }
     }
