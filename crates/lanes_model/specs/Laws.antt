@@ -4,3 +4,5 @@ pub mod Steps
 pub mod Runs
 pub mod Reads
 pub mod Walks
+pub mod Led
+pub mod Compiled
