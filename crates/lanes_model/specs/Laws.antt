@@ -6,3 +6,5 @@ pub mod Reads
 pub mod Walks
 pub mod Led
 pub mod Compiled
+pub mod Counts
+pub mod Lists

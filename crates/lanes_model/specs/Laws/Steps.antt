@@ -57,7 +57,7 @@ module _ (K : ℕ → Type 0) (s : Save) where
   enters (code cs nx el) v a = executes nx (has-link K nx _ a) cs v (drop-link K el (targets cs) (drop-link K nx (withLink el (targets cs)) a))
   enters dataBlock v a = tt
 
-every-of : (K : ℕ → Type 0) (ks : List ℕ) → ((k : ℕ) → List·Memᴰ k ks → K k) → Every K ks
+pub every-of : (K : ℕ → Type 0) (ks : List ℕ) → ((k : ℕ) → List·Memᴰ k ks → K k) → Every K ks
 every-of K [] f = tt
 every-of K (k ∷ ks) f = (f k (List·Memᴰ·head refl), every-of K ks (λ j m. f j (List·Memᴰ·tail m)))
 

@@ -66,7 +66,7 @@ module _ (sc : Script) (b : ℕ) (judged : scriptRefusal sc ≡ 0) (here : b < l
   abbrev bs : List Block
   bs = sc .blocks
 
-  few : length (sc .blocks) ≤ blockLimit
+  pub few : length (sc .blocks) ≤ blockLimit
   few = accepted-held sc judged .0 .blocks
 
   pub inside : (k : ℕ) → Link (sc .blocks) b k → k < length (sc .blocks)
