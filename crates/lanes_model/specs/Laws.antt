@@ -8,3 +8,4 @@ pub mod Led
 pub mod Compiled
 pub mod Counts
 pub mod Lists
+pub mod Ends
