@@ -1,6 +1,6 @@
 -- After any list of compiles and reclaims on a script record, a walk at a block with a last accepted shop: 1 to 64 saves that fit are refused by no check, and at most 142 blocks are read. Assumes nothing.
 use mathlib.Core.Path.{_≡_, refl, sym, ap, _∙_, subst}
-use mathlib.Core.Bool.{Bool, true}
+use mathlib.Core.Bool.{true}
 use mathlib.Core.Logic.{_≢_}
 use mathlib.Core.Option.{none, some}
 use mathlib.Core.List.{List, [], _∷_}
@@ -29,7 +29,7 @@ use Rattle.reclaim_record.specs.Checks.{refused-stays, was-judged}
 use Rattle.reclaim_record.specs.Compiles.{compile-stays, passed-in}
 use Rattle.reclaim_record.specs.Stands.{LongBorn, Stands, borne, bornScript, call-same, followed, judged-stands}
 use Rattle.lanes_model.specs.Falls.{falls}
-use Rattle.lanes_model.specs.Walk.{Walked, unlessRefused, walkCall, walkChecks, walkRefusal}
+use Rattle.lanes_model.specs.Walk.{Walked, walkCall, walkChecks}
 use Rattle.lanes_model.specs.Flat.{lengthsOk, savesIn, savesOk, walkIn, walkRefusalIn}
 use Rattle.lanes_model.specs.Laws.Falls.{paths-falls}
 use Rattle.lanes_model.specs.Laws.Lists.{walk-few, walk-serves}
@@ -46,23 +46,23 @@ pub record Served (h : Sheet) (m : Memory) (b : ℕ) : Type 0 where
 
 module _ (h : Sheet) (k : Born) (m : BornScript) (st : Stands k m) (xs : List Change) (b b′ : ℕ) (ys : List Slot)
     (now : nowAt (changesIn h) k xs b ≡ some b′) (last : lastAt (changesIn h) k xs b ≡ some ys) where
-  abbrev end : Born
-  end = afterAll (changesIn h) k xs
+  abbrev left : Born
+  left = afterAll (changesIn h) k xs
 
-  abbrev fin : BornScript
-  fin = afterAll (changes h) m xs
+  abbrev trees : BornScript
+  trees = afterAll (changes h) m xs
 
-  ends : Followed (changesIn h) (changes h) Stands k m xs xs
-  ends = followed h k m st xs
+  both : Followed (changesIn h) (changes h) Stands k m xs xs
+  both = followed h k m st xs
 
   now-is : nowAt (changes h) m xs b ≡ some b′
-  now-is = sym (ends .now b) ∙ now
+  now-is = sym (both .now b) ∙ now
 
   last-is : lastAt (changes h) m xs b ≡ some ys
-  last-is = sym (ends .last none b) ∙ last
+  last-is = sym (both .last none b) ∙ last
 
   same-blocks : scriptOf (afterAll (changesIn h) k xs .memory) .blocks ≡ afterAll (changes h) m xs .script .blocks
-  same-blocks = ap (λ sc. sc .blocks) (ends .after .is)
+  same-blocks = ap (λ sc. sc .blocks) (both .after .is)
 
   module _ (n : ℕ) (f : Save) where
     abbrev ss : List Save
@@ -75,23 +75,23 @@ module _ (h : Sheet) (k : Born) (m : BornScript) (st : Stands k m) (xs : List Ch
     unfolding savesOk walkChecks
     judged-serves a l u =
         let s = walk-serves h m xs (borne k m st) b b′ ys now-is last-is ss (and-right (lengthsOk h n f) (all (saveOk h) ss) a) (omega (arith, many)) (omega (arith, many)) in
-        let p = walk-passed (callRefusal h (fin .script) b′) (all (saveOk h) ss) (fin .script .blocks) b′ (length ss) s in
-        let c = call-same end fin (ends .after) h b′ ∙ p .call in
-        let g : falls (scriptOf (end .memory) .blocks) b′ ≡ true = ap (λ (bs : List Block). falls bs b′) same-blocks ∙ paths-falls (fin .script .blocks) b′ (p .falling) in
+        let p = walk-passed (callRefusal h (trees .script) b′) (all (saveOk h) ss) (trees .script .blocks) b′ (length ss) s in
+        let c = call-same left trees (both .after) h b′ ∙ p .call in
+        let g : falls (scriptOf (left .memory) .blocks) b′ ≡ true = ap (λ (bs : List Block). falls bs b′) same-blocks ∙ paths-falls (trees .script .blocks) b′ (p .falling) in
         rw (c, a, le-leb 1 n l, le-leb n mostSaves u, g)
 
     -- a walk that no check refuses is that of the trees
     same-walk : walkRefusalIn h (afterAll (changesIn h) k xs .memory) b′ n f ≡ 0 → walkIn h (afterAll (changesIn h) k xs .memory) b′ n f ≡ walkCall h (afterAll (changes h) m xs .script) b′ (savesIn h n f)
     same-walk e =
-        let p = walk-passed-in h (end .memory) b′ n f e in
+        let p = walk-passed-in h (left .memory) b′ n f e in
         let s = walk-serves h m xs (borne k m st) b b′ ys now-is last-is ss (p .saves) (omega (arith, many, p .some-saves)) (omega (arith, many, p .few-saves)) in
-        walk-in h (end .memory) b′ n f e ∙ ap (λ (bs : List Block). byLanes bs b′ ss) same-blocks ∙ sym (walk-call h (fin .script) b′ ss s)
+        walk-in h (left .memory) b′ n f e ∙ ap (λ (bs : List Block). byLanes bs b′ ss) same-blocks ∙ sym (walk-call h (trees .script) b′ ss s)
 
     judged-few : walkIn h (afterAll (changesIn h) k xs .memory) b′ n f .read ≤ walkBlocks
     unfolding walkIn
-    judged-few = by (walkRefusalIn h (end .memory) b′ n f) refl
+    judged-few = by (walkRefusalIn h (left .memory) b′ n f) refl
       where
-        by : (r : ℕ) → walkRefusalIn h (end .memory) b′ n f ≡ r → walkIn h (end .memory) b′ n f .read ≤ walkBlocks
+        by : (r : ℕ) → walkRefusalIn h (left .memory) b′ n f ≡ r → walkIn h (left .memory) b′ n f .read ≤ walkBlocks
         by zero e = subst (λ (w : Walked). w .read ≤ walkBlocks) (sym (same-walk e)) (walk-few h m xs (borne k m st) b b′ ys now-is last-is ss)
         by (suc r) e = rw e (omega arith)
 

@@ -20,12 +20,12 @@ use Rattle.model.specs.Judge.{callRefusal, sharedRefusal}
 use Rattle.model.specs.Compile.{Call, redirect, rootOf, slotsBlocks}
 use Rattle.model.specs.Lists.{afterAll, lastAt, latest, nowAt}
 use Rattle.model.specs.Laws.Checks as Checks
-use Rattle.model.specs.Laws.Compiled.{Linked, fresh-linked, lastOf-is}
+use Rattle.model.specs.Laws.Compiled.{fresh-linked, lastOf-is}
 use Rattle.model.specs.Laws.FitBlocks.{length-padded}
-use Rattle.model.specs.Laws.FitTests.{SheetLow, sheet-low}
+use Rattle.model.specs.Laws.FitTests.{sheet-low}
 use Rattle.model.specs.Laws.Lists.{along-any, kept-all}
-use Rattle.reclaim_model.specs.Rename.{linksOf, Every, renameBlock}
-use Rattle.reclaim_model.specs.Reclaim.{newNumber, rank}
+use Rattle.reclaim_model.specs.Rename.{linksOf, renameBlock}
+use Rattle.reclaim_model.specs.Reclaim.{rank}
 use Rattle.reclaim_model.specs.Changes.{BornScript, birthAt, compileRefusalBorn, appendedBorn, lives, keptOnly, Change, changed, numberAfter, changes}
 use Rattle.reclaim_model.specs.Laws.Born.{Borne, appended-borne, passed-born}
 use Rattle.reclaim_model.specs.Laws.Carried.{Carried, Kept, appended-other, carried-compile, carried-fresh, carried-reclaim}
@@ -35,9 +35,8 @@ use Rattle.reclaim_model.specs.Laws.Reclaimed.{reclaim-renamed}
 use Rattle.reclaim_model.specs.Laws.RenamedRun.{Renamed}
 use Rattle.reclaim_model.specs.Laws.Renames.{rename-same}
 use Rattle.reclaim_model.specs.Laws.Survivors.{rank-grows}
-use Rattle.lanes_model.specs.Falls.{Link, LedTo, Falls, falls}
+use Rattle.lanes_model.specs.Falls.{Link, LedTo, Falls}
 use Rattle.lanes_model.specs.Walk.{blocksEntered, unlessRefused, walkCall, walkChecks, walkRefusal}
-use Rattle.lanes_model.specs.Lanes.{walkAll}
 use Rattle.lanes_model.specs.Laws.Falls.{paths-falls}
 use Rattle.lanes_model.specs.Laws.Steps.{every-of, not-again}
 use Rattle.lanes_model.specs.Laws.Led.{LedFrom, led-back, falls-renamed}
@@ -154,18 +153,19 @@ module _ (h : Sheet) where
     standing-reclaim rs (some ys) j p s =
         subst (λ (i : ℕ). Standing (keptOnly (lives k rs) k) i (some ys)) (s .1) (carried-reclaim h k b ys e (p .0) rs (s .0), reclaim-falls h k b ys (p .0) (p .1) rs (s .0))
 
+  -- with as many marks as blocks
   abbrev Held : BornScript → ℕ → Option (List Slot) → Type 0
-  Held k b o = Borne k × Standing k b o
+  Held m i o = Borne m × Standing m i o
 
-  held-once : (k : BornScript) (x : Change) (b j : ℕ) (o : Option (List Slot)) → Unit {0} → numberAfter k x b ≡ some j → Held k b o → Held (changed h k x) j (latest (changes h) k x b o)
-  held-once k x b j o u n p =
-      by-answer h k (λ m number last. number b ≡ some j → Held m j (last b o))
-      (λ n. let z : b ≡ j = cc in subst (λ (i : ℕ). Held k i o) z p)
-      (λ c z n.
-      let w : b ≡ j = cc in
-      subst (λ (i : ℕ). Held (appendedBorn h k c) i (cond (eqb (c .setup) b) (some (withSlots (c .shop))) o)) w
-      (appended-borne h k c (p .0), standing-compile k (p .0) b c z o (p .1) (eqb (c .setup) b) refl))
-      (λ rs z n. (borne-left k rs (p .0), standing-reclaim k (p .0) b rs o j (p .1) (survives (lives k rs) b j n))) x n
+  held-once : (m : BornScript) (x : Change) (i i′ : ℕ) (o : Option (List Slot)) → Unit {0} → numberAfter m x i ≡ some i′ → Held m i o → Held (changed h m x) i′ (latest (changes h) m x i o)
+  held-once m x i i′ o u moves held =
+      by-answer h m (λ left number last. number i ≡ some i′ → Held left i′ (last i o)) (λ q. here m o q held)
+      (λ c z q. here (appendedBorn h m c) (cond (eqb (c .setup) i) (some (withSlots (c .shop))) o) q (appended-borne h m c (held .0), standing-compile m (held .0) i c z o (held .1) (eqb (c .setup) i) refl))
+      (λ rs z q. (borne-left m rs (held .0), standing-reclaim m (held .0) i rs o i′ (held .1) (survives (lives m rs) i i′ q))) x moves
+    where
+      -- a call that moves no block
+      here : (left : BornScript) (last : Option (List Slot)) → _≡_ {A = Option ℕ} (some i) (some i′) → Held left i last → Held left i′ last
+      here left last q p = let w : i ≡ i′ = cc in subst (λ (j : ℕ). Held left j last) w p
 
   module _ (k : BornScript) (xs : List Change) (e : Borne k) (b b′ : ℕ) (ys : List Slot) (now : nowAt (changes h) k xs b ≡ some b′) (last : lastAt (changes h) k xs b ≡ some ys) where
     abbrev end : BornScript
