@@ -1,11 +1,11 @@
 -- Links marked one after the other as long as they are below a number, and what the loops keep. Assumes nothing.
 use mathlib.Core.Path.{_≡_, refl, sym, ap, _∙_}
-use mathlib.Core.Bool.{Bool, true, false, cond, true≢false, _&&_}
+use mathlib.Core.Bool.{Bool, true, false, true≢false, _&&_}
 use mathlib.Core.Option.{Option, none, some}
 use mathlib.Core.List.{List, [], _∷_}
 use Prim.Native.Nat.{ℕ, zero, suc, _+_, _-_, _*_, _≤_, _<_}
 use native.Mathlib.Omega.{arith}
-use lib.Dec.{ltb, eqb}
+use lib.Dec.{ltb}
 use lib.ListN.{getD, set}
 use borrow.Author.Tests.{lt-ltb, le-ltb, ne-eqb}
 use Rattle.model.specs.Limits.{commandLimit}
@@ -109,7 +109,6 @@ module _ (n : ℕ) (ks : List ℕ) {ms ms₁ : List Bool} where
 pub record TargetsLeft (cw : List ℕ) (n first held f count i : ℕ) (ms₀ ms : List Bool) : Type 0 where
   pub from : f ≡ first
   pub many : count ≡ held
-  pub upto : i ≤ count
   -- what is left decides, and marks the rest
   pub rest : (r : Bool) (ms′ : List Bool) → Marking n (targetsAt cw (count - i) (f + i)) ms r ms′ → Marking n (targetsAt cw held first) ms₀ r ms′
 
@@ -118,7 +117,6 @@ module _ (cw : List ℕ) (n first held f count : ℕ) (ms₀ : List Bool) where
   targets-start e h = record {
     from = e;
     many = h;
-    upto = omega arith;
     rest = λ r ms′ g. let a : count - 0 ≡ held = omega arith in let b : f + 0 ≡ first = omega arith in rw (a, b) at g;
   }
 
@@ -136,7 +134,6 @@ module _ (cw : List ℕ) (n first held f count : ℕ) (ms₀ : List Bool) where
     targets-step t l e g = record {
       from = s .from;
       many = s .many;
-      upto = omega arith;
       rest = λ r ms′ w. targets-next l r ms′ (marking-then n (targetsAt cw (count - (i + 1)) (f + (i + 1))) (targetAt cw (f + i)) t e g w);
     }
 

@@ -4,3 +4,8 @@ pub mod Steps
 pub mod Runs
 pub mod Reads
 pub mod Walks
+pub mod Led
+pub mod Compiled
+pub mod Counts
+pub mod Lists
+pub mod Ends

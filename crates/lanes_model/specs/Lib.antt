@@ -3,3 +3,4 @@ pub mod Walk
 pub mod Flat
 pub mod Lanes
 pub mod Laws
+pub mod Cases

@@ -78,10 +78,14 @@ element-copy-out-targets-below-2 : tie.Need-element-copy-out-targets-below-2
 element-copy-out-targets-below-2 c = search needs
 
 targets-below-requires : tie.Need-targets-below-requires
-targets-below-requires c κs = (c .before .before .before .before .before .before .before .before .before .before .before .before .before .pre .0, c .before .before .before .before .before .before .before .before .before .before .before .before .before .pre .2 (c .before .before .before .before .before .before .before .before .before .before .before .if1 .left))
+targets-below-requires c κs =
+    let s = c .before .before .before .before .before .before .before .before .before .before .before .before .before in
+    (s .pre .0, s .pre .2 (c .before .before .before .before .before .before .before .before .before .before .before .if1 .left))
 
 returns-4 : tie.Need-returns-4
-returns-4 c = links-all (c .before .before .before .before .before .before .before .before .before .before .before .before .before .before .args .cw .now) (c .before .before .before .before .before .before .before .before .before .before .before .before .before .before .args .bw .now) (c .before .before .before .before .before .before .before .before .before .before .before .before .before .before .args .b) _ (c .before .before .before .before .before .before .before .before .before .before .before .before .if1 .left) _ _ _ _ (not-false _ (c .before .before .before .before .before .before .before .before .if2 .left)) (not-false _ (c .before .before .before .before .if3 .left)) (c .before .before .before .before .before .before .before .before .before .link-below .ensures) (c .before .before .before .before .before .link-below2 .ensures) (c .targets-below .ensures)
+returns-4 c =
+    let s = c .before .before .before .before .before .before .before .before .before .before .before .before .before .before in
+    links-all (s .args .cw .now) (s .args .bw .now) (s .args .b) _ (c .before .before .before .before .before .before .before .before .before .before .before .before .if1 .left) _ _ _ _ (not-false _ (c .before .before .before .before .before .before .before .before .if2 .left)) (not-false _ (c .before .before .before .before .if3 .left)) (c .before .before .before .before .before .before .before .before .before .link-below .ensures) (c .before .before .before .before .before .link-below2 .ensures) (c .targets-below .ensures)
 
 pub links-below-spec : {M : Type 1} → statement M
 links-below-spec =

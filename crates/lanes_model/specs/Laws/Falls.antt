@@ -1,6 +1,6 @@
 -- The sweep answers true exactly where no path breaks the rule. Assumes nothing.
 use mathlib.Core.Path.{_≡_, refl, sym, _∙_}
-use mathlib.Core.Bool.{Bool, true, false, cond, true≢false, _&&_}
+use mathlib.Core.Bool.{Bool, true, false, cond, true≢false}
 use mathlib.Core.List.{List, [], _∷_, List·Memᴰ, List·Memᴰ·head, List·Memᴰ·tail}
 use Prim.Native.Nat.{ℕ, zero, suc, _<_, _≤_}
 use native.Mathlib.Omega.{arith}
@@ -15,7 +15,7 @@ use Rattle.model.specs.Laws.Checks.{and-left, and-right}
 use Rattle.model.specs.Laws.Marks.{all-one}
 use Rattle.reclaim_model.specs.Rename.{linksOf}
 use Rattle.reclaim_model.specs.Reclaim.{markRoots}
-use Rattle.reclaim_model.specs.Laws.Reached.{Leads, root, onward, no-links}
+use Rattle.reclaim_model.specs.Laws.Reached.{root, onward, no-links}
 use Rattle.lanes_model.specs.Falls.{Link, LedTo, Falls, fallsAt, marksAfter, sweep, falls}
 
 -- ---- lists of links

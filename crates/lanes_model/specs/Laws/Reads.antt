@@ -1,9 +1,9 @@
 -- The blocks that the walk reads are those that at least one of the runs enters, each once. Assumes nothing.
 use mathlib.Core.Path.{_≡_, refl, sym, ap, _∙_, fun-ext}
 use mathlib.Core.Logic.{_≢_}
-use mathlib.Core.Bool.{Bool, true, false, cond, _&&_, _||_}
-use mathlib.Core.List.{List, [], _∷_, _++_, map}
-use Prim.Native.Nat.{ℕ, zero, suc, _+_, _-_, min, _<_, _≤_}
+use mathlib.Core.Bool.{Bool, true, false, cond, _||_}
+use mathlib.Core.List.{List, [], _∷_, map}
+use Prim.Native.Nat.{ℕ, zero, suc, _<_, _≤_}
 use native.Mathlib.Omega.{arith}
 use native.Mathlib.Decide.{decLe}
 use lib.Dec.{eqb}
@@ -42,15 +42,6 @@ count-one (suc n) b q l e = by (decLe n b) (λ k. count-one n b q k e)
         pull : (x : Bool) → cond x (suc (suc (countBelow n q))) (suc (countBelow n q)) ≡ suc (cond x (suc (countBelow n q)) (countBelow n q))
         pull true = refl
         pull false = refl
-
--- all of them lie between two numbers
-pub count-range : (n lo hi : ℕ) (p : ℕ → Bool) → ((c : ℕ) → p c ≡ true → (lo ≤ c) × (c ≤ hi)) → countBelow n p ≤ min n (suc hi) - lo
-count-range zero lo hi p f = omega arith
-count-range (suc n) lo hi p f = by (p n) refl (count-range n lo hi p f)
-  where
-    by : (x : Bool) → p n ≡ x → countBelow n p ≤ min n (suc hi) - lo → cond x (suc (countBelow n p)) (countBelow n p) ≤ min (suc n) (suc hi) - lo
-    by true e ih = let q = f n e in omega arith
-    by false e ih = omega arith
 
 -- ---- the blocks that a run enters
 
@@ -266,7 +257,7 @@ module _ (bs : List Block) (b : ℕ) (f : Falls bs b) (inside : (k : ℕ) → Li
       go (done v) e = refl
       go (halt r v) e = refl
 
-  abbrev past : List Save → ℕ → Bool
+  abbrev pub past : List Save → ℕ → Bool
   past ss c = any (λ s. any (eqb c) (rest s)) ss
 
   pub read-past : (ss : List Save) → walkAll bs b ss .read ≡ suc (countBelow (length bs) (past ss))

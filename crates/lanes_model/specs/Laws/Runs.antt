@@ -1,23 +1,19 @@
 -- Where the links fall, each lane of the walk ends as the run of its own save does. Assumes nothing.
 use mathlib.Core.Path.{_≡_, refl, sym, ap, _∙_}
-use mathlib.Core.Bool.{Bool, true, false, cond, _&&_, _||_}
+use mathlib.Core.Bool.{Bool, true, false, cond}
 use mathlib.Core.Logic.{_≢_}
-use mathlib.Core.List.{List, [], _∷_, _++_, map}
+use mathlib.Core.List.{List, [], _∷_, map}
 use Prim.Native.Nat.{ℕ, zero, suc, _+_, _-_, min, _<_, _≤_}
 use native.Mathlib.Omega.{arith}
 use native.Mathlib.Decide.{decLe}
-use native.Mathlib.Nat.{add-suc}
-use native.Mathlib.Numerals.{add-one}
-use lib.Dec.{eqb}
 use lib.ListN.{length}
 use lib.IntN.{ℤ}
-use borrow.Author.Tests.{eqb-true, eqb-false, eq-eqb, ne-eqb}
+use borrow.Author.Tests.{eq-eqb, ne-eqb}
 use Rattle.model.specs.Save.{Save}
 use Rattle.model.specs.Script.{Block}
 use Rattle.model.specs.Run.{Outcome, next, done, halt, step, Ran, oneMore, run, runBy}
 use Rattle.reclaim_model.specs.Laws.Reached.{root, onward}
 use Rattle.lanes_model.specs.Falls.{Link, LedTo, Falls}
-use Rattle.lanes_model.specs.Walk.{any}
 use Rattle.lanes_model.specs.Lanes.{State, at, ended, Lane, moved, isAt, stepState, stepLane, anyAt, Walk, oneRead, walk, startLane, walkAll, ranOf}
 use Rattle.lanes_model.specs.Laws.Bools.{or-no}
 use Rattle.lanes_model.specs.Laws.Steps.{step-link, not-again}

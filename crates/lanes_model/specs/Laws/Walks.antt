@@ -1,6 +1,6 @@
 -- A walk that no check refuses, by lanes: on trees and on a script record it answers what the walk of the lanes leaves and reads. Assumes nothing.
 use mathlib.Core.Path.{_≡_, refl, sym, ap, _∙_}
-use mathlib.Core.Bool.{Bool, true, false, _&&_}
+use mathlib.Core.Bool.{Bool, true, _&&_}
 use mathlib.Core.List.{List, [], _∷_, map}
 use Prim.Native.Nat.{ℕ, zero, suc, _<_, _≤_}
 use native.Mathlib.Omega.{arith}
@@ -8,11 +8,11 @@ use lib.Dec.{leb}
 use lib.ListN.{length}
 use borrow.Author.Tests.{leb-true}
 use Rattle.model.specs.Limits.{blockLimit, laneBudget, mostSaves}
-use Rattle.model.specs.Refusal.{check, firstOf, badSave, badWalk}
+use Rattle.model.specs.Refusal.{check, badSave, badWalk}
 use Rattle.model.specs.Save.{Save}
 use Rattle.model.specs.Sheet.{Sheet, all, itemCount, saveOk}
 use Rattle.model.specs.Script.{Block, Script}
-use Rattle.model.specs.Judge.{callRefusal, scriptRefusal, sharedRefusal}
+use Rattle.model.specs.Judge.{callRefusal, scriptRefusal}
 use Rattle.model.specs.Memory.{Memory, scriptOf}
 use Rattle.model.specs.Record.{judgedRecord}
 use Rattle.model.specs.RecordCalls.{callIn, recordRefusal, runIn}
@@ -20,13 +20,12 @@ use Rattle.model.specs.Run.{Ran, run, runCall, runCheckedBy}
 use Rattle.model.specs.Laws.Checks.{and-left, and-right, first-passed, passed, setup-inside, shared-passed}
 use Rattle.model.specs.Laws.Judged.{accepted-held}
 use Rattle.model.specs.Laws.Refused.{accepts}
-use Rattle.model.specs.Laws.Sound.{SoundBlocks}
 use Rattle.memory.specs.RecordLaws.{proper-record}
 use Rattle.memory.specs.Transfer.{accepted-script}
 use Rattle.lanes_model.specs.Falls.{Falls, Link, falls}
 use Rattle.lanes_model.specs.Walk.{Walked, blocksEntered, walkCall, walkChecks, walkOk, walkRefusal}
 use Rattle.lanes_model.specs.Flat.{lengthsOk, savesIn, savesFrom, savesOk, walkIn, walkRefusalIn}
-use Rattle.lanes_model.specs.Lanes.{Walk, ranOf, walkAll}
+use Rattle.lanes_model.specs.Lanes.{ranOf, walkAll}
 use Rattle.lanes_model.specs.Laws.Falls.{falls-paths}
 use Rattle.lanes_model.specs.Laws.Steps.{link-inside}
 use Rattle.lanes_model.specs.Laws.Runs.{walk-runs}
@@ -66,7 +65,7 @@ module _ (sc : Script) (b : ℕ) (judged : scriptRefusal sc ≡ 0) (here : b < l
   abbrev bs : List Block
   bs = sc .blocks
 
-  few : length (sc .blocks) ≤ blockLimit
+  pub few : length (sc .blocks) ≤ blockLimit
   few = accepted-held sc judged .0 .blocks
 
   pub inside : (k : ℕ) → Link (sc .blocks) b k → k < length (sc .blocks)
