@@ -1,5 +1,5 @@
 -- The values of a node's lanes, by those of its operands. Assumes nothing.
-use mathlib.Core.Path.{_≡_, refl, ap, _∙_}
+use mathlib.Core.Path.{_≡_, refl, sym, ap, _∙_}
 use mathlib.Core.Option.{some}
 use mathlib.Core.List.{List}
 use Prim.Native.Nat.{ℕ, zero, suc, _≤_, _<_}
@@ -9,9 +9,14 @@ use lib.IntN.{ℤ, pos}
 use Rattle.model.specs.Limits.{mostSaves}
 use Rattle.model.specs.Save.{Save}
 use Rattle.model.specs.Expr.{Expr, two, one, imm16, imm32, other, Value, ok, stop, andThen, apply2, eval}
+use Rattle.model.specs.Image.{kindOf}
+use Rattle.model.specs.Memory.{Nodes, codeAt, leftAt, rightAt, valueAt}
 use Rattle.model.specs.Parse.{value}
 use Rattle.model.specs.declared.Op2.{Op2}
 use Rattle.model.specs.declared.Op1.{Op1}
+use Rattle.model.specs.declared.Kind.{Kind}
+use Rattle.model.specs.declared.Kind.the-variants.{Two, One, Imm16, Imm32, Other}
+use Rattle.expr.specs.Tree.{treeBelow, below-out, below-two, below-one, below-imm16, below-imm32, below-other}
 use Rattle.lanes_expr.specs.Lanes.{laneValue, firstStop, firstOf2, applyIn, evalIn, Valued}
 use Rattle.lanes_expr.specs.Each.{Each}
 
@@ -55,42 +60,65 @@ ok-lane : (r : ℕ) (z : ℤ) → laneValue r z ≡ firstStop r (ok z)
 ok-lane zero z = refl
 ok-lane (suc r) z = refl
 
--- ---- all lanes
+-- ---- all lanes: node i as an operand of node b
 
-module _ (n m : ℕ) (f : Save) (vs : List ℤ) (ls : List ℕ) (s : ℕ) where
+module _ (n m : ℕ) (f : Save) (vs : List ℤ) (ls : List ℕ) (s : ℕ) (ns : Nodes) (b i : ℕ) where
   abbrev worth : Expr → ℕ → Value
   worth e j = evalIn n m f vs e (getD ls j 0)
 
-  pub stop-done : {rs rs′ : List ℕ} {xs : List ℤ} (e : Expr) → e ≡ other → Each 0 (λ _ a. firstOf2 a 13) s rs rs′ → Valued s (worth e) rs rs′ xs
-  stop-done {rs} {xs = xs} e p h = record { is = λ j l. rw (h .done j l, p) (stop-lane (getD rs j 0) 12 (getD xs j (pos 0))); rest = h .rest }
+  abbrev Here : List ℕ → List ℕ → List ℤ → Type 0
+  Here rs rs′ xs = Valued s (worth (treeBelow ns b i)) rs rs′ xs
 
-  pub imm-done : {rs : List ℕ} {xs xs′ : List ℤ} (e : Expr) (z : ℤ) → some z ≡ value e → Each (pos 0) (λ _ _. z) s xs xs′ → Valued s (worth e) rs rs xs′
-  imm-done {rs} e z p h = record { is = λ j l. rw (h .done j l) (ok-lane (getD rs j 0) z ∙ ap (firstStop (getD rs j 0)) (imm-worth _ _ e z p)); rest = λ j l. refl }
+  abbrev Left : List ℕ → List ℕ → List ℤ → Type 0
+  Left rs rs′ xs = Valued s (worth (treeBelow ns i (leftAt ns i))) rs rs′ xs
 
-  -- an Imm as an operand
-  pub same-done : {rs : List ℕ} {ys : List ℤ} (e : Expr) (z : ℤ) → some z ≡ value e → s ≤ mostSaves → ys ≡ replicate mostSaves z → Valued s (worth e) rs rs ys
-  same-done {rs} e z p few q = record {
-    is = λ j l. let h : j < mostSaves = omega arith in rw (q, getD-replicate mostSaves j z (pos 0) h) (ok-lane (getD rs j 0) z ∙ ap (firstStop (getD rs j 0)) (imm-worth _ _ e z p));
+  abbrev Right : List ℕ → List ℕ → List ℤ → Type 0
+  Right rs rs′ xs = Valued s (worth (treeBelow ns i (rightAt ns i))) rs rs′ xs
+
+  stop-done : {rs rs′ : List ℕ} {xs : List ℤ} → treeBelow ns b i ≡ other → Each 0 (λ _ a. firstOf2 a 13) s rs rs′ → Here rs rs′ xs
+  stop-done {rs} {xs = xs} p h = record { is = λ j l. rw (h .done j l, p) (stop-lane (getD rs j 0) 12 (getD xs j (pos 0))); rest = h .rest }
+
+  imm-done : {rs : List ℕ} {xs xs′ : List ℤ} (z : ℤ) → some z ≡ value (treeBelow ns b i) → Each (pos 0) (λ _ _. z) s xs xs′ → Here rs rs xs′
+  imm-done {rs} z p h = record { is = λ j l. rw (h .done j l) (ok-lane (getD rs j 0) z ∙ ap (firstStop (getD rs j 0)) (imm-worth _ _ (treeBelow ns b i) z p)); rest = λ j l. refl }
+
+  pub out-done : {rs rs′ : List ℕ} {xs : List ℤ} → b ≤ i → Each 0 (λ _ a. firstOf2 a 13) s rs rs′ → Here rs rs′ xs
+  out-done l h = stop-done (below-out ns b i l) h
+
+  -- an Imm as the right operand
+  pub same-done : {rs : List ℕ} {ys : List ℤ} (z : ℤ) → some z ≡ value (treeBelow ns i (rightAt ns i)) → s ≤ mostSaves → ys ≡ replicate mostSaves z → Right rs rs ys
+  same-done {rs} z p few q = record {
+    is = λ j l. let h : j < mostSaves = omega arith in rw (q, getD-replicate mostSaves j z (pos 0) h) (ok-lane (getD rs j 0) z ∙ ap (firstStop (getD rs j 0)) (imm-worth _ _ (treeBelow ns i (rightAt ns i)) z p));
     rest = λ j l. refl;
   }
 
-  pub two-done : {rs rs₁ rs₂ : List ℕ} {xs ys xs′ : List ℤ} (e a b : Expr) (o : Op2) → e ≡ two o a b → Valued s (worth a) rs rs₁ xs → Valued s (worth b) rs₁ rs₂ ys
-      → Each (pos 0) (λ j x. apply2 o x (getD ys j (pos 0))) s xs xs′ → Valued s (worth e) rs rs₂ xs′
-  two-done {rs} {rs₁} {rs₂} {xs} {ys} e a b o p va vb h = record {
-    is = λ j l. rw (h .done j l, p) (two-lane (getD rs j 0) (getD rs₁ j 0) (getD rs₂ j 0) (getD xs j (pos 0)) (getD ys j (pos 0)) (worth a j) (worth b j) (apply2 o) (va .is j l) (vb .is j l));
-    rest = λ j l. vb .rest j l ∙ va .rest j l;
-  }
+  module _ (lt : i < b) (k : Kind) (found : k ≡ kindOf (codeAt ns i)) where
+    pub two-done : {rs rs₁ rs₂ : List ℕ} {xs ys xs′ : List ℤ} (o : Op2) → k ≡ Two o → Left rs rs₁ xs → Right rs₁ rs₂ ys → Each (pos 0) (λ j x. apply2 o x (getD ys j (pos 0))) s xs xs′ → Here rs rs₂ xs′
+    two-done {rs} {rs₁} {rs₂} {xs} {ys} o e va vb h = record {
+      is = λ j l. rw (h .done j l, below-two ns b i lt k found o e)
+          (two-lane (getD rs j 0) (getD rs₁ j 0) (getD rs₂ j 0) (getD xs j (pos 0)) (getD ys j (pos 0)) (worth (treeBelow ns i (leftAt ns i)) j) (worth (treeBelow ns i (rightAt ns i)) j) (apply2 o) (va .is j l) (vb .is j l));
+      rest = λ j l. vb .rest j l ∙ va .rest j l;
+    }
 
-  pub one-done : {rs rs₁ : List ℕ} {xs xs′ : List ℤ} (e a : Expr) (o : Op1) → e ≡ one o a → Valued s (worth a) rs rs₁ xs
-      → Each (pos 0) (λ j x. applyIn n m f vs o (getD ls j 0) x) s xs xs′ → Valued s (worth e) rs rs₁ xs′
-  one-done {rs} {rs₁} {xs} e a o p va h = record {
-    is = λ j l. rw (h .done j l, p) (one-lane (getD rs j 0) (getD rs₁ j 0) (getD xs j (pos 0)) (worth a j) (λ x. applyIn n m f vs o (getD ls j 0) x) (va .is j l));
-    rest = va .rest;
-  }
+    pub one-done : {rs rs₁ : List ℕ} {xs xs′ : List ℤ} (o : Op1) → k ≡ One o → Left rs rs₁ xs → Each (pos 0) (λ j x. applyIn n m f vs o (getD ls j 0) x) s xs xs′ → Here rs rs₁ xs′
+    one-done {rs} {rs₁} {xs} o e va h = record {
+      is = λ j l. rw (h .done j l, below-one ns b i lt k found o e)
+          (one-lane (getD rs j 0) (getD rs₁ j 0) (getD xs j (pos 0)) (worth (treeBelow ns i (leftAt ns i)) j) (λ x. applyIn n m f vs o (getD ls j 0) x) (va .is j l));
+      rest = va .rest;
+    }
 
-  pub number-done : {rs : List ℕ} {xs xs′ : List ℤ} (e a : Expr) (o : Op1) (z : ℤ) → e ≡ one o a → some z ≡ value a
-      → Each (pos 0) (λ j _. applyIn n m f vs o (getD ls j 0) z) s xs xs′ → Valued s (worth e) rs rs xs′
-  number-done {rs} e a o z p q h = record {
-    is = λ j l. rw (h .done j l, p) (one-lane (getD rs j 0) (getD rs j 0) z (worth a j) (λ x. applyIn n m f vs o (getD ls j 0) x) (ok-lane (getD rs j 0) z ∙ ap (firstStop (getD rs j 0)) (imm-worth _ _ a z q)));
-    rest = λ j l. refl;
-  }
+    -- an Imm as the only operand
+    pub number-done : {rs : List ℕ} {xs xs′ : List ℤ} (o : Op1) (z : ℤ) → k ≡ One o → some z ≡ value (treeBelow ns i (leftAt ns i)) → Each (pos 0) (λ j _. applyIn n m f vs o (getD ls j 0) z) s xs xs′ → Here rs rs xs′
+    number-done {rs} o z e q h = record {
+      is = λ j l. rw (h .done j l, below-one ns b i lt k found o e)
+          (one-lane (getD rs j 0) (getD rs j 0) z (worth (treeBelow ns i (leftAt ns i)) j) (λ x. applyIn n m f vs o (getD ls j 0) x) (ok-lane (getD rs j 0) z ∙ ap (firstStop (getD rs j 0)) (imm-worth _ _ (treeBelow ns i (leftAt ns i)) z q)));
+      rest = λ j l. refl;
+    }
+
+    pub imm16-done : {rs : List ℕ} {xs xs′ : List ℤ} {z : ℤ} → k ≡ Imm16 → z ≡ valueAt ns i → Each (pos 0) (λ _ _. z) s xs xs′ → Here rs rs xs′
+    imm16-done {z = z} e p h = imm-done z (ap some p ∙ sym (ap value (below-imm16 ns b i lt k found e))) h
+
+    pub imm32-done : {rs : List ℕ} {xs xs′ : List ℤ} {z : ℤ} → k ≡ Imm32 → z ≡ valueAt ns i → Each (pos 0) (λ _ _. z) s xs xs′ → Here rs rs xs′
+    imm32-done {z = z} e p h = imm-done z (ap some p ∙ sym (ap value (below-imm32 ns b i lt k found e))) h
+
+    pub other-done : {rs rs′ : List ℕ} {xs : List ℤ} → k ≡ Other → Each 0 (λ _ a. firstOf2 a 13) s rs rs′ → Here rs rs′ xs
+    other-done e h = stop-done (below-other ns b i lt k found e) h

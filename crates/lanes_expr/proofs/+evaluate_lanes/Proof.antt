@@ -1,12 +1,11 @@
+-- `evaluate_lanes` meets its contract: by the kind found at the node. The measure is b, the node whose operand is read. Assumes nothing.
+use Rattle.model.specs.Memory.{nodesIn}
+use Rattle.lanes_expr.proofs.Values.{out-done, same-done, two-done, one-done, number-done, imm16-done, imm32-done, other-done}
 use mathlib.Core.Option.{some}
 use mir.Syntax.{w32}
 use mir.Facts.{toZ-ofZ}
-use Rattle.model.specs.Memory.{nodesIn, leftAt, rightAt}
-use Rattle.model.specs.Parse as parse
-use Rattle.expr.specs.Tree.{treeBelow, below-out, below-two, below-one, below-imm16, below-imm32, below-other}
 use Rattle.expr.specs.Value as value
 use Rattle.expr.specs.Requirement.{numberOf}
-use Rattle.lanes_expr.proofs.Values.{stop-done, imm-done, same-done, two-done, one-done, number-done}
 use native.Mathlib.Omega.{arith}
 use mathlib.Core.Path.{ap, _≡_, sym, _∙_}
 use borrow.Author.Needs.{needs}
@@ -54,7 +53,7 @@ evaluate-lanes-stop-lanes-requires : (t : ℕ) → evaluate-lanes-lts.Need-stop-
 evaluate-lanes-stop-lanes-requires t c κs = search needs
 
 evaluate-lanes-returns : (t : ℕ) → evaluate-lanes-lts.Need-returns (evaluate-lanes-claims t) (evaluate-lanes-at t) evaluate-lanes.Post
-evaluate-lanes-returns t c = λ k. stop-done (c .before .before .before .before .before .args .n) (c .before .before .before .before .before .args .m) (value.reads (c .before .before .before .before .before .args .items .now) (c .before .before .before .before .before .args .atcs .now) (c .before .before .before .before .before .args .flags .now) (c .before .before .before .before .before .args .times .now)) (c .before .before .before .before .before .args .vars .now) (c .before .before .before .before .before .args .lanes .now) (c .before .before .before .before .before .args .s) (treeBelow (nodesIn (c .before .before .before .before .before .args .ws .now) (c .before .before .before .before .before .args .val .now) k) (c .before .before .before .before .before .args .b) (c .before .before .before .before .before .args .i)) (below-out (nodesIn (c .before .before .before .before .before .args .ws .now) (c .before .before .before .before .before .args .val .now) k) (c .before .before .before .before .before .args .b) (c .before .before .before .before .before .args .i) (c .before .before .if1 .taken)) (c .stop-lanes .ensures)
+evaluate-lanes-returns t c = let s = c .before .before .before .before .before in λ k. out-done (s .args .n) (s .args .m) (value.reads (s .args .items .now) (s .args .atcs .now) (s .args .flags .now) (s .args .times .now)) (s .args .vars .now) (s .args .lanes .now) (s .args .s) (nodesIn (s .args .ws .now) (s .args .val .now) k) (s .args .b) (s .args .i) (c .before .before .if1 .taken) (c .stop-lanes .ensures)
 
 evaluate-lanes-mul-kind-of : (t : ℕ) → evaluate-lanes-lts.Need-mul-kind-of (evaluate-lanes-claims t) (evaluate-lanes-at t) evaluate-lanes.Post
 evaluate-lanes-mul-kind-of t c = search needs
@@ -97,7 +96,9 @@ evaluate-lanes-enum-known-k : (t : ℕ) → evaluate-lanes-lts.Need-enum-known-k
 evaluate-lanes-enum-known-k t c = search needs
 
 evaluate-lanes-evaluate-lanes-requires : (t : ℕ) → evaluate-lanes-lts.Need-evaluate-lanes-requires (evaluate-lanes-claims t) (evaluate-lanes-at t) evaluate-lanes.Post
-evaluate-lanes-evaluate-lanes-requires t c κs = let p : c .before .before .before .before .before .before .before .before .before .before .before .before .args .b ≡ t = c .before .before .before .before .before .before .before .before .before .before .before .before .pre .0 in (omega (arith, c .before .before .before .before .before .before .before .before .before .if1 .left), (omega (arith, c .before .before .before .before .before .before .before .before .before .before .before .before .pre .1 .0, c .before .before .before .before .before .before .before .before .before .if1 .left), c .before .before .before .before .before .before .before .before .before .before .before .before .pre .1 .1))
+evaluate-lanes-evaluate-lanes-requires t c κs = let s = c .before .before .before .before .before .before .before .before .before .before .before .before in
+    let p : s .args .b ≡ t = s .pre .0 in
+    let l = c .before .before .before .before .before .before .before .before .before .if1 .left in (omega (arith, l), (omega (arith, s .pre .1 .0, l), s .pre .1 .1))
 
 evaluate-lanes-number-below-requires : (t : ℕ) → evaluate-lanes-lts.Need-number-below-requires (evaluate-lanes-claims t) (evaluate-lanes-at t) evaluate-lanes.Post
 evaluate-lanes-number-below-requires t c κs = search needs
@@ -117,7 +118,9 @@ evaluate-lanes-enum-told t c = search needs
 
 evaluate-lanes-evaluate-lanes-requires-2 :
     (t : ℕ) → evaluate-lanes-lts.Need-evaluate-lanes-requires-2 (evaluate-lanes-claims t) (evaluate-lanes-at t) evaluate-lanes.Post
-evaluate-lanes-evaluate-lanes-requires-2 t c κs = let p : c .before .before .before .before .before .before .before .before .before .before .before .before .before .before .before .before .before .before .args .b ≡ t = c .before .before .before .before .before .before .before .before .before .before .before .before .before .before .before .before .before .before .pre .0 in (omega (arith, c .before .before .before .before .before .before .before .before .before .before .before .before .before .before .before .if1 .left), (omega (arith, c .before .before .before .before .before .before .before .before .before .before .before .before .before .before .before .before .before .before .pre .1 .0, c .before .before .before .before .before .before .before .before .before .before .before .before .before .before .before .if1 .left), c .before .before .before .before .before .before .before .before .before .before .before .before .before .before .before .before .before .before .pre .1 .1))
+evaluate-lanes-evaluate-lanes-requires-2 t c κs = let s = c .before .before .before .before .before .before .before .before .before .before .before .before .before .before .before .before .before .before in
+    let p : s .args .b ≡ t = s .pre .0 in
+    let l = c .before .before .before .before .before .before .before .before .before .before .before .before .before .before .before .if1 .left in (omega (arith, l), (omega (arith, s .pre .1 .0, l), s .pre .1 .1))
 
 evaluate-lanes-apply-two-lanes-requires-2 :
     (t : ℕ) → evaluate-lanes-lts.Need-apply-two-lanes-requires-2 (evaluate-lanes-claims t) (evaluate-lanes-at t) evaluate-lanes.Post
@@ -141,7 +144,9 @@ evaluate-lanes-enum-told-2 t c = search needs
 
 evaluate-lanes-evaluate-lanes-requires-3 :
     (t : ℕ) → evaluate-lanes-lts.Need-evaluate-lanes-requires-3 (evaluate-lanes-claims t) (evaluate-lanes-at t) evaluate-lanes.Post
-evaluate-lanes-evaluate-lanes-requires-3 t c κs = let p : c .before .before .before .before .before .before .before .before .before .before .before .before .before .before .before .args .b ≡ t = c .before .before .before .before .before .before .before .before .before .before .before .before .before .before .before .pre .0 in (omega (arith, c .before .before .before .before .before .before .before .before .before .before .before .before .if1 .left), (omega (arith, c .before .before .before .before .before .before .before .before .before .before .before .before .before .before .before .pre .1 .0, c .before .before .before .before .before .before .before .before .before .before .before .before .if1 .left), c .before .before .before .before .before .before .before .before .before .before .before .before .before .before .before .pre .1 .1))
+evaluate-lanes-evaluate-lanes-requires-3 t c κs = let s = c .before .before .before .before .before .before .before .before .before .before .before .before .before .before .before in
+    let p : s .args .b ≡ t = s .pre .0 in
+    let l = c .before .before .before .before .before .before .before .before .before .before .before .before .if1 .left in (omega (arith, l), (omega (arith, s .pre .1 .0, l), s .pre .1 .1))
 
 evaluate-lanes-apply-one-lanes-requires :
     (t : ℕ) → evaluate-lanes-lts.Need-apply-one-lanes-requires (evaluate-lanes-claims t) (evaluate-lanes-at t) evaluate-lanes.Post
@@ -178,25 +183,37 @@ evaluate-lanes-stop-lanes-requires-2 : (t : ℕ) → evaluate-lanes-lts.Need-sto
 evaluate-lanes-stop-lanes-requires-2 t c κs = search needs
 
 evaluate-lanes-returns-2 : (t : ℕ) → evaluate-lanes-lts.Need-returns-2 (evaluate-lanes-claims t) (evaluate-lanes-at t) evaluate-lanes.Post
-evaluate-lanes-returns-2 t c = λ k. two-done (c .before .before .before .before .before .before .before .before .before .before .before .before .before .before .before .before .before .before .before .before .before .args .n) (c .before .before .before .before .before .before .before .before .before .before .before .before .before .before .before .before .before .before .before .before .before .args .m) (value.reads (c .before .before .before .before .before .before .before .before .before .before .before .before .before .before .before .before .before .before .before .before .before .args .items .now) (c .before .before .before .before .before .before .before .before .before .before .before .before .before .before .before .before .before .before .before .before .before .args .atcs .now) (c .before .before .before .before .before .before .before .before .before .before .before .before .before .before .before .before .before .before .before .before .before .args .flags .now) (c .before .before .before .before .before .before .before .before .before .before .before .before .before .before .before .before .before .before .before .before .before .args .times .now)) (c .before .before .before .before .before .before .before .before .before .before .before .before .before .before .before .before .before .before .before .before .before .args .vars .now) (c .before .before .before .before .before .before .before .before .before .before .before .before .before .before .before .before .before .before .before .before .before .args .lanes .now) (c .before .before .before .before .before .before .before .before .before .before .before .before .before .before .before .before .before .before .before .before .before .args .s) (treeBelow (nodesIn (c .before .before .before .before .before .before .before .before .before .before .before .before .before .before .before .before .before .before .before .before .before .args .ws .now) (c .before .before .before .before .before .before .before .before .before .before .before .before .before .before .before .before .before .before .before .before .before .args .val .now) k) (c .before .before .before .before .before .before .before .before .before .before .before .before .before .before .before .before .before .before .before .before .before .args .b) (c .before .before .before .before .before .before .before .before .before .before .before .before .before .before .before .before .before .before .before .before .before .args .i)) (treeBelow (nodesIn (c .before .before .before .before .before .before .before .before .before .before .before .before .before .before .before .before .before .before .before .before .before .args .ws .now) (c .before .before .before .before .before .before .before .before .before .before .before .before .before .before .before .before .before .before .before .before .before .args .val .now) k) (c .before .before .before .before .before .before .before .before .before .before .before .before .before .before .before .before .before .before .before .before .before .args .i) (leftAt (nodesIn (c .before .before .before .before .before .before .before .before .before .before .before .before .before .before .before .before .before .before .before .before .before .args .ws .now) (c .before .before .before .before .before .before .before .before .before .before .before .before .before .before .before .before .before .before .before .before .before .args .val .now) k) (c .before .before .before .before .before .before .before .before .before .before .before .before .before .before .before .before .before .before .before .before .before .args .i))) (treeBelow (nodesIn (c .before .before .before .before .before .before .before .before .before .before .before .before .before .before .before .before .before .before .before .before .before .args .ws .now) (c .before .before .before .before .before .before .before .before .before .before .before .before .before .before .before .before .before .before .before .before .before .args .val .now) k) (c .before .before .before .before .before .before .before .before .before .before .before .before .before .before .before .before .before .before .before .before .before .args .i) (rightAt (nodesIn (c .before .before .before .before .before .before .before .before .before .before .before .before .before .before .before .before .before .before .before .before .before .args .ws .now) (c .before .before .before .before .before .before .before .before .before .before .before .before .before .before .before .before .before .before .before .before .before .args .val .now) k) (c .before .before .before .before .before .before .before .before .before .before .before .before .before .before .before .before .before .before .before .before .before .args .i))) _ (below-two (nodesIn (c .before .before .before .before .before .before .before .before .before .before .before .before .before .before .before .before .before .before .before .before .before .args .ws .now) (c .before .before .before .before .before .before .before .before .before .before .before .before .before .before .before .before .before .before .before .before .before .args .val .now) k) (c .before .before .before .before .before .before .before .before .before .before .before .before .before .before .before .before .before .before .before .before .before .args .b) (c .before .before .before .before .before .before .before .before .before .before .before .before .before .before .before .before .before .before .before .before .before .args .i) (c .before .before .before .before .before .before .before .before .before .before .before .before .before .before .before .before .before .before .if1 .left) _ (c .before .before .before .before .before .before .before .before .before .before .before .before .before .before .before .before .kind-of .ensures) _ (c .before .before .before .before .before .before .before .before .before .before .before .before .k .given .1)) (c .before .before .before .before .before .before .before .before .evaluate-lanes .ensures k) (same-done (c .before .before .before .before .before .before .before .before .before .before .before .before .before .before .before .before .before .before .before .before .before .args .n) (c .before .before .before .before .before .before .before .before .before .before .before .before .before .before .before .before .before .before .before .before .before .args .m) (value.reads (c .before .before .before .before .before .before .before .before .before .before .before .before .before .before .before .before .before .before .before .before .before .args .items .now) (c .before .before .before .before .before .before .before .before .before .before .before .before .before .before .before .before .before .before .before .before .before .args .atcs .now) (c .before .before .before .before .before .before .before .before .before .before .before .before .before .before .before .before .before .before .before .before .before .args .flags .now) (c .before .before .before .before .before .before .before .before .before .before .before .before .before .before .before .before .before .before .before .before .before .args .times .now)) (c .before .before .before .before .before .before .before .before .before .before .before .before .before .before .before .before .before .before .before .before .before .args .vars .now) (c .before .before .before .before .before .before .before .before .before .before .before .before .before .before .before .before .before .before .before .before .before .args .lanes .now) (c .before .before .before .before .before .before .before .before .before .before .before .before .before .before .before .before .before .before .before .before .before .args .s) (treeBelow (nodesIn (c .before .before .before .before .before .before .before .before .before .before .before .before .before .before .before .before .before .before .before .before .before .args .ws .now) (c .before .before .before .before .before .before .before .before .before .before .before .before .before .before .before .before .before .before .before .before .before .args .val .now) k) (c .before .before .before .before .before .before .before .before .before .before .before .before .before .before .before .before .before .before .before .before .before .args .i) (rightAt (nodesIn (c .before .before .before .before .before .before .before .before .before .before .before .before .before .before .before .before .before .before .before .before .before .args .ws .now) (c .before .before .before .before .before .before .before .before .before .before .before .before .before .before .before .before .before .before .before .before .before .args .val .now) k) (c .before .before .before .before .before .before .before .before .before .before .before .before .before .before .before .before .before .before .before .before .before .args .i))) _ (ap some (toZ-ofZ {w = w32} (record { sfits = c .before .before .before .before .known-told2 .given .0 .1 })) ∙ ap numberOf (sym (c .before .before .before .before .before .q .given .1)) ∙ c .before .before .before .before .before .before .before .number-below .ensures k) (c .before .before .before .before .before .before .before .before .before .before .before .before .before .before .before .before .before .before .before .before .before .pre .1 .1 .few) (c .before .before .before .repeated .ensures)) (c .apply-two-lanes .ensures)
+evaluate-lanes-returns-2 t c = let s = c .before .before .before .before .before .before .before .before .before .before .before .before .before .before .before .before .before .before .before .before .before in
+    λ k. two-done (s .args .n) (s .args .m) (value.reads (s .args .items .now) (s .args .atcs .now) (s .args .flags .now) (s .args .times .now)) (s .args .vars .now) (s .args .lanes .now) (s .args .s) (nodesIn (s .args .ws .now) (s .args .val .now) k) (s .args .b) (s .args .i)
+    (c .before .before .before .before .before .before .before .before .before .before .before .before .before .before .before .before .before .before .if1 .left) _ (c .before .before .before .before .before .before .before .before .before .before .before .before .before .before .before .before .kind-of .ensures) _ (c .before .before .before .before .before .before .before .before .before .before .before .before .k .given .1) (c .before .before .before .before .before .before .before .before .evaluate-lanes .ensures k)
+    (same-done (s .args .n) (s .args .m) (value.reads (s .args .items .now) (s .args .atcs .now) (s .args .flags .now) (s .args .times .now)) (s .args .vars .now) (s .args .lanes .now) (s .args .s) (nodesIn (s .args .ws .now) (s .args .val .now) k) (s .args .b) (s .args .i) _ (ap some (toZ-ofZ {w = w32} (record { sfits = c .before .before .before .before .known-told2 .given .0 .1 })) ∙ ap numberOf (sym (c .before .before .before .before .before .q .given .1)) ∙ c .before .before .before .before .before .before .before .number-below .ensures k) (s .pre .1 .1 .few) (c .before .before .before .repeated .ensures))
+    (c .apply-two-lanes .ensures)
 
 evaluate-lanes-returns-3 : (t : ℕ) → evaluate-lanes-lts.Need-returns-3 (evaluate-lanes-claims t) (evaluate-lanes-at t) evaluate-lanes.Post
-evaluate-lanes-returns-3 t c = λ k. two-done (c .before .before .before .before .before .before .before .before .before .before .before .before .before .before .before .before .before .before .before .before .before .before .args .n) (c .before .before .before .before .before .before .before .before .before .before .before .before .before .before .before .before .before .before .before .before .before .before .args .m) (value.reads (c .before .before .before .before .before .before .before .before .before .before .before .before .before .before .before .before .before .before .before .before .before .before .args .items .now) (c .before .before .before .before .before .before .before .before .before .before .before .before .before .before .before .before .before .before .before .before .before .before .args .atcs .now) (c .before .before .before .before .before .before .before .before .before .before .before .before .before .before .before .before .before .before .before .before .before .before .args .flags .now) (c .before .before .before .before .before .before .before .before .before .before .before .before .before .before .before .before .before .before .before .before .before .before .args .times .now)) (c .before .before .before .before .before .before .before .before .before .before .before .before .before .before .before .before .before .before .before .before .before .before .args .vars .now) (c .before .before .before .before .before .before .before .before .before .before .before .before .before .before .before .before .before .before .before .before .before .before .args .lanes .now) (c .before .before .before .before .before .before .before .before .before .before .before .before .before .before .before .before .before .before .before .before .before .before .args .s) (treeBelow (nodesIn (c .before .before .before .before .before .before .before .before .before .before .before .before .before .before .before .before .before .before .before .before .before .before .args .ws .now) (c .before .before .before .before .before .before .before .before .before .before .before .before .before .before .before .before .before .before .before .before .before .before .args .val .now) k) (c .before .before .before .before .before .before .before .before .before .before .before .before .before .before .before .before .before .before .before .before .before .before .args .b) (c .before .before .before .before .before .before .before .before .before .before .before .before .before .before .before .before .before .before .before .before .before .before .args .i)) (treeBelow (nodesIn (c .before .before .before .before .before .before .before .before .before .before .before .before .before .before .before .before .before .before .before .before .before .before .args .ws .now) (c .before .before .before .before .before .before .before .before .before .before .before .before .before .before .before .before .before .before .before .before .before .before .args .val .now) k) (c .before .before .before .before .before .before .before .before .before .before .before .before .before .before .before .before .before .before .before .before .before .before .args .i) (leftAt (nodesIn (c .before .before .before .before .before .before .before .before .before .before .before .before .before .before .before .before .before .before .before .before .before .before .args .ws .now) (c .before .before .before .before .before .before .before .before .before .before .before .before .before .before .before .before .before .before .before .before .before .before .args .val .now) k) (c .before .before .before .before .before .before .before .before .before .before .before .before .before .before .before .before .before .before .before .before .before .before .args .i))) (treeBelow (nodesIn (c .before .before .before .before .before .before .before .before .before .before .before .before .before .before .before .before .before .before .before .before .before .before .args .ws .now) (c .before .before .before .before .before .before .before .before .before .before .before .before .before .before .before .before .before .before .before .before .before .before .args .val .now) k) (c .before .before .before .before .before .before .before .before .before .before .before .before .before .before .before .before .before .before .before .before .before .before .args .i) (rightAt (nodesIn (c .before .before .before .before .before .before .before .before .before .before .before .before .before .before .before .before .before .before .before .before .before .before .args .ws .now) (c .before .before .before .before .before .before .before .before .before .before .before .before .before .before .before .before .before .before .before .before .before .before .args .val .now) k) (c .before .before .before .before .before .before .before .before .before .before .before .before .before .before .before .before .before .before .before .before .before .before .args .i))) _ (below-two (nodesIn (c .before .before .before .before .before .before .before .before .before .before .before .before .before .before .before .before .before .before .before .before .before .before .args .ws .now) (c .before .before .before .before .before .before .before .before .before .before .before .before .before .before .before .before .before .before .before .before .before .before .args .val .now) k) (c .before .before .before .before .before .before .before .before .before .before .before .before .before .before .before .before .before .before .before .before .before .before .args .b) (c .before .before .before .before .before .before .before .before .before .before .before .before .before .before .before .before .before .before .before .before .before .before .args .i) (c .before .before .before .before .before .before .before .before .before .before .before .before .before .before .before .before .before .before .before .if1 .left) _ (c .before .before .before .before .before .before .before .before .before .before .before .before .before .before .before .before .before .kind-of .ensures) _ (c .before .before .before .before .before .before .before .before .before .before .before .before .before .k .given .1)) (c .before .before .before .before .before .before .before .before .before .evaluate-lanes .ensures k) (c .before .before .before .evaluate-lanes2 .ensures k) (c .apply-two-lanes2 .ensures)
+evaluate-lanes-returns-3 t c = let s = c .before .before .before .before .before .before .before .before .before .before .before .before .before .before .before .before .before .before .before .before .before .before in
+    λ k. two-done (s .args .n) (s .args .m) (value.reads (s .args .items .now) (s .args .atcs .now) (s .args .flags .now) (s .args .times .now)) (s .args .vars .now) (s .args .lanes .now) (s .args .s) (nodesIn (s .args .ws .now) (s .args .val .now) k) (s .args .b) (s .args .i)
+    (c .before .before .before .before .before .before .before .before .before .before .before .before .before .before .before .before .before .before .before .if1 .left) _ (c .before .before .before .before .before .before .before .before .before .before .before .before .before .before .before .before .before .kind-of .ensures) _ (c .before .before .before .before .before .before .before .before .before .before .before .before .before .k .given .1) (c .before .before .before .before .before .before .before .before .before .evaluate-lanes .ensures k) (c .before .before .before .evaluate-lanes2 .ensures k) (c .apply-two-lanes2 .ensures)
 
 evaluate-lanes-returns-4 : (t : ℕ) → evaluate-lanes-lts.Need-returns-4 (evaluate-lanes-claims t) (evaluate-lanes-at t) evaluate-lanes.Post
-evaluate-lanes-returns-4 t c = λ k. number-done (c .before .before .before .before .before .before .before .before .before .before .before .before .before .before .before .before .args .n) (c .before .before .before .before .before .before .before .before .before .before .before .before .before .before .before .before .args .m) (value.reads (c .before .before .before .before .before .before .before .before .before .before .before .before .before .before .before .before .args .items .now) (c .before .before .before .before .before .before .before .before .before .before .before .before .before .before .before .before .args .atcs .now) (c .before .before .before .before .before .before .before .before .before .before .before .before .before .before .before .before .args .flags .now) (c .before .before .before .before .before .before .before .before .before .before .before .before .before .before .before .before .args .times .now)) (c .before .before .before .before .before .before .before .before .before .before .before .before .before .before .before .before .args .vars .now) (c .before .before .before .before .before .before .before .before .before .before .before .before .before .before .before .before .args .lanes .now) (c .before .before .before .before .before .before .before .before .before .before .before .before .before .before .before .before .args .s) (treeBelow (nodesIn (c .before .before .before .before .before .before .before .before .before .before .before .before .before .before .before .before .args .ws .now) (c .before .before .before .before .before .before .before .before .before .before .before .before .before .before .before .before .args .val .now) k) (c .before .before .before .before .before .before .before .before .before .before .before .before .before .before .before .before .args .b) (c .before .before .before .before .before .before .before .before .before .before .before .before .before .before .before .before .args .i)) (treeBelow (nodesIn (c .before .before .before .before .before .before .before .before .before .before .before .before .before .before .before .before .args .ws .now) (c .before .before .before .before .before .before .before .before .before .before .before .before .before .before .before .before .args .val .now) k) (c .before .before .before .before .before .before .before .before .before .before .before .before .before .before .before .before .args .i) (leftAt (nodesIn (c .before .before .before .before .before .before .before .before .before .before .before .before .before .before .before .before .args .ws .now) (c .before .before .before .before .before .before .before .before .before .before .before .before .before .before .before .before .args .val .now) k) (c .before .before .before .before .before .before .before .before .before .before .before .before .before .before .before .before .args .i))) _ _ (below-one (nodesIn (c .before .before .before .before .before .before .before .before .before .before .before .before .before .before .before .before .args .ws .now) (c .before .before .before .before .before .before .before .before .before .before .before .before .before .before .before .before .args .val .now) k) (c .before .before .before .before .before .before .before .before .before .before .before .before .before .before .before .before .args .b) (c .before .before .before .before .before .before .before .before .before .before .before .before .before .before .before .before .args .i) (c .before .before .before .before .before .before .before .before .before .before .before .before .before .if1 .left) _ (c .before .before .before .before .before .before .before .before .before .before .before .kind-of .ensures) _ (c .before .before .before .before .before .before .before .k2 .given .1)) (ap some (toZ-ofZ {w = w32} (record { sfits = c .before .before .known-told4 .given .0 .1 })) ∙ ap numberOf (sym (c .before .before .before .q2 .given .1)) ∙ c .before .before .before .before .before .number-below2 .ensures k) (c .apply-same-lanes .ensures)
+evaluate-lanes-returns-4 t c = let s = c .before .before .before .before .before .before .before .before .before .before .before .before .before .before .before .before in
+    λ k. number-done (s .args .n) (s .args .m) (value.reads (s .args .items .now) (s .args .atcs .now) (s .args .flags .now) (s .args .times .now)) (s .args .vars .now) (s .args .lanes .now) (s .args .s) (nodesIn (s .args .ws .now) (s .args .val .now) k) (s .args .b) (s .args .i)
+    (c .before .before .before .before .before .before .before .before .before .before .before .before .before .if1 .left) _ (c .before .before .before .before .before .before .before .before .before .before .before .kind-of .ensures) _ _ (c .before .before .before .before .before .before .before .k2 .given .1) (ap some (toZ-ofZ {w = w32} (record { sfits = c .before .before .known-told4 .given .0 .1 })) ∙ ap numberOf (sym (c .before .before .before .q2 .given .1)) ∙ c .before .before .before .before .before .number-below2 .ensures k) (c .apply-same-lanes .ensures)
 
 evaluate-lanes-returns-5 : (t : ℕ) → evaluate-lanes-lts.Need-returns-5 (evaluate-lanes-claims t) (evaluate-lanes-at t) evaluate-lanes.Post
-evaluate-lanes-returns-5 t c = λ k. one-done (c .before .before .before .before .before .before .before .before .before .before .before .before .before .before .before .before .before .before .args .n) (c .before .before .before .before .before .before .before .before .before .before .before .before .before .before .before .before .before .before .args .m) (value.reads (c .before .before .before .before .before .before .before .before .before .before .before .before .before .before .before .before .before .before .args .items .now) (c .before .before .before .before .before .before .before .before .before .before .before .before .before .before .before .before .before .before .args .atcs .now) (c .before .before .before .before .before .before .before .before .before .before .before .before .before .before .before .before .before .before .args .flags .now) (c .before .before .before .before .before .before .before .before .before .before .before .before .before .before .before .before .before .before .args .times .now)) (c .before .before .before .before .before .before .before .before .before .before .before .before .before .before .before .before .before .before .args .vars .now) (c .before .before .before .before .before .before .before .before .before .before .before .before .before .before .before .before .before .before .args .lanes .now) (c .before .before .before .before .before .before .before .before .before .before .before .before .before .before .before .before .before .before .args .s) (treeBelow (nodesIn (c .before .before .before .before .before .before .before .before .before .before .before .before .before .before .before .before .before .before .args .ws .now) (c .before .before .before .before .before .before .before .before .before .before .before .before .before .before .before .before .before .before .args .val .now) k) (c .before .before .before .before .before .before .before .before .before .before .before .before .before .before .before .before .before .before .args .b) (c .before .before .before .before .before .before .before .before .before .before .before .before .before .before .before .before .before .before .args .i)) (treeBelow (nodesIn (c .before .before .before .before .before .before .before .before .before .before .before .before .before .before .before .before .before .before .args .ws .now) (c .before .before .before .before .before .before .before .before .before .before .before .before .before .before .before .before .before .before .args .val .now) k) (c .before .before .before .before .before .before .before .before .before .before .before .before .before .before .before .before .before .before .args .i) (leftAt (nodesIn (c .before .before .before .before .before .before .before .before .before .before .before .before .before .before .before .before .before .before .args .ws .now) (c .before .before .before .before .before .before .before .before .before .before .before .before .before .before .before .before .before .before .args .val .now) k) (c .before .before .before .before .before .before .before .before .before .before .before .before .before .before .before .before .before .before .args .i))) _ (below-one (nodesIn (c .before .before .before .before .before .before .before .before .before .before .before .before .before .before .before .before .before .before .args .ws .now) (c .before .before .before .before .before .before .before .before .before .before .before .before .before .before .before .before .before .before .args .val .now) k) (c .before .before .before .before .before .before .before .before .before .before .before .before .before .before .before .before .before .before .args .b) (c .before .before .before .before .before .before .before .before .before .before .before .before .before .before .before .before .before .before .args .i) (c .before .before .before .before .before .before .before .before .before .before .before .before .before .before .before .if1 .left) _ (c .before .before .before .before .before .before .before .before .before .before .before .before .before .kind-of .ensures) _ (c .before .before .before .before .before .before .before .before .before .k2 .given .1)) (c .before .before .evaluate-lanes3 .ensures k) (c .apply-one-lanes .ensures)
+evaluate-lanes-returns-5 t c = let s = c .before .before .before .before .before .before .before .before .before .before .before .before .before .before .before .before .before .before in
+    λ k. one-done (s .args .n) (s .args .m) (value.reads (s .args .items .now) (s .args .atcs .now) (s .args .flags .now) (s .args .times .now)) (s .args .vars .now) (s .args .lanes .now) (s .args .s) (nodesIn (s .args .ws .now) (s .args .val .now) k) (s .args .b) (s .args .i)
+    (c .before .before .before .before .before .before .before .before .before .before .before .before .before .before .before .if1 .left) _ (c .before .before .before .before .before .before .before .before .before .before .before .before .before .kind-of .ensures) _ (c .before .before .before .before .before .before .before .before .before .k2 .given .1) (c .before .before .evaluate-lanes3 .ensures k) (c .apply-one-lanes .ensures)
 
 evaluate-lanes-returns-6 : (t : ℕ) → evaluate-lanes-lts.Need-returns-6 (evaluate-lanes-claims t) (evaluate-lanes-at t) evaluate-lanes.Post
-evaluate-lanes-returns-6 t c = λ k. imm-done (c .before .before .before .before .before .before .before .before .before .before .before .before .args .n) (c .before .before .before .before .before .before .before .before .before .before .before .before .args .m) (value.reads (c .before .before .before .before .before .before .before .before .before .before .before .before .args .items .now) (c .before .before .before .before .before .before .before .before .before .before .before .before .args .atcs .now) (c .before .before .before .before .before .before .before .before .before .before .before .before .args .flags .now) (c .before .before .before .before .before .before .before .before .before .before .before .before .args .times .now)) (c .before .before .before .before .before .before .before .before .before .before .before .before .args .vars .now) (c .before .before .before .before .before .before .before .before .before .before .before .before .args .lanes .now) (c .before .before .before .before .before .before .before .before .before .before .before .before .args .s) (treeBelow (nodesIn (c .before .before .before .before .before .before .before .before .before .before .before .before .args .ws .now) (c .before .before .before .before .before .before .before .before .before .before .before .before .args .val .now) k) (c .before .before .before .before .before .before .before .before .before .before .before .before .args .b) (c .before .before .before .before .before .before .before .before .before .before .before .before .args .i)) _ (ap some (toZ-ofZ {w = w32} (record { sfits = c .before .before .fill-arg .given })) ∙ sym (ap parse.value (below-imm16 (nodesIn (c .before .before .before .before .before .before .before .before .before .before .before .before .args .ws .now) (c .before .before .before .before .before .before .before .before .before .before .before .before .args .val .now) k) (c .before .before .before .before .before .before .before .before .before .before .before .before .args .b) (c .before .before .before .before .before .before .before .before .before .before .before .before .args .i) (c .before .before .before .before .before .before .before .before .before .if1 .left) _ (c .before .before .before .before .before .before .before .kind-of .ensures) (c .before .before .before .enum-told3 .given .1)))) (c .fill .ensures)
+evaluate-lanes-returns-6 t c = let s = c .before .before .before .before .before .before .before .before .before .before .before .before in λ k. imm16-done (s .args .n) (s .args .m) (value.reads (s .args .items .now) (s .args .atcs .now) (s .args .flags .now) (s .args .times .now)) (s .args .vars .now) (s .args .lanes .now) (s .args .s) (nodesIn (s .args .ws .now) (s .args .val .now) k) (s .args .b) (s .args .i)
+    (c .before .before .before .before .before .before .before .before .before .if1 .left) _ (c .before .before .before .before .before .before .before .kind-of .ensures) (c .before .before .before .enum-told3 .given .1) (toZ-ofZ {w = w32} (record { sfits = c .before .before .fill-arg .given })) (c .fill .ensures)
 
 evaluate-lanes-returns-7 : (t : ℕ) → evaluate-lanes-lts.Need-returns-7 (evaluate-lanes-claims t) (evaluate-lanes-at t) evaluate-lanes.Post
-evaluate-lanes-returns-7 t c = λ k. imm-done (c .before .before .before .before .before .before .before .before .before .before .before .before .args .n) (c .before .before .before .before .before .before .before .before .before .before .before .before .args .m) (value.reads (c .before .before .before .before .before .before .before .before .before .before .before .before .args .items .now) (c .before .before .before .before .before .before .before .before .before .before .before .before .args .atcs .now) (c .before .before .before .before .before .before .before .before .before .before .before .before .args .flags .now) (c .before .before .before .before .before .before .before .before .before .before .before .before .args .times .now)) (c .before .before .before .before .before .before .before .before .before .before .before .before .args .vars .now) (c .before .before .before .before .before .before .before .before .before .before .before .before .args .lanes .now) (c .before .before .before .before .before .before .before .before .before .before .before .before .args .s) (treeBelow (nodesIn (c .before .before .before .before .before .before .before .before .before .before .before .before .args .ws .now) (c .before .before .before .before .before .before .before .before .before .before .before .before .args .val .now) k) (c .before .before .before .before .before .before .before .before .before .before .before .before .args .b) (c .before .before .before .before .before .before .before .before .before .before .before .before .args .i)) _ (ap some (toZ-ofZ {w = w32} (record { sfits = c .before .before .fill-arg3 .given })) ∙ sym (ap parse.value (below-imm32 (nodesIn (c .before .before .before .before .before .before .before .before .before .before .before .before .args .ws .now) (c .before .before .before .before .before .before .before .before .before .before .before .before .args .val .now) k) (c .before .before .before .before .before .before .before .before .before .before .before .before .args .b) (c .before .before .before .before .before .before .before .before .before .before .before .before .args .i) (c .before .before .before .before .before .before .before .before .before .if1 .left) _ (c .before .before .before .before .before .before .before .kind-of .ensures) (c .before .before .before .enum-told4 .given .1)))) (c .fill2 .ensures)
+evaluate-lanes-returns-7 t c = let s = c .before .before .before .before .before .before .before .before .before .before .before .before in λ k. imm32-done (s .args .n) (s .args .m) (value.reads (s .args .items .now) (s .args .atcs .now) (s .args .flags .now) (s .args .times .now)) (s .args .vars .now) (s .args .lanes .now) (s .args .s) (nodesIn (s .args .ws .now) (s .args .val .now) k) (s .args .b) (s .args .i)
+    (c .before .before .before .before .before .before .before .before .before .if1 .left) _ (c .before .before .before .before .before .before .before .kind-of .ensures) (c .before .before .before .enum-told4 .given .1) (toZ-ofZ {w = w32} (record { sfits = c .before .before .fill-arg3 .given })) (c .fill2 .ensures)
 
 evaluate-lanes-returns-8 : (t : ℕ) → evaluate-lanes-lts.Need-returns-8 (evaluate-lanes-claims t) (evaluate-lanes-at t) evaluate-lanes.Post
-evaluate-lanes-returns-8 t c = λ k. stop-done (c .before .before .before .before .before .before .before .before .before .before .before .args .n) (c .before .before .before .before .before .before .before .before .before .before .before .args .m) (value.reads (c .before .before .before .before .before .before .before .before .before .before .before .args .items .now) (c .before .before .before .before .before .before .before .before .before .before .before .args .atcs .now) (c .before .before .before .before .before .before .before .before .before .before .before .args .flags .now) (c .before .before .before .before .before .before .before .before .before .before .before .args .times .now)) (c .before .before .before .before .before .before .before .before .before .before .before .args .vars .now) (c .before .before .before .before .before .before .before .before .before .before .before .args .lanes .now) (c .before .before .before .before .before .before .before .before .before .before .before .args .s) (treeBelow (nodesIn (c .before .before .before .before .before .before .before .before .before .before .before .args .ws .now) (c .before .before .before .before .before .before .before .before .before .before .before .args .val .now) k) (c .before .before .before .before .before .before .before .before .before .before .before .args .b) (c .before .before .before .before .before .before .before .before .before .before .before .args .i)) (below-other (nodesIn (c .before .before .before .before .before .before .before .before .before .before .before .args .ws .now) (c .before .before .before .before .before .before .before .before .before .before .before .args .val .now) k) (c .before .before .before .before .before .before .before .before .before .before .before .args .b) (c .before .before .before .before .before .before .before .before .before .before .before .args .i) (c .before .before .before .before .before .before .before .before .if1 .left) _ (c .before .before .before .before .before .before .kind-of .ensures) (c .before .before .enum-told5 .given .1)) (c .stop-lanes2 .ensures)
+evaluate-lanes-returns-8 t c = let s = c .before .before .before .before .before .before .before .before .before .before .before in λ k. other-done (s .args .n) (s .args .m) (value.reads (s .args .items .now) (s .args .atcs .now) (s .args .flags .now) (s .args .times .now)) (s .args .vars .now) (s .args .lanes .now) (s .args .s) (nodesIn (s .args .ws .now) (s .args .val .now) k) (s .args .b) (s .args .i) (c .before .before .before .before .before .before .before .before .if1 .left) _ (c .before .before .before .before .before .before .kind-of .ensures) (c .before .before .enum-told5 .given .1) (c .stop-lanes2 .ensures)
 
 pub +evaluate-lanes-spec : {M : Type 1} → statement M
 +evaluate-lanes-spec = close μ-evaluate-lanes λ t. evaluate-lanes-lts.spec (evaluate-lanes-claims t)

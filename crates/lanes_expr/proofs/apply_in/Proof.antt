@@ -1,3 +1,4 @@
+-- `apply_in` meets its contract: each arm is its operator. Assumes nothing.
 use mathlib.Core.Path.{_≡_, sym, ap, _∙_}
 use mathlib.Core.List.{List}
 use lib.IntN.{ℤ, pos}
@@ -12,87 +13,63 @@ use Rattle.lanes_expr.specs.Lanes.{applyIn}
 use borrow.Author.Needs.{needs}
 use Rattle.lanes_expr.proofs.apply_in.Statement.{statement}
 use Rattle.lanes_expr.proofs.apply_in.Tie as tie
-use Rattle.lanes_expr.proofs.apply_in.Reads as reads
-use Rattle.lanes_expr.proofs.apply_in.Lts as lts
-use Rattle.expr.proofs.apply_two.Reads as apply-two-reads
-use Rattle.lanes_expr.proofs.byte_in.Reads as byte-in-reads
-use Rattle.lanes_expr.proofs.number_in.Reads as number-in-reads
-use Rattle.lanes_expr.proofs.short_in.Reads as short-in-reads
 
 -- what an arm computed is what the operator says
 arm : (c : tie.Start) (r : ℤ) (p : Op1) → SFits w32 r → c .args .o ≡ p → r ≡ applyIn (c .args .n) (c .args .m) (value.reads (c .args .items .now) (c .args .atcs .now) (c .args .flags .now) (c .args .times .now)) (c .args .vars .now) p (c .args .l) (c .args .x)
     → toZ w32 (ofZ w32 r) ≡ applyIn (c .args .n) (c .args .m) (value.reads (c .args .items .now) (c .args .atcs .now) (c .args .flags .now) (c .args .times .now)) (c .args .vars .now) (c .args .o) (c .args .l) (c .args .x)
 arm c r p f e q = toZ-ofZ f ∙ q ∙ rw e
 
--- src/lib.rt:114:37
 enum-told : tie.Need-enum-told
 enum-told c = search needs
 
--- src/lib.rt:114:21
 apply-two-requires : tie.Need-apply-two-requires
 apply-two-requires c κs = search needs
 
--- src/lib.rt:115:22
 enum-told-2 : tie.Need-enum-told-2
 enum-told-2 c = search needs
 
--- src/lib.rt:115:22
 byte-in-requires : tie.Need-byte-in-requires
 byte-in-requires c κs = search needs
 
--- src/lib.rt:116:26
 enum-told-3 : tie.Need-enum-told-3
 enum-told-3 c = search needs
 
--- src/lib.rt:116:26
 number-in-requires : tie.Need-number-in-requires
 number-in-requires c κs = search needs
 
--- src/lib.rt:117:22
 enum-told-4 : tie.Need-enum-told-4
 enum-told-4 c = search needs
 
--- src/lib.rt:117:22
 short-in-requires : tie.Need-short-in-requires
 short-in-requires c κs = search needs
 
--- src/lib.rt:118:21
 enum-told-5 : tie.Need-enum-told-5
 enum-told-5 c = search needs
 
--- src/lib.rt:118:21
 byte-in-requires-2 : tie.Need-byte-in-requires-2
 byte-in-requires-2 c κs = search needs
 
--- src/lib.rt:119:22
 enum-told-6 : tie.Need-enum-told-6
 enum-told-6 c = search needs
 
--- src/lib.rt:119:22
 short-in-requires-2 : tie.Need-short-in-requires-2
 short-in-requires-2 c κs = search needs
 
--- src/lib.rt:98:1
 returns : tie.Need-returns
 returns c = arm (c .before .before .before .before .before) _ _ (record { sfits = c .apply-two .ok }) (c .before .enum-told .given .1) (rw (toZ-ofZ (c .before .before .before .before .before .fits .x)) at (c .apply-two .ensures))
 
--- src/lib.rt:98:1
 returns-2 : tie.Need-returns-2
 returns-2 c = arm (c .before .before .before .before .before) _ _ (record { sfits = c .byte-in .ok }) (c .before .enum-told2 .given .1) (rw (toZ-ofZ (c .before .before .before .before .before .fits .x)) at (c .byte-in .ensures))
 
--- src/lib.rt:98:1
 returns-3 : tie.Need-returns-3
 returns-3 c = arm (c .before .before .before .before .before) _ _ (record { sfits = c .number-in .ok }) (c .before .enum-told3 .given .1) (rw (toZ-ofZ (c .before .before .before .before .before .fits .x)) at (c .number-in .ensures))
 
--- src/lib.rt:98:1
 returns-4 : tie.Need-returns-4
 returns-4 c = arm (c .before .before .before .before .before) _ _ (record { sfits = c .short-in .ok }) (c .before .enum-told4 .given .1) (rw (toZ-ofZ (c .before .before .before .before .before .fits .x)) at (c .short-in .ensures))
 
--- src/lib.rt:98:1
 returns-5 : tie.Need-returns-5
 returns-5 c = arm (c .before .before .before .before .before) _ _ (record { sfits = c .byte-in2 .ok }) (c .before .enum-told5 .given .1) (rw (toZ-ofZ (c .before .before .before .before .before .fits .x)) at (c .byte-in2 .ensures))
 
--- src/lib.rt:98:1
 returns-6 : tie.Need-returns-6
 returns-6 c = arm (c .before .before .before .before .before) _ _ (record { sfits = c .short-in2 .ok }) (c .before .enum-told6 .given .1) (rw (toZ-ofZ (c .before .before .before .before .before .fits .x)) at (c .short-in2 .ensures))
 

@@ -1,3 +1,4 @@
+-- `apply_one_lanes` meets its contract: Not is a comparison with 0, and the loop of the rest asks for no operator. Assumes nothing.
 use mathlib.Core.List.{List}
 use Prim.Native.Nat.{ℕ}
 use lib.IntN.{ℤ, pos}
@@ -13,38 +14,27 @@ use mathlib.Core.Path.{ap, _≡_, _∙_}
 use borrow.Author.Needs.{needs}
 use Rattle.lanes_expr.proofs.apply_one_lanes.Statement.{statement}
 use Rattle.lanes_expr.proofs.apply_one_lanes.Tie as tie
-use Rattle.lanes_expr.proofs.apply_one_lanes.Reads as reads
-use Rattle.lanes_expr.proofs.apply_one_lanes.Lts as lts
-use Rattle.lanes_expr.proofs.one_each.Reads as one-each-reads
-use Rattle.lanes_expr.proofs.repeated.Reads as repeated-reads
-use Rattle.lanes_expr.proofs.two_each.Reads as two-each-reads
 
 -- what an arm computed is what the operator says
 arm : (c : tie.Start) (p : Op1) {xs′ : List ℤ} → c .args .o ≡ p → Each (pos 0) (λ j x. applyIn (c .args .n) (c .args .m) (value.reads (c .args .items .now) (c .args .atcs .now) (c .args .flags .now) (c .args .times .now)) (c .args .vars .now) p (getD (c .args .lanes .now) j 0) x) (c .args .s) (c .args .out .now) xs′
     → Each (pos 0) (λ j x. applyIn (c .args .n) (c .args .m) (value.reads (c .args .items .now) (c .args .atcs .now) (c .args .flags .now) (c .args .times .now)) (c .args .vars .now) (c .args .o) (getD (c .args .lanes .now) j 0) x) (c .args .s) (c .args .out .now) xs′
 arm c p e h = rw e h
 
--- src/lib.rt:263:25
 enum-told : tie.Need-enum-told
 enum-told c = search needs
 
--- src/lib.rt:263:25
 repeated-requires : tie.Need-repeated-requires
 repeated-requires c κs = search needs
 
--- src/lib.rt:264:13
 two-each-requires : tie.Need-two-each-requires
 two-each-requires c κs = search needs
 
--- src/lib.rt:266:14
 one-each-requires : tie.Need-one-each-requires
 one-each-requires c κs = search needs
 
--- src/lib.rt:245:1
 returns : tie.Need-returns
 returns c = arm (c .before .before .before .before .before .before .before .before) _ (c .before .before .before .before .enum-told .given .1) (each-as (c .two-each .ensures) (λ j x. ap (λ (y : List ℤ). apply2 Equal x (getD y j (pos 0))) (c .before .before .before .repeated .ensures) ∙ ap (apply2 Equal x) (same-at 64 j (pos 0))))
 
--- src/lib.rt:245:1
 returns-2 : tie.Need-returns-2
 returns-2 c = search needs
 

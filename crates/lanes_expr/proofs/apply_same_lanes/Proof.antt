@@ -1,3 +1,4 @@
+-- `apply_same_lanes` meets its contract: each arm is its operator. Assumes nothing.
 use mathlib.Core.Path.{_≡_, ap, _∙_}
 use mathlib.Core.List.{List}
 use Prim.Native.Nat.{ℕ}
@@ -12,92 +13,66 @@ use Rattle.lanes_expr.specs.Each.{Each, each-as}
 use borrow.Author.Needs.{needs}
 use Rattle.lanes_expr.proofs.apply_same_lanes.Statement.{statement}
 use Rattle.lanes_expr.proofs.apply_same_lanes.Tie as tie
-use Rattle.lanes_expr.proofs.apply_same_lanes.Reads as reads
-use Rattle.lanes_expr.proofs.apply_same_lanes.Lts as lts
-use Rattle.expr.proofs.apply_two.Reads as apply-two-reads
-use Rattle.lanes_expr.proofs.fill.Reads as fill-reads
-use Rattle.lanes_expr.proofs.same_bytes.Reads as same-bytes-reads
-use Rattle.lanes_expr.proofs.same_numbers.Reads as same-numbers-reads
-use Rattle.lanes_expr.proofs.same_shorts.Reads as same-shorts-reads
 
 -- what an arm computed is what the operator says
 arm : (c : tie.Start) (p : Op1) {f : ℕ → ℤ → ℤ} {xs′ : List ℤ} → c .args .o ≡ p → Each (pos 0) f (c .args .s) (c .args .out .now) xs′ → ((j : ℕ) (y : ℤ) → f j y ≡ applyIn (c .args .n) (c .args .m) (value.reads (c .args .items .now) (c .args .atcs .now) (c .args .flags .now) (c .args .times .now)) (c .args .vars .now) p (getD (c .args .lanes .now) j 0) (c .args .x))
     → Each (pos 0) (λ j _. applyIn (c .args .n) (c .args .m) (value.reads (c .args .items .now) (c .args .atcs .now) (c .args .flags .now) (c .args .times .now)) (c .args .vars .now) (c .args .o) (getD (c .args .lanes .now) j 0) (c .args .x)) (c .args .s) (c .args .out .now) xs′
 arm c p e h q = each-as h (λ j y. q j y ∙ rw e)
 
--- src/lib.rt:350:42
 enum-told : tie.Need-enum-told
 enum-told c = search needs
 
--- src/lib.rt:350:26
 apply-two-requires : tie.Need-apply-two-requires
 apply-two-requires c κs = search needs
 
--- src/lib.rt:350:21
 fill-requires : tie.Need-fill-requires
 fill-requires c κs = search needs
 
--- src/lib.rt:351:59
 enum-told-2 : tie.Need-enum-told-2
 enum-told-2 c = search needs
 
--- src/lib.rt:351:22
 same-bytes-requires : tie.Need-same-bytes-requires
 same-bytes-requires c κs = record { few = c .before .before .before .before .before .pre .few; lie = λ j l. c .before .before .before .before .before .pre .lie j l .flags }
 
--- src/lib.rt:352:64
 enum-told-3 : tie.Need-enum-told-3
 enum-told-3 c = search needs
 
--- src/lib.rt:352:26
 same-numbers-requires : tie.Need-same-numbers-requires
 same-numbers-requires c κs = record { few = c .before .before .before .before .before .pre .few; lie = λ j l. c .before .before .before .before .before .pre .lie j l .variables }
 
--- src/lib.rt:353:57
 enum-told-4 : tie.Need-enum-told-4
 enum-told-4 c = search needs
 
--- src/lib.rt:353:22
 same-shorts-requires : tie.Need-same-shorts-requires
 same-shorts-requires c κs = record { few = c .before .before .before .before .before .pre .few; lie = λ j l. c .before .before .before .before .before .pre .lie j l .items }
 
--- src/lib.rt:354:54
 enum-told-5 : tie.Need-enum-told-5
 enum-told-5 c = search needs
 
--- src/lib.rt:354:21
 same-bytes-requires-2 : tie.Need-same-bytes-requires-2
 same-bytes-requires-2 c κs = record { few = c .before .before .before .before .before .pre .few; lie = λ j l. c .before .before .before .before .before .pre .lie j l .atcs }
 
--- src/lib.rt:355:57
 enum-told-6 : tie.Need-enum-told-6
 enum-told-6 c = search needs
 
--- src/lib.rt:355:22
 same-shorts-requires-2 : tie.Need-same-shorts-requires-2
 same-shorts-requires-2 c κs = record { few = c .before .before .before .before .before .pre .few; lie = λ j l. c .before .before .before .before .before .pre .lie j l .times }
 
--- src/lib.rt:332:1
 returns : tie.Need-returns
 returns c = arm (c .before .before .before .before .before .before .before) _ (c .before .before .before .enum-told .given .1) (c .fill .ensures) (λ _ _. toZ-ofZ {w = w32} (record { sfits = c .before .before .apply-two .ok }) ∙ (rw (toZ-ofZ (c .before .before .before .before .before .before .before .fits .x)) at (c .before .before .apply-two .ensures)))
 
--- src/lib.rt:332:1
 returns-2 : tie.Need-returns-2
 returns-2 c = arm (c .before .before .before .before .before .before) _ (c .before .before .enum-told2 .given .1) (c .same-bytes .ensures) (λ _ _. rw (toZ-ofZ (c .before .before .before .before .before .before .fits .x)))
 
--- src/lib.rt:332:1
 returns-3 : tie.Need-returns-3
 returns-3 c = arm (c .before .before .before .before .before .before) _ (c .before .before .enum-told3 .given .1) (c .same-numbers .ensures) (λ _ _. rw (toZ-ofZ (c .before .before .before .before .before .before .fits .x)))
 
--- src/lib.rt:332:1
 returns-4 : tie.Need-returns-4
 returns-4 c = arm (c .before .before .before .before .before .before) _ (c .before .before .enum-told4 .given .1) (c .same-shorts .ensures) (λ _ _. rw (toZ-ofZ (c .before .before .before .before .before .before .fits .x)))
 
--- src/lib.rt:332:1
 returns-5 : tie.Need-returns-5
 returns-5 c = arm (c .before .before .before .before .before .before) _ (c .before .before .enum-told5 .given .1) (c .same-bytes2 .ensures) (λ _ _. rw (toZ-ofZ (c .before .before .before .before .before .before .fits .x)))
 
--- src/lib.rt:332:1
 returns-6 : tie.Need-returns-6
 returns-6 c = arm (c .before .before .before .before .before .before) _ (c .before .before .enum-told6 .given .1) (c .same-shorts2 .ensures) (λ _ _. rw (toZ-ofZ (c .before .before .before .before .before .before .fits .x)))
 

@@ -1,3 +1,4 @@
+-- `fill` meets its contract. The loop's invariant: the first j places hold the number. Assumes nothing.
 use lib.IntN.{pos}
 use mir.Syntax.{w32}
 use mir.Val.{toZ}
@@ -9,9 +10,6 @@ use mathlib.Core.Path.{refl}
 use borrow.Author.Needs.{needs}
 use Rattle.lanes_expr.proofs.fill.Statement.{statement}
 use Rattle.lanes_expr.proofs.fill.Tie as tie
-use Rattle.lanes_expr.proofs.fill.Reads as reads
-use Rattle.lanes_expr.proofs.fill.Lts as lts
-use Rattle.lanes_expr.proofs.known.Reads as known-reads
 
 abbrev Inv-loop : tie.InvT-loop
 Inv-loop z s out₀ -all j₀ out j = (j ≤ s) × Each (pos 0) (λ _ _. toZ w32 z) j out₀ out
@@ -19,35 +17,27 @@ Inv-loop z s out₀ -all j₀ out j = (j ≤ s) × Each (pos 0) (λ _ _. toZ w32
 abbrev μ-loop : tie.MeasureT-loop
 μ-loop z s out₀ -all j₀ out j = s - j
 
--- src/lib.rt:144:9
 known-requires : tie.Need-known-requires Inv-loop μ-loop
 known-requires c κs = search needs
 
--- src/lib.rt:146:5
 loop-holds : tie.Need-loop-holds Inv-loop μ-loop
 loop-holds c = (omega arith, each-none _ _ _)
 
--- src/lib.rt:147:9
 mul-z : tie.Need-mul-z Inv-loop μ-loop
 mul-z c = search needs
 
--- src/lib.rt:147:9
 element-set-from-z : tie.Need-element-set-from-z Inv-loop μ-loop
 element-set-from-z c = search needs
 
--- src/lib.rt:148:9
 add-j : tie.Need-add-j Inv-loop μ-loop
 add-j c = search needs
 
--- src/lib.rt:146:5
 loop-less : tie.Need-loop-less Inv-loop μ-loop
 loop-less c = omega arith
 
--- src/lib.rt:146:5
 loop-again : tie.Need-loop-again Inv-loop μ-loop
 loop-again c = (omega arith, each-more (c .before .loop .inv .1) (omega (arith, c .before .before .known .ensures)) refl)
 
--- src/lib.rt:140:1
 returns : tie.Need-returns Inv-loop μ-loop
 returns c = each-as (each-all (c .before .loop .inv .1) (c .before .loop .inv .0) (c .loop-test .left)) (λ _ _. toZ-ofZ (c .before .before .before .before .fits .z))
 

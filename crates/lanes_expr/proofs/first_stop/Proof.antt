@@ -1,11 +1,10 @@
+-- `first_stop` meets its contract: a refusal that is not 0 stands. Assumes nothing.
 use mathlib.Core.Path.{_≡_, refl}
 use Prim.Native.Nat.{ℕ, zero, suc}
 use Rattle.lanes_expr.specs.Lanes.{firstOf2}
 use borrow.Author.Needs.{needs}
 use Rattle.lanes_expr.proofs.first_stop.Statement.{statement}
 use Rattle.lanes_expr.proofs.first_stop.Tie as tie
-use Rattle.lanes_expr.proofs.first_stop.Reads as reads
-use Rattle.lanes_expr.proofs.first_stop.Lts as lts
 
 stands : (a r : ℕ) → (a ≡ 0 → ⊥) → a ≡ firstOf2 a r
 stands zero r d = absurd (d refl)
@@ -14,7 +13,6 @@ stands (suc a) r d = refl
 returns : tie.Need-returns
 returns c = search needs
 
--- src/lib.rt:137:1
 returns-2 : tie.Need-returns-2
 returns-2 c = stands _ _ (c .if1 .left)
 

@@ -1,13 +1,11 @@
+-- `repeated` meets its contract. Assumes nothing.
 use lib.IntN.{ℤ}
 use lib.ListN.{replicate}
 use mir.Facts.{toZ-ofZ}
 use mathlib.Core.Path.{ap}
 use Rattle.lanes_expr.proofs.repeated.Statement.{statement}
 use Rattle.lanes_expr.proofs.repeated.Tie as tie
-use Rattle.lanes_expr.proofs.repeated.Reads as reads
-use Rattle.lanes_expr.proofs.repeated.Lts as lts
 
--- src/lib.rt:126:1
 returns : tie.Need-returns
 returns c = ap (λ (x : ℤ). replicate 64 x) (toZ-ofZ (c .fits .z))
 

@@ -1,3 +1,4 @@
+-- `stop_lanes` meets its contract. The loop's invariant: the first j lanes have stopped. Assumes nothing.
 use Rattle.lanes_expr.specs.Lanes.{firstOf2}
 use Rattle.lanes_expr.specs.Each.{Each, each-none, each-more, each-all}
 use Prim.Native.Nat.{_-_, _≤_}
@@ -5,10 +6,6 @@ use native.Mathlib.Omega.{arith}
 use borrow.Author.Needs.{needs}
 use Rattle.lanes_expr.proofs.stop_lanes.Statement.{statement}
 use Rattle.lanes_expr.proofs.stop_lanes.Tie as tie
-use Rattle.lanes_expr.proofs.stop_lanes.Reads as reads
-use Rattle.lanes_expr.proofs.stop_lanes.Lts as lts
-use Rattle.lanes_expr.proofs.first_stop.Reads as first-stop-reads
-use Rattle.lanes_expr.proofs.known_stops.Reads as known-stops-reads
 
 abbrev Inv-loop : tie.InvT-loop
 Inv-loop r s stops₀ -all j₀ stops j = (j ≤ s) × Each 0 (λ _ a. firstOf2 a r) j stops₀ stops
@@ -16,39 +13,30 @@ Inv-loop r s stops₀ -all j₀ stops j = (j ≤ s) × Each 0 (λ _ a. firstOf2 
 abbrev μ-loop : tie.MeasureT-loop
 μ-loop r s stops₀ -all j₀ stops j = s - j
 
--- src/lib.rt:167:9
 known-stops-requires : tie.Need-known-stops-requires Inv-loop μ-loop
 known-stops-requires c κs = search needs
 
--- src/lib.rt:169:5
 loop-holds : tie.Need-loop-holds Inv-loop μ-loop
 loop-holds c = (omega arith, each-none _ _ _)
 
--- src/lib.rt:170:17
 element-copy-out-a : tie.Need-element-copy-out-a Inv-loop μ-loop
 element-copy-out-a c = search needs
 
--- src/lib.rt:171:20
 first-stop-requires : tie.Need-first-stop-requires Inv-loop μ-loop
 first-stop-requires c κs = search needs
 
--- src/lib.rt:171:9
 element-write-stops : tie.Need-element-write-stops Inv-loop μ-loop
 element-write-stops c = search needs
 
--- src/lib.rt:172:9
 add-j : tie.Need-add-j Inv-loop μ-loop
 add-j c = search needs
 
--- src/lib.rt:169:5
 loop-less : tie.Need-loop-less Inv-loop μ-loop
 loop-less c = omega arith
 
--- src/lib.rt:169:5
 loop-again : tie.Need-loop-again Inv-loop μ-loop
 loop-again c = (omega arith, each-more (c .before .before .before .loop .inv .1) (omega (arith, c .before .before .before .before .known-stops .ensures)) (c .first-stop .ensures))
 
--- src/lib.rt:163:1
 returns : tie.Need-returns Inv-loop μ-loop
 returns c = each-all (c .before .loop .inv .1) (c .before .loop .inv .0) (c .loop-test .left)
 

@@ -1,3 +1,4 @@
+-- `two_each` meets its contract. The loop's invariant: the operator was applied at the first j places. Assumes nothing.
 use lib.IntN.{pos}
 use mir.Syntax.{w32}
 use mir.Facts.{toZ-ofZ}
@@ -10,10 +11,6 @@ use native.Mathlib.Omega.{arith}
 use borrow.Author.Needs.{needs}
 use Rattle.lanes_expr.proofs.two_each.Statement.{statement}
 use Rattle.lanes_expr.proofs.two_each.Tie as tie
-use Rattle.lanes_expr.proofs.two_each.Reads as reads
-use Rattle.lanes_expr.proofs.two_each.Lts as lts
-use Rattle.expr.proofs.apply_two.Reads as apply-two-reads
-use Rattle.lanes_expr.proofs.known.Reads as known-reads
 
 abbrev Inv-loop : tie.InvT-loop
 Inv-loop o s right out₀ -all j₀ out j = (j ≤ s) × Each (pos 0) (λ j x. apply2 o x (getD right j (pos 0))) j out₀ out
@@ -21,55 +18,42 @@ Inv-loop o s right out₀ -all j₀ out j = (j ≤ s) × Each (pos 0) (λ j x. a
 abbrev μ-loop : tie.MeasureT-loop
 μ-loop o s right out₀ -all j₀ out j = s - j
 
--- src/lib.rt:180:9
 known-requires : tie.Need-known-requires Inv-loop μ-loop
 known-requires c κs = search needs
 
--- src/lib.rt:182:5
 loop-holds : tie.Need-loop-holds Inv-loop μ-loop
 loop-holds c = (omega arith, each-none _ _ _)
 
--- src/lib.rt:183:17
 mul-x : tie.Need-mul-x Inv-loop μ-loop
 mul-x c = search needs
 
--- src/lib.rt:183:17
 element-copy-out-x : tie.Need-element-copy-out-x Inv-loop μ-loop
 element-copy-out-x c = search needs
 
--- src/lib.rt:184:17
 mul-y : tie.Need-mul-y Inv-loop μ-loop
 mul-y c = search needs
 
--- src/lib.rt:184:17
 element-copy-out-y : tie.Need-element-copy-out-y Inv-loop μ-loop
 element-copy-out-y c = search needs
 
--- src/lib.rt:185:13
 apply-two-requires : tie.Need-apply-two-requires Inv-loop μ-loop
 apply-two-requires c κs = search needs
 
--- src/lib.rt:186:9
 mul-z : tie.Need-mul-z Inv-loop μ-loop
 mul-z c = search needs
 
--- src/lib.rt:186:9
 element-set-from-z : tie.Need-element-set-from-z Inv-loop μ-loop
 element-set-from-z c = search needs
 
--- src/lib.rt:187:9
 add-j : tie.Need-add-j Inv-loop μ-loop
 add-j c = search needs
 
--- src/lib.rt:182:5
 loop-less : tie.Need-loop-less Inv-loop μ-loop
 loop-less c = omega arith
 
--- src/lib.rt:182:5
 loop-again : tie.Need-loop-again Inv-loop μ-loop
 loop-again c = (omega arith, each-more (c .before .before .before .before .loop .inv .1) (omega (arith, c .before .before .before .before .before .known .ensures)) (toZ-ofZ {w = w32} (record { sfits = c .apply-two .ok }) ∙ (rw (toZ-ofZ {w = w32} (record { sfits = c .before .before .x .given }), toZ-ofZ {w = w32} (record { sfits = c .before .y .given })) at (c .apply-two .ensures))))
 
--- src/lib.rt:176:1
 returns : tie.Need-returns Inv-loop μ-loop
 returns c = each-all (c .before .loop .inv .1) (c .before .loop .inv .0) (c .loop-test .left)
 
