@@ -72,7 +72,7 @@ impl Script {
     /// use locustkeno::{Item, Refused, Save, Script, Sheet};
     /// let sheet = Sheet::new(&[None; 3], 0, [Item(0), Item(1), Item(2)]);
     /// // Variable 600 := variable 5, then Return.
-    /// let script = Script::read(&[1, 1, 2, 2, 0, 0x0B, 0xB0, 0x09, 0x0E, 0x0B, 0x0A, 4, 0, 0, 0])?;
+    /// let script = Script::read(&[1, 1, 2, 2, 0, 0x0B, 0xB0, 0x09, 0x0E, 0x0B, 0x0A, 0, 0, 0])?;
     /// let mut saves = vec![Save::new(&sheet); 3];
     /// saves[1].variables[5] = 7;
     /// let walk = script.run_all(&sheet, 0, &mut saves)?;
