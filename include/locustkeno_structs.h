@@ -45,7 +45,14 @@ enum {
     LK_BAD_ROOTS = 18,
     LK_DEMO_FULL = 19,
     LK_NO_USER = 20,
-    LK_NO_RIGHT = 21
+    LK_NO_RIGHT = 21,
+    LK_BAD_WALK = 22,
+    LK_NO_FLAG = 23,
+    LK_BAD_TARIFF = 24,
+    LK_BAD_BASKET = 25,
+    LK_TOO_MANY_WISHES = 26,
+    LK_NO_SUCH_WISH = 27,
+    LK_BAD_MONEY = 28
 };
 
 /* A sentence for a refusal, "accepted" for 0. */
@@ -73,6 +80,13 @@ static inline const char *lk_message(unsigned refusal) {
         "the compile would pass a limit of the demo loader",
         "there is no such user",
         "there is no such slot, or the user may not change that field of it",
+        "there are no saves or over 64, or a block that is led to has a link that does not go to a lower number",
+        "the run would read a flag outside 0 to 2,047",
+        "a price or the discount is out of range, or there is not exactly one price for each item",
+        "a number of the basket is below 0, above its count, or above 0 where the item is not on the sheet",
+        "over 1,000 wishes are given",
+        "a wished slot is not there",
+        "the money is above 1,000,000 coins",
     };
     return refusal < sizeof sentences / sizeof sentences[0] ? sentences[refusal] : "no refusal";
 }

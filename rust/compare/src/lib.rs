@@ -5,6 +5,7 @@ pub mod convert;
 pub mod images;
 pub mod interpret;
 pub mod judge;
+pub mod lanes;
 pub mod meaning;
 pub mod mixed;
 pub mod reclaim;
@@ -44,6 +45,14 @@ pub fn all(seed: u64, count: usize, longest: usize, small: bool) -> Tally {
     runs::operators(&mut tally, &mut random);
     reclaimed(&mut tally, &mut random, count);
     rights::lists(&mut tally, &mut random, count / 4);
+    lanes::random(&mut tally, &mut random, count);
+    tally
+}
+
+/// Walks for many saves alone.
+pub fn walks(seed: u64, count: usize) -> Tally {
+    let mut tally = Tally::default();
+    lanes::random(&mut tally, &mut Random::new(seed), count);
     tally
 }
 

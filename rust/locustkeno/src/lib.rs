@@ -16,6 +16,7 @@
 
 mod arrays;
 mod ffi;
+mod lanes;
 mod reclaim;
 mod refused;
 mod rights;
@@ -28,6 +29,7 @@ mod text;
 mod view;
 
 pub use arrays::{Arrays, Births, BlockWords, CommandWords, NodeWords, Values};
+pub use lanes::{LANES, Saves, Walk};
 pub use reclaim::Moved;
 pub use refused::Refused;
 pub use rights::{Content, Edit, Right, Rights, USERS};

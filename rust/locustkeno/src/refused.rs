@@ -49,6 +49,19 @@ impl Refused {
             19 => "the compile would pass a limit of the demo loader",
             20 => "there is no such user",
             21 => "there is no such slot, or the user may not change that field of it",
+            22 => {
+                "there are no saves or over 64, or a block that is led to has a link that does not go to a lower number"
+            }
+            23 => "the run would read a flag outside 0 to 2,047",
+            24 => {
+                "a price or the discount is out of range, or there is not exactly one price for each item"
+            }
+            25 => {
+                "a number of the basket is below 0, above its count, or above 0 where the item is not on the sheet"
+            }
+            26 => "over 1,000 wishes are given",
+            27 => "a wished slot is not there",
+            28 => "the money is above 1,000,000 coins",
             _ => "no refusal of documents 01 and 02",
         }
     }
