@@ -11,6 +11,7 @@ pub mod reclaim;
 pub mod recounted;
 pub mod runs;
 pub mod saves;
+pub mod settings;
 pub mod shared;
 pub mod shops;
 pub mod small;
@@ -42,6 +43,14 @@ pub fn all(seed: u64, count: usize, longest: usize, small: bool) -> Tally {
     }
     runs::operators(&mut tally, &mut random);
     reclaimed(&mut tally, &mut random, count);
+    settings::random(&mut tally, &mut random, count);
+    tally
+}
+
+/// Settings of slots alone.
+pub fn settings(seed: u64, count: usize) -> Tally {
+    let mut tally = Tally::default();
+    settings::random(&mut tally, &mut Random::new(seed), count);
     tally
 }
 

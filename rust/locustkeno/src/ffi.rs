@@ -98,7 +98,10 @@ unsafe extern "C" {
     ) -> Kept;
 }
 
+pub use settings::*;
 pub use shops::*;
+
+mod settings;
 
 mod shops {
     use super::Kept;

@@ -21,6 +21,7 @@ mod refused;
 mod room;
 mod save;
 mod script;
+mod settings;
 mod sheet;
 mod shop;
 
@@ -31,5 +32,6 @@ pub use room::{Room, Use};
 pub use save::{FLAGS, Save, TIMES, VARIABLES};
 pub use script::Preview;
 pub use script::{Loader, Ran, Script};
+pub use settings::Settings;
 pub use sheet::{Atc, Item, Sheet};
 pub use shop::{ENTRIES, NUM_SLOTS, Requirement, Shop, Slot};

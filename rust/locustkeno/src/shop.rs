@@ -91,7 +91,7 @@ impl fmt::Debug for Shop {
 }
 
 use crossing::Given;
-pub(crate) use crossing::{Codes, ShopArrays};
+pub(crate) use crossing::{Alone, Codes, Row, ShopArrays};
 
 /// Slots as the library takes them, there and back.
 mod crossing {
@@ -100,6 +100,16 @@ mod crossing {
 
     /// The codes of the requirements, as many for each slot as it may be given.
     pub type Codes = [u64; NUM_SLOTS * ENTRIES];
+
+    /// The codes of one slot.
+    pub type Row = [u64; ENTRIES];
+
+    /// One slot: no item is -1, and entries past `ENTRIES` have no place among the codes, but count.
+    pub struct Alone {
+        pub item: i32,
+        pub row: Row,
+        pub len: u8,
+    }
 
     /// A shop as four arrays: no item is -1, and a length over `ENTRIES` counts as that many entries.
     #[derive(Clone, PartialEq, Eq)]
@@ -174,6 +184,20 @@ mod crossing {
         }
     }
 
+    impl Alone {
+        pub fn new(slot: &Slot) -> Self {
+            let mut row = [0; ENTRIES];
+            for (place, entry) in row.iter_mut().zip(&slot.requirements) {
+                *place = code(*entry);
+            }
+            Self {
+                item: slot.item.map_or(-1, |item| item.0.into()),
+                row,
+                len: u8::try_from(slot.requirements.len()).unwrap_or(u8::MAX),
+            }
+        }
+    }
+
     impl Given {
         pub fn new() -> Self {
             Self {
@@ -189,16 +213,14 @@ mod crossing {
             self.count < GIVEN
         }
 
-        /// One slot more. Entries past `ENTRIES` have no place among the codes, but count.
+        /// One slot more.
         pub fn push(&mut self, slot: &Slot) {
             let i = self.count;
-            self.items[i] = slot.item.map_or(-1, |item| item.0.into());
+            let Alone { item, row, len } = Alone::new(slot);
+            self.items[i] = item;
             self.limits[i] = slot.limit;
-            self.lens[i] = u8::try_from(slot.requirements.len()).unwrap_or(u8::MAX);
-            let row = &mut self.codes[ENTRIES * i..][..ENTRIES];
-            for (place, entry) in row.iter_mut().zip(&slot.requirements) {
-                *place = code(*entry);
-            }
+            self.codes[ENTRIES * i..][..ENTRIES].copy_from_slice(&row);
+            self.lens[i] = len;
             self.count += 1;
         }
 
