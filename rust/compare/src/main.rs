@@ -27,7 +27,10 @@ fn main() -> Result<ExitCode, Box<dyn Error>> {
         [] => (3, false),
         ["shops"] => return said(seed, || compare::shops(seed, count)),
         ["settings"] => {
-            println!("slowest slot: {:.2} microseconds", compare::settings::slowest());
+            println!(
+                "slowest slot: {:.2} microseconds",
+                compare::settings::slowest()
+            );
             return said(seed, || compare::settings(seed, count));
         }
         ["reclaims"] => return said(seed, || compare::reclaims(seed, count)),

@@ -82,7 +82,10 @@ impl Looked {
 
     fn lists(&self, answers: &Answers) -> bool {
         self.acquired.iter().any(|subject| answers[subject])
-            || self.wishes.iter().all(|(subject, yes)| answers[subject] == *yes)
+            || self
+                .wishes
+                .iter()
+                .all(|(subject, yes)| answers[subject] == *yes)
     }
 
     fn combinations(&self) -> u32 {
@@ -96,15 +99,12 @@ fn counted(sheet: &Sheet, slot: &Slot) -> Result<Settings, u8> {
         return Err(1);
     }
     rules::check_shop(sheet, std::slice::from_ref(slot)).map_err(|refusal| refusal.0)?;
-    let (mut settings, looked) = (
-        Settings {
-            subjects: 0,
-            listed: 0,
-            hidden: 0,
-        },
-        Looked::new(sheet, slot),
-    );
-    let Some(looked) = looked else {
+    let mut settings = Settings {
+        subjects: 0,
+        listed: 0,
+        hidden: 0,
+    };
+    let Some(looked) = Looked::new(sheet, slot) else {
         settings.hidden = 1;
         return Ok(settings);
     };
@@ -117,18 +117,26 @@ fn counted(sheet: &Sheet, slot: &Slot) -> Result<Settings, u8> {
     Ok(settings)
 }
 
-/// A save that answers so; none where a flag that is not in the save would have to be set.
-fn save(sheet: &Sheet, answers: &Answers) -> Option<Save> {
+/// Some save answers yes: every other subject is in all saves of the sheet.
+fn in_saves(subject: &Subject) -> bool {
+    match *subject {
+        Subject::Flag(n) => usize::try_from(n).is_ok_and(|n| n < FLAGS),
+        _ => true,
+    }
+}
+
+/// The save that answers so.
+fn save(sheet: &Sheet, answers: &Answers) -> Save {
     let mut save = Save::new(&convert::sheet(sheet));
-    for (subject, yes) in answers.iter().filter(|answer| *answer.1) {
+    for (subject, _) in answers.iter().filter(|answer| *answer.1) {
         match *subject {
-            Subject::Item(n) => save.items[usize::from(n)] = (*yes).into(),
-            Subject::Atc(n) => save.atcs[usize::from(n)] = (*yes).into(),
-            Subject::Flag(n) => *save.flags.get_mut(usize::try_from(n).ok()?)? = 1,
+            Subject::Item(n) => save.items[usize::from(n)] = 1,
+            Subject::Atc(n) => save.atcs[usize::from(n)] = 1,
+            Subject::Flag(n) => save.flags[n as usize] = 1,
             Subject::Rate(rate) => save.times[2] = rate,
         }
     }
-    Some(save)
+    save
 }
 
 /// Runs the compiled slot under a save for each combination, and counts those that leave its item.
@@ -136,31 +144,48 @@ fn run(tally: &mut Tally, sheet: &Sheet, slot: &Slot, settings: Settings, script
     let Some(looked) = Looked::new(sheet, slot) else {
         return;
     };
-    let outside = |subject: &Subject| matches!(subject, Subject::Flag(n) if usize::try_from(*n).is_ok_and(|n| n < FLAGS) == false);
-    if looked.subjects.len() > RUN || looked.subjects.iter().any(outside) {
+    if looked.subjects.len() > RUN || !looked.subjects.iter().all(in_saves) {
         return;
     }
-    let (ours, shop) = (convert::sheet(sheet), Shop::with_slots([convert::slot(slot)]));
-    script.read_again(&[1, 1, 1, 0, 0, 0]).expect("a Return block");
-    script.compile(&ours, Loader::Disc, 0, &shop).expect("a slot that was counted");
+    let (ours, shop) = (
+        convert::sheet(sheet),
+        Shop::with_slots([convert::slot(slot)]),
+    );
+    script
+        .read_again(&[1, 1, 1, 0, 0, 0])
+        .expect("a Return block");
+    script
+        .compile(&ours, Loader::Disc, 0, &shop)
+        .expect("a slot that was counted");
     let mut listed = 0;
     for n in 0..looked.combinations() {
         let answers = looked.answers(n);
-        let mut save = save(sheet, &answers).expect("every flag is in the save");
+        let mut save = save(sheet, &answers);
         let ran = script.run(&ours, 0, &mut save, 82);
-        tally.count("run of a setting", ran.refusal.map_or(0, |refused| refused.0));
+        tally.count(
+            "run of a setting",
+            ran.refusal.map_or(0, |refused| refused.0),
+        );
         let (item, expected) = (save.pair(0).0, looked.lists(&answers));
         let left = if expected { looked.item.into() } else { -1 };
-        tally.same("item variable", &item, &left, || format!("{answers:?} of {slot:?} on {sheet:?}"));
+        tally.same("item variable", &item, &left, || {
+            format!("{answers:?} of {slot:?} on {sheet:?}")
+        });
         listed += u32::from(item != -1);
     }
-    tally.same("settings by runs", &settings.listed, &listed, || format!("{slot:?} on {sheet:?}"));
+    tally.same("settings by runs", &settings.listed, &listed, || {
+        format!("{slot:?} on {sheet:?}")
+    });
 }
 
 fn check(tally: &mut Tally, sheet: &Sheet, slot: &Slot, script: &mut Script) {
-    let ours = convert::slot(slot).settings(&convert::sheet(sheet)).map_err(|refused| refused.0);
+    let ours = convert::slot(slot)
+        .settings(&convert::sheet(sheet))
+        .map_err(|refused| refused.0);
     tally.count("settings", ours.err().unwrap_or(0));
-    tally.same("settings", &ours, &counted(sheet, slot), || format!("{slot:?} on {sheet:?}"));
+    tally.same("settings", &ours, &counted(sheet, slot), || {
+        format!("{slot:?} on {sheet:?}")
+    });
     if let Ok(settings) = ours {
         run(tally, sheet, slot, settings, script);
     }
@@ -172,7 +197,11 @@ fn requirement(random: &mut Random, sheet: &Sheet) -> Requirement {
     let item = random.below(sheet.items() + past) as u16;
     let atc = random.below(usize::from(sheet.atcs).max(1) + past) as u16;
     let wide = random.byte().into();
-    let flag = if random.once_in(2) { random.pick(&NUMBERS) } else { wide };
+    let flag = if random.once_in(2) {
+        random.pick(&NUMBERS)
+    } else {
+        wide
+    };
     match random.below(6) {
         0 => Requirement::HaveItem(item),
         1 => Requirement::MissingItem(item),
@@ -186,9 +215,17 @@ fn requirement(random: &mut Random, sheet: &Sheet) -> Requirement {
 fn slot(random: &mut Random, sheet: &Sheet) -> Slot {
     let past = usize::from(random.once_in(50));
     let any = random.below(sheet.items() + past) as u16;
-    let item = random.pick(&[None, Some(any), Some(any), Some(any), Some(sheet.timers[0]), Some(sheet.timers[2])]);
-    let mut requirements: Vec<Requirement> =
-        (0..random.pick(&LENGTHS)).map(|_| requirement(random, sheet)).collect();
+    let item = random.pick(&[
+        None,
+        Some(any),
+        Some(any),
+        Some(any),
+        Some(sheet.timers[0]),
+        Some(sheet.timers[2]),
+    ]);
+    let mut requirements: Vec<Requirement> = (0..random.pick(&LENGTHS))
+        .map(|_| requirement(random, sheet))
+        .collect();
     // The acquired subject among them.
     if let (Some(first), Some(own)) = (requirements.first_mut(), item) {
         match random.below(4) {

@@ -1,8 +1,6 @@
 //! How many settings list a slot: 02's sentences one by one, and both refusals.
 
-use locustkeno::Requirement::{
-    HaveAtc, HaveFlag, HaveItem, MissingFlag, MissingItem,
-};
+use locustkeno::Requirement::{HaveAtc, HaveFlag, HaveItem, MissingFlag, MissingItem};
 use locustkeno::{Atc, Item, Refused, Requirement, Settings, Sheet, Slot};
 
 /// Eight items, item 1, which is Timer10, with atc 0, item 6 with atc 1; items 0, 1 and 2 are the timers.
@@ -59,7 +57,10 @@ fn contradictions_never_hold() {
 fn the_acquired_subject_once() {
     assert_eq!(counts(&slot(7, 1, &[])), (1, 2, 0));
     assert_eq!(counts(&slot(3, 1, &[HaveItem(Item(3))])), (1, 1, 1));
-    assert_eq!(counts(&slot(3, 1, &[MissingItem(Item(3)), HaveFlag(4)])), (2, 3, 1));
+    assert_eq!(
+        counts(&slot(3, 1, &[MissingItem(Item(3)), HaveFlag(4)])),
+        (2, 3, 1)
+    );
     assert_eq!(counts(&slot(6, 9, &[HaveAtc(Atc(1))])), (1, 1, 1));
     assert_eq!(counts(&slot(6, 9, &[HaveItem(Item(6))])), (2, 3, 1));
 }
@@ -80,7 +81,10 @@ fn sixteen_subjects() {
     assert_eq!(counts(&slot(7, 2, &flags)), (14, 1, 16_383));
     let settings = slot(0, 1, &flags).settings(&sheet()).unwrap();
     assert_eq!(settings.to_string(), "listed in 49,153 of 65,536 settings");
-    assert_eq!(Slot::default().settings(&sheet()).unwrap().to_string(), "listed in 0 of 1 settings");
+    assert_eq!(
+        Slot::default().settings(&sheet()).unwrap().to_string(),
+        "listed in 0 of 1 settings"
+    );
 }
 
 #[test]
