@@ -143,7 +143,7 @@ typedef struct {
  * are given. Each subject of its requirements (an item held, an atc held, a flag) is a yes or no, at coerced limit 1 also
  * the acquired one, and for a timer whether time[2] is its rate; the slot is listed where its item variable gets the item.
  * listed + hidden is 2 to the subjects, which are at most 16. No item: no subjects, 0 and 1. Refused (1, 8), every number
- * is 0. */
+ * is 0. 32 kilobytes of stack are enough (rust/locustkeno/tests/settings.rs). */
 lk_settings_of lk_settings(const uint8_t *attached, size_t attached_len, uint16_t atcs, uint16_t timer5, uint16_t timer10,
                            uint16_t timer15, int32_t item, int16_t limit, const uint64_t codes[LK_ENTRIES], uint8_t len);
 

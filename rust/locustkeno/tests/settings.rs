@@ -2,6 +2,7 @@
 
 use locustkeno::Requirement::{HaveAtc, HaveFlag, HaveItem, MissingFlag, MissingItem};
 use locustkeno::{Atc, Item, Refused, Requirement, Settings, Sheet, Slot};
+use std::thread;
 
 /// Eight items, item 1, which is Timer10, with atc 0, item 6 with atc 1; items 0, 1 and 2 are the timers.
 fn sheet() -> Sheet {
@@ -106,4 +107,16 @@ fn refusals() {
     // 1 before 8.
     let two = Sheet::new(&[None; 2], 0, [0, 1, 1].map(Item));
     assert_eq!(slot(8, 1, &[]).settings(&two), Err(Refused(1)));
+}
+
+/// With just the stack that the header promises to be enough: too little ends the whole test program.
+#[test]
+fn stack() {
+    let flags: Vec<Requirement> = (0..14).map(HaveFlag).collect();
+    let (sheet, slot) = (sheet(), slot(0, 1, &flags));
+    thread::scope(|scope| {
+        let builder = thread::Builder::new().stack_size(32 << 10);
+        let call = builder.spawn_scoped(scope, || slot.settings(&sheet));
+        call.unwrap().join().unwrap().unwrap();
+    });
 }
