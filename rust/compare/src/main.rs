@@ -8,6 +8,7 @@
 //! - `shops`: COUNT lists of compiles and ten times as many parses
 //! - `edits`: COUNT lists of edits by users with rights
 //! - `walks`: COUNT walks of many saves
+//! - `settings`: COUNT slots with all their settings
 //! - `reclaims`: COUNT reclaims of each kind and COUNT lists that mix them with compiles
 
 use compare::all;
@@ -16,7 +17,7 @@ use oracle::calls;
 use std::process::ExitCode;
 use std::{env, error::Error};
 
-const USAGE: &str = "usage: compare SEED COUNT [LONGEST [small]], or compare SEED COUNT KIND, KIND being shops, edits, walks or reclaims";
+const USAGE: &str = "usage: compare SEED COUNT [LONGEST [small]], or compare SEED COUNT KIND, KIND being shops, edits, walks, settings or reclaims";
 
 fn main() -> Result<ExitCode, Box<dyn Error>> {
     let arguments: Vec<String> = env::args().skip(1).collect();
@@ -30,6 +31,13 @@ fn main() -> Result<ExitCode, Box<dyn Error>> {
         ["shops"] => return said(seed, || compare::shops(seed, count)),
         ["edits"] => return said(seed, || compare::edits(seed, count)),
         ["walks"] => return said(seed, || compare::walks(seed, count)),
+        ["settings"] => {
+            println!(
+                "slowest slot: {:.2} microseconds",
+                compare::settings::slowest()
+            );
+            return said(seed, || compare::settings(seed, count));
+        }
         ["reclaims"] => return said(seed, || compare::reclaims(seed, count)),
         [longest] => (longest.parse()?, false),
         [longest, "small"] => (longest.parse()?, true),

@@ -138,9 +138,12 @@ unsafe extern "C" {
 }
 
 pub use rights::*;
+pub use settings::*;
 pub use shops::*;
 
 mod rights;
+
+mod settings;
 
 mod shops {
     use super::Kept;
