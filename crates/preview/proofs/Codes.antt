@@ -49,12 +49,3 @@ module _ (s : Save) where
   unfolding allHold
   all-held [] = refl
   all-held (c ∷ cs) = rw (all-held cs)
-
--- an entry of a slot is the code in its array, or 0 past that
-pub entry-is : (n : ℕ) (cs : List ℕ) (i : ℕ) → i < n → getD (entries n cs) i 0 ≡ getD cs i 0
-unfolding entries
-entry-is zero cs i h = absurd (omega arith)
-entry-is (suc n) [] zero h = refl
-entry-is (suc n) [] (suc i) h = entry-is n [] i (omega arith)
-entry-is (suc n) (c ∷ cs) zero h = refl
-entry-is (suc n) (c ∷ cs) (suc i) h = entry-is n cs i (omega arith)
