@@ -2,17 +2,14 @@
 use mathlib.Core.Path.{_≡_, refl, sym, ap, _∙_}
 use mathlib.Core.Bool.{Bool, true, false, not, cond}
 use mathlib.Core.List.{List, [], _∷_, map}
-use Prim.Native.Nat.{ℕ, zero, suc, _<_}
-use native.Mathlib.Omega.{arith}
+use Prim.Native.Nat.{ℕ}
 use lib.IntN.{pos}
-use lib.ListN.{getD}
 use Rattle.model.specs.Signed.{isZero}
 use Rattle.model.specs.Save.{Save, natAt}
 use Rattle.model.specs.Sheet.{all}
 use Rattle.model.specs.Requirement.{Requirement, haveItem, missingItem, haveAtc, missingAtc, haveFlag, missingFlag}
 use Rattle.model.specs.Meaning.{held, holds, allHold}
 use Rattle.shop_codes.specs.Codes.{requirementOf, subject, isMissing}
-use Rattle.shop.specs.Shapes.{entries}
 use Rattle.preview.specs.Tests.{isThere}
 
 module _ (s : Save) where

@@ -29,11 +29,11 @@ abbrev μ-loop : tie.MeasureT-loop
 abbrev listed : tie.Start Inv-loop μ-loop → List ℕ
 listed s = entries (s .args .len) (s .args .row .now)
 
-there : (c : tie.In-loop Inv-loop μ-loop) → c .before .loop .i < length (listed (c .before .before .before .before .before))
-there c = omega (arith, entries-length (c .before .before .before .before .before .args .len) (c .before .before .before .before .before .args .row .now), c .loop-test .taken)
+there : (c : tie.In-loop Inv-loop μ-loop) → c .before .loop .i < length (listed (c .before .before .before))
+there c = omega (arith, entries-length (c .before .before .before .args .len) (c .before .before .before .args .row .now), c .loop-test .taken)
 
-entry : (c : tie.In-loop Inv-loop μ-loop) → getD (listed (c .before .before .before .before .before)) (c .before .loop .i) 0 ≡ getD (c .before .before .before .before .before .args .row .now) (c .before .loop .i) 0
-entry c = entry-is (c .before .before .before .before .before .args .len) (c .before .before .before .before .before .args .row .now) (c .before .loop .i) (c .loop-test .taken)
+entry : (c : tie.In-loop Inv-loop μ-loop) → getD (listed (c .before .before .before)) (c .before .loop .i) 0 ≡ getD (c .before .before .before .args .row .now) (c .before .loop .i) 0
+entry c = entry-is (c .before .before .before .args .len) (c .before .before .before .args .row .now) (c .before .loop .i) (c .loop-test .taken)
 
 loop-holds : tie.Need-loop-holds Inv-loop μ-loop
 loop-holds c = start _ _
@@ -46,7 +46,7 @@ is-inside-requires c κs = search needs
 
 returns : tie.Need-returns Inv-loop μ-loop
 returns c =
-    let s = c .before .before .before .before .before .before .before .before in
+    let s = c .before .before .before .before .before .before in
     let a = c .before .before .before .before .loop in
     stop inside (listed s) (a .i) (a .inv) 0 (there (c .before .before .before))
     (ap inside (entry (c .before .before .before)) ∙ sym (ap inside (c .before .before .entry-at .ensures)) ∙ sym (c .before .is-inside .ensures) ∙ not-true _ (c .if1 .taken))
@@ -60,14 +60,14 @@ loop-less c = omega arith
 
 loop-again : tie.Need-loop-again Inv-loop μ-loop
 loop-again c =
-    let s = c .before .before .before .before .before .before .before .before in
+    let s = c .before .before .before .before .before .before in
     let a = c .before .before .before .before .loop in
     more inside (listed s) (a .i) (a .inv) 0 (there (c .before .before .before))
     (ap inside (entry (c .before .before .before)) ∙ sym (ap inside (c .before .before .entry-at .ensures)) ∙ sym (c .before .is-inside .ensures) ∙ not-false _ (c .if1 .left))
 
 returns-2 : tie.Need-returns-2 Inv-loop μ-loop
 returns-2 c =
-    let s = c .before .before .before .before .before in
+    let s = c .before .before .before in
     done inside (listed s) (c .before .loop .i) (c .before .loop .inv) (omega (arith, entries-length (s .args .len) (s .args .row .now), c .loop-test .left))
     ∙ sym (all-map reqInside requirementOf (listed s))
 

@@ -36,7 +36,7 @@ slot-inside-requires c κs = search needs
 returns : tie.Need-returns Inv-loop μ-loop
 unfolding slotsOf
 returns c =
-    let a = arrays (c .before .before .before .before .before) in
+    let a = arrays (c .before .before .before .before) in
     let i = c .before .before .before .loop .i in
     let l = c .before .before .loop-test .taken in
     stop inside (shopFrom a .slots) i (c .before .before .before .loop .inv) noSlot (omega (arith, slots-long a, l)) (ap inside (slot-in a i noSlot l) ∙ sym (c .before .slot-inside .ensures) ∙ not-true _ (c .if1 .taken))
@@ -50,7 +50,7 @@ loop-less c = omega arith
 
 loop-again : tie.Need-loop-again Inv-loop μ-loop
 loop-again c =
-    let a = arrays (c .before .before .before .before .before) in
+    let a = arrays (c .before .before .before .before) in
     let i = c .before .before .before .loop .i in
     let l = c .before .before .loop-test .taken in
     more inside (shopFrom a .slots) i (c .before .before .before .loop .inv) noSlot (omega (arith, slots-long a, l)) (ap inside (slot-in a i noSlot l) ∙ sym (c .before .slot-inside .ensures) ∙ not-false _ (c .if1 .left))
@@ -58,7 +58,7 @@ loop-again c =
 returns-2 : tie.Need-returns-2 Inv-loop μ-loop
 unfolding slotsOf
 returns-2 c =
-    let a = arrays (c .before .before .before) in
+    let a = arrays (c .before .before) in
     done inside (shopFrom a .slots) (c .before .loop .i) (c .before .loop .inv) (omega (arith, slots-long a, c .loop-test .left)) ∙ sym (all-map slotInside slotOf (shopFrom a .slots))
 
 pub flags-inside-spec : {M : Type 1} → statement M

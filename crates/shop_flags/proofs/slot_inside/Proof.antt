@@ -1,67 +1,74 @@
+-- `slot_inside` meets its contract, by the slot's item; the row is a part of the codes. Assumes nothing.
+use mathlib.Core.Path.{_≡_, refl, sym, ap, _∙_}
+use mathlib.Core.Bool.{true}
+use mathlib.Core.List.{List}
+use Prim.Native.Nat.{_*_, _-_, _+_}
+use native.Mathlib.Omega.{arith}
+use Rattle.model.specs.Limits.{entryLimit}
+use Rattle.model.specs.declared.ItemId.{ItemId}
+use Rattle.model.specs.Sheet.{all}
+use Rattle.model.specs.Requirement.{Requirement}
+use Rattle.model.specs.Flags.{insideFor, reqInside, slotInside}
+use Rattle.shop.specs.Shapes.{itemOf, slotOf}
+use Rattle.shop.specs.declared.SlotItem.{SlotItem}
+use Rattle.shop.specs.declared.SlotItem.the-variants.{Nothing, Of}
+use Rattle.shop_arrays.specs.Arrays.{slotAt}
 use borrow.Author.Needs.{needs}
 use Rattle.shop_flags.proofs.slot_inside.Statement.{statement}
 use Rattle.shop_flags.proofs.slot_inside.Tie as tie
-use Rattle.shop_flags.proofs.slot_inside.Reads as reads
-use Rattle.shop_flags.proofs.slot_inside.Lts as lts
-use Rattle.shop_arrays.proofs.item_at.Reads as item-at-reads
-use Rattle.shop_arrays.proofs.sizes.Reads as sizes-reads
-use Rattle.shop_flags.proofs.all_inside.Reads as all-inside-reads
 
--- src/lib.rt:73:5
+by-none : (o : SlotItem) (rs : List Requirement) → o ≡ Nothing → true ≡ insideFor (itemOf o) rs
+by-none o rs e = ap (λ (x : SlotItem). insideFor (itemOf x) rs) (sym e)
+
+by-item : (o : SlotItem) (w : ItemId) (rs : List Requirement) → o ≡ Of w → all reqInside rs ≡ insideFor (itemOf o) rs
+by-item o w rs e = ap (λ (x : SlotItem). insideFor (itemOf x) rs) (sym e)
+
 sizes-requires : tie.Need-sizes-requires
 sizes-requires c κs = search needs
 
--- src/lib.rt:74:9
 item-at-requires : tie.Need-item-at-requires
 item-at-requires c κs = search needs
 
--- src/lib.rt:76:30
 enum-told : tie.Need-enum-told
 enum-told c = search needs
 
--- src/lib.rt:78:31
 enum-told-2 : tie.Need-enum-told-2
 enum-told-2 c = search needs
 
--- src/lib.rt:79:25
 mul-start : tie.Need-mul-start
 mul-start c = search needs
 
--- src/lib.rt:80:23
 add-end : tie.Need-add-end
 add-end c = search needs
 
--- src/lib.rt:81:24
 mul-all-inside : tie.Need-mul-all-inside
 mul-all-inside c = search needs
 
--- src/lib.rt:81:24
 sub-all-inside : tie.Need-sub-all-inside
 sub-all-inside c = search needs
 
--- src/lib.rt:81:24
 part-all-inside-start : tie.Need-part-all-inside-start
 part-all-inside-start c = search needs
 
--- src/lib.rt:81:24
 part-all-inside-end : tie.Need-part-all-inside-end
 part-all-inside-end c = search needs
 
--- src/lib.rt:81:42
 element-copy-out-all-inside : tie.Need-element-copy-out-all-inside
 element-copy-out-all-inside c = search needs
 
--- src/lib.rt:81:13
 all-inside-requires : tie.Need-all-inside-requires
 all-inside-requires c κs = search needs
 
--- src/lib.rt:63:1
 returns : tie.Need-returns
-returns c = ?
+unfolding slotInside slotOf slotAt
+returns c = by-none _ _ (sym (c .before .before .item-at .ensures) ∙ c .enum-told .given .1)
 
--- src/lib.rt:63:1
 returns-2 : tie.Need-returns-2
-returns-2 c = ?
+unfolding slotInside slotOf slotAt
+returns-2 c =
+    let s = c .before .before .before .before .before .before .before .before in
+    let w : entryLimit * s .args .i + entryLimit - entryLimit * s .args .i ≡ entryLimit = omega arith in
+    (rw w at (c .all-inside .ensures)) ∙ by-item _ _ _ (sym (c .before .before .before .before .before .before .item-at .ensures) ∙ c .before .before .before .before .enum-told2 .given .1)
 
 pub slot-inside-spec : {M : Type 1} → statement M
 slot-inside-spec =
