@@ -1,7 +1,7 @@
 -- What the requirement of a code reads of a save, and whether it holds. Assumes nothing.
 use mathlib.Core.Path.{_≡_, refl, sym, ap, _∙_}
 use mathlib.Core.Bool.{Bool, true, false, not, cond}
-use mathlib.Core.List.{List, [], _∷_, map}
+use mathlib.Core.List.{List, map}
 use Prim.Native.Nat.{ℕ}
 use lib.IntN.{pos}
 use Rattle.model.specs.Signed.{isZero}
@@ -9,7 +9,9 @@ use Rattle.model.specs.Save.{Save, natAt}
 use Rattle.model.specs.Sheet.{all}
 use Rattle.model.specs.Requirement.{Requirement, haveItem, missingItem, haveAtc, missingAtc, haveFlag, missingFlag}
 use Rattle.model.specs.Meaning.{held, holds, allHold}
+use Rattle.model.specs.Laws.Runs.{all-hold}
 use Rattle.shop_codes.specs.Codes.{requirementOf, subject, isMissing}
+use Rattle.shop.proofs.All.{all-map}
 use Rattle.preview.specs.Tests.{isThere}
 
 module _ (s : Save) where
@@ -43,6 +45,4 @@ module _ (s : Save) where
   holds-by (missingFlag f) = twice (isZero (natAt (s .flags) f))
 
   pub all-held : (cs : List ℕ) → all (λ c. holds s (requirementOf c)) cs ≡ allHold s (map requirementOf cs)
-  unfolding allHold
-  all-held [] = refl
-  all-held (c ∷ cs) = rw (all-held cs)
+  all-held cs = sym (all-map (holds s) requirementOf cs) ∙ all-hold s (map requirementOf cs)
