@@ -36,7 +36,11 @@ fn save() -> Save {
 
 #[test]
 fn stops_at_the_first_slot_with_a_stray_flag() {
-    let stray = slot(6, 1, &[Requirement::HaveFlag(0), Requirement::MissingFlag(-1)]);
+    let stray = slot(
+        6,
+        1,
+        &[Requirement::HaveFlag(0), Requirement::MissingFlag(-1)],
+    );
     let shop = Shop::with_slots([
         slot(7, 3, &[]),
         Slot {
@@ -76,7 +80,10 @@ fn the_last_flag_is_read() {
             let mut save = save();
             save.flags[flag as usize] = set;
             assert_eq!(shop.preview(&sheet(), &save).unwrap().pairs[0], pair);
-            assert_eq!(compiled(&shop).run(&sheet(), 0, &mut save, BUDGET).refusal, None);
+            assert_eq!(
+                compiled(&shop).run(&sheet(), 0, &mut save, BUDGET).refusal,
+                None
+            );
             assert_eq!(save.pair(0), pair);
         }
     }
@@ -92,5 +99,8 @@ fn earlier_checks_answer_first() {
     assert_eq!(ran.refusal, Some(Refused(12)));
     let bad = Shop::with_slots([slot(8, 3, &[Requirement::HaveFlag(i32::MAX)])]);
     assert_eq!(bad.preview(&sheet(), &save()), Err(Refused(8)));
-    assert_eq!(Refused(23).to_string(), "the run would read a flag outside 0 to 2,047 (refusal 23)");
+    assert_eq!(
+        Refused(23).to_string(),
+        "the run would read a flag outside 0 to 2,047 (refusal 23)"
+    );
 }
