@@ -43,7 +43,9 @@ enum {
     LK_SLICE_SHORT = 16,
     LK_BORN_LATER = 17,
     LK_BAD_ROOTS = 18,
-    LK_DEMO_FULL = 19
+    LK_DEMO_FULL = 19,
+    LK_BAD_TARIFF = 24,
+    LK_BAD_BASKET = 25
 };
 
 /* A sentence for a refusal, "accepted" for 0. */
@@ -69,6 +71,12 @@ static inline const char *lk_message(unsigned refusal) {
         "the block given was appended by a compile",
         "over 256 roots are given, or one that is not a block",
         "the compile would pass a limit of the demo loader",
+        "the user is none of the sixteen",
+        "the slot is not there, or the user may not change that field",
+        "there are no saves or over 64, or a link does not go to a lower block",
+        "the run reads a flag that is not in the save",
+        "a price or the discount is out of range, or there is not one price for each item",
+        "a number is below 0, above its count, or above 0 where the item is not on the sheet",
     };
     return refusal < sizeof sentences / sizeof sentences[0] ? sentences[refusal] : "no refusal";
 }
@@ -202,6 +210,25 @@ static inline lk_previewed lk_shop_preview(const lk_sheet *sheet, const lk_shop 
     return lk_preview(sheet->attached, sheet->items, sheet->atcs, sheet->timer5, sheet->timer10, sheet->timer15,
                       shop->items, shop->limits, shop->codes, shop->lens, save->items, lk_items_of(sheet), save->held,
                       lk_atcs_of(sheet), save->flags, LK_FLAGS, save->times, LK_TIMES, save->vars, LK_VARIABLES);
+}
+
+/* The bill of a basket by its lines, and their sum. */
+typedef struct {
+    int32_t items[LK_SLOTS];
+    uint8_t slots[LK_SLOTS];
+    uint64_t coins[LK_SLOTS];
+    uint64_t total;
+} lk_lines;
+
+/* Refused, the lines stay as they were, and the total is 0. */
+static inline uint8_t lk_save_bill(const lk_sheet *sheet, const lk_save *save, const uint16_t *prices, size_t prices_len,
+                                   uint16_t discount, const int32_t basket[LK_SLOTS], lk_lines *bill) {
+    const lk_billed billed =
+        lk_bill(sheet->attached, sheet->items, sheet->atcs, sheet->timer5, sheet->timer10, sheet->timer15, save->items,
+                lk_items_of(sheet), save->held, lk_atcs_of(sheet), save->flags, LK_FLAGS, save->times, LK_TIMES,
+                save->vars, LK_VARIABLES, prices, prices_len, discount, basket, bill->items, bill->slots, bill->coins);
+    bill->total = billed.total;
+    return billed.refusal;
 }
 
 #ifdef __cplusplus

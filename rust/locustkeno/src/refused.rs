@@ -47,6 +47,12 @@ impl Refused {
             17 => "the block given was appended by a compile",
             18 => "over 256 roots are given, or one that is not a block",
             19 => "the compile would pass a limit of the demo loader",
+            24 => {
+                "a price or the discount is out of range, or there is not one price for each item"
+            }
+            25 => {
+                "a number is below 0, above its count, or above 0 where the item is not on the sheet"
+            }
             _ => "no refusal of documents 01 and 02",
         }
     }
