@@ -1,11 +1,12 @@
 //! Each call on a thread with just the stack that the header promises to be enough, on the largest and nastiest scripts.
 
-use locustkeno::{Item, Loader, Refused, Save, Script, Sheet, Shop, Slot};
+use locustkeno::{Basket, Item, Loader, Refused, Save, Script, Sheet, Shop, Slot, Tariff};
 use std::thread;
 
 const KILOBYTE: usize = 1 << 10;
 const READ: usize = 32 * KILOBYTE;
 const PREVIEW: usize = 32 * KILOBYTE;
+const BILL: usize = 32 * KILOBYTE;
 const WRITE: usize = 160 * KILOBYTE;
 const RUN: usize = 160 * KILOBYTE;
 const COMPILE: usize = 160 * KILOBYTE;
@@ -203,4 +204,11 @@ fn preview() {
     let shop = Shop::with_slots([]);
     let save = Save::new(&sheet());
     on_stack(PREVIEW, || done(shop.preview(&sheet(), &save)));
+}
+
+#[test]
+fn bill() {
+    let save = Save::new(&sheet());
+    let (tariff, basket) = (Tariff::new([30_000; 3], 0), Basket::counts(&save));
+    on_stack(BILL, || done(save.bill(&sheet(), &tariff, &basket)));
 }
