@@ -266,6 +266,25 @@ static inline uint8_t lk_shop_show(const lk_rights *rights, lk_shop *shop, uint3
     return lk_show(rights->bytes, shop->items, shop->limits, shop->codes, shop->lens, user);
 }
 
+/* The bill of a basket by its lines, and their sum. */
+typedef struct {
+    int32_t items[LK_SLOTS];
+    uint8_t slots[LK_SLOTS];
+    uint64_t coins[LK_SLOTS];
+    uint64_t total;
+} lk_lines;
+
+/* Refused, the lines stay as they were, and the total is 0. */
+static inline uint8_t lk_save_bill(const lk_sheet *sheet, const lk_save *save, const uint16_t *prices, size_t prices_len,
+                                   uint16_t discount, const int32_t basket[LK_SLOTS], lk_lines *bill) {
+    const lk_billed billed =
+        lk_bill(sheet->attached, sheet->items, sheet->atcs, sheet->timer5, sheet->timer10, sheet->timer15, save->items,
+                lk_items_of(sheet), save->held, lk_atcs_of(sheet), save->flags, LK_FLAGS, save->times, LK_TIMES,
+                save->vars, LK_VARIABLES, prices, prices_len, discount, basket, bill->items, bill->slots, bill->coins);
+    bill->total = billed.total;
+    return billed.refusal;
+}
+
 #ifdef __cplusplus
 }
 #endif

@@ -10,6 +10,7 @@
 //! - `walks`: COUNT walks of many saves
 //! - `settings`: COUNT slots with all their settings
 //! - `reclaims`: COUNT reclaims of each kind and COUNT lists that mix them with compiles
+//! - `bills`: COUNT bills of saves that were not run and COUNT after runs of compiled shops
 
 use compare::all;
 use compare::tally::Tally;
@@ -17,7 +18,7 @@ use oracle::calls;
 use std::process::ExitCode;
 use std::{env, error::Error};
 
-const USAGE: &str = "usage: compare SEED COUNT [LONGEST [small]], or compare SEED COUNT KIND, KIND being shops, edits, walks, settings or reclaims";
+const USAGE: &str = "usage: compare SEED COUNT [LONGEST [small]], or compare SEED COUNT KIND, KIND being shops, edits, walks, settings, reclaims or bills";
 
 fn main() -> Result<ExitCode, Box<dyn Error>> {
     let arguments: Vec<String> = env::args().skip(1).collect();
@@ -39,6 +40,7 @@ fn main() -> Result<ExitCode, Box<dyn Error>> {
             return said(seed, || compare::settings(seed, count));
         }
         ["reclaims"] => return said(seed, || compare::reclaims(seed, count)),
+        ["bills"] => return said(seed, || compare::bills(seed, count)),
         [longest] => (longest.parse()?, false),
         [longest, "small"] => (longest.parse()?, true),
         _ => return Err(USAGE.into()),

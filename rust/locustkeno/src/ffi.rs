@@ -139,11 +139,14 @@ unsafe extern "C" {
 
 pub use rights::*;
 pub use settings::*;
+pub use bill::*;
 pub use shops::*;
 
 mod rights;
 
 mod settings;
+
+mod bill;
 
 mod shops {
     use super::Kept;

@@ -15,6 +15,7 @@
 //! ```
 
 mod arrays;
+mod bill;
 mod ffi;
 mod lanes;
 mod reclaim;
@@ -31,6 +32,7 @@ mod view;
 
 pub use arrays::{Arrays, Births, BlockWords, CommandWords, NodeWords, Values};
 pub use lanes::{LANES, Saves, Walk};
+pub use bill::{Basket, Bill, Line, Tariff};
 pub use reclaim::Moved;
 pub use refused::Refused;
 pub use rights::{Content, Edit, Right, Rights, USERS};

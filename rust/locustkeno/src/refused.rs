@@ -62,7 +62,6 @@ impl Refused {
             26 => "over 1,000 wishes are given",
             27 => "a wished slot is not there",
             28 => "the money is above 1,000,000 coins",
-            23 => "the run would read a flag outside 0 to 2,047",
             _ => "no refusal of documents 01 and 02",
         }
     }
