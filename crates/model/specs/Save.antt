@@ -15,7 +15,7 @@ pub record Save : Type 0 where
   pub times : List ℤ
   pub variables : List ℤ
 
--- reads outside the save give 0
+-- outside the save these give 0
 abbrev pub natAt : List ℕ → ℤ → ℤ
 natAt l (pos n) = pos (getD l n 0)
 natAt l (negsuc n) = pos 0
@@ -24,7 +24,7 @@ abbrev pub intAt : List ℤ → ℤ → ℤ
 intAt l (pos n) = getD l n (pos 0)
 intAt l (negsuc n) = pos 0
 
--- A.10: which numbers are flags of the save
+-- A.10: which numbers are flags of the save; no other flag is read
 abbrev pub flagInside : ℤ → Bool
 flagInside (pos n) = ltb n flagCount
 flagInside (negsuc n) = false

@@ -29,7 +29,7 @@ use Rattle.model.specs.Laws.Eval.{ComesTo, OnBits, Worth, eval-acquired,
 use Rattle.model.specs.Laws.SlotRuns.{After, Fits, Goes, Reach, Stands, Steps, at, does-pair, eval-remaining, go, here, once, stock-bare, stock-hid, unique-bare, unique-hid, weaken}
 use Rattle.model.specs.Laws.Writes.{setTemp, write, writes}
 
--- ---- sorting changes nothing about what holds
+-- ---- sorting changes nothing about what is true of each requirement
 
 ofKind : ℕ → ℤ → Requirement
 ofKind zero z = haveItem (mag z)
@@ -70,7 +70,6 @@ and-swap true false c = refl
 and-swap false true c = refl
 and-swap false false c = refl
 
--- nor about a test of each
 insert-all : (p : Requirement → Bool) (r : Requirement) (xs : List Requirement) → all p (insert r xs) ≡ p r && all p xs
 unfolding insert
 insert-all p r [] = refl
@@ -86,22 +85,13 @@ unfolding sorted
 sorted-all p [] = refl
 sorted-all p (r ∷ rs) = insert-all p r (sorted rs) ∙ ap (λ b. p r && b) (sorted-all p rs)
 
-module _ (s : Save) where
-  insert-hold : (r : Requirement) (xs : List Requirement) → allHold s (insert r xs) ≡ holds s r && allHold s xs
-  unfolding insert allHold
-  insert-hold r [] = refl
-  insert-hold r (x ∷ xs) = pick (sameReq r x) refl (before r x) (insert-hold r xs)
-    where
-      pick : (b : Bool) → sameReq r x ≡ b → (c : Bool) → allHold s (insert r xs) ≡ holds s r && allHold s xs
-          → allHold s (cond b (x ∷ xs) (cond c (r ∷ x ∷ xs) (x ∷ insert r xs))) ≡ holds s r && (holds s x && allHold s xs)
-      pick true p c ih = rw (sameReq-true r x p) (and-idem (holds s x) (allHold s xs))
-      pick false p true ih = refl
-      pick false p false ih = rw ih (and-swap (holds s x) (holds s r) (allHold s xs))
+pub all-hold : (s : Save) (rs : List Requirement) → all (holds s) rs ≡ allHold s rs
+unfolding allHold
+all-hold s [] = refl
+all-hold s (r ∷ rs) = ap (λ b. holds s r && b) (all-hold s rs)
 
-  pub sorted-hold : (rs : List Requirement) → allHold s (sorted rs) ≡ allHold s rs
-  unfolding sorted allHold
-  sorted-hold [] = refl
-  sorted-hold (r ∷ rs) = insert-hold r (sorted rs) ∙ ap (λ b. holds s r && b) (sorted-hold rs)
+pub sorted-hold : (s : Save) (rs : List Requirement) → allHold s (sorted rs) ≡ allHold s rs
+sorted-hold s rs = sym (all-hold s (sorted rs)) ∙ sorted-all (holds s) rs ∙ all-hold s rs
 
 -- ---- a limit is at most 10
 
