@@ -1,6 +1,7 @@
 //! The proved library held against the original, against a hand-written interpreter and against
 //! document 01's meaning of a shop, on the same inputs.
 
+pub mod bill;
 pub mod convert;
 pub mod images;
 pub mod interpret;
@@ -42,6 +43,7 @@ pub fn all(seed: u64, count: usize, longest: usize, small: bool) -> Tally {
     }
     runs::operators(&mut tally, &mut random);
     reclaimed(&mut tally, &mut random, count);
+    billed(&mut tally, &mut random, count);
     tally
 }
 
@@ -59,6 +61,18 @@ pub fn reclaims(seed: u64, count: usize) -> Tally {
     let mut tally = Tally::default();
     reclaimed(&mut tally, &mut Random::new(seed), count);
     tally
+}
+
+/// Bills alone.
+pub fn bills(seed: u64, count: usize) -> Tally {
+    let mut tally = Tally::default();
+    billed(&mut tally, &mut Random::new(seed), count);
+    tally
+}
+
+fn billed(tally: &mut Tally, random: &mut Random, count: usize) {
+    bill::random(tally, random, count);
+    bill::after_runs(tally, random, count);
 }
 
 fn reclaimed(tally: &mut Tally, random: &mut Random, count: usize) {

@@ -98,7 +98,10 @@ unsafe extern "C" {
     ) -> Kept;
 }
 
+pub use bill::*;
 pub use shops::*;
+
+mod bill;
 
 mod shops {
     use super::Kept;

@@ -15,6 +15,7 @@
 //! ```
 
 mod arrays;
+mod bill;
 mod ffi;
 mod reclaim;
 mod refused;
@@ -25,6 +26,7 @@ mod sheet;
 mod shop;
 
 pub use arrays::{Arrays, Births, BlockWords, CommandWords, NodeWords, Values};
+pub use bill::{Basket, Bill, Line, Tariff};
 pub use reclaim::Moved;
 pub use refused::Refused;
 pub use room::{Room, Use};

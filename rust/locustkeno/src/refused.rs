@@ -48,6 +48,12 @@ impl Refused {
             18 => "over 256 roots are given, or one that is not a block",
             19 => "the compile would pass a limit of the demo loader",
             23 => "the run would read a flag outside 0 to 2,047",
+            24 => {
+                "a price or the discount is out of range, or there is not one price for each item"
+            }
+            25 => {
+                "a number is below 0, above its count, or above 0 where the item is not on the sheet"
+            }
             _ => "no refusal of documents 01 and 02",
         }
     }

@@ -1,0 +1,238 @@
+/* The calls of locustkeno.h over plain structs: what travels together is one struct. Everything here is static inline and only hands
+ * memory over; no call allocates. locustkeno.h includes this file. */
+#ifndef LOCUSTKENO_STRUCTS_H
+#define LOCUSTKENO_STRUCTS_H
+
+#ifdef __cplusplus
+extern "C" {
+#endif
+
+#define LK_VERSION "0.2.0"
+
+/* What a save has, what a sheet may have, the blocks that a compiled shop's run enters at most, and the bytes that every image fits in. */
+#define LK_FLAGS 2048
+#define LK_TIMES 8
+#define LK_VARIABLES 1024
+#define LK_MOST_ITEMS 512
+#define LK_MOST_ATCS 64
+#define LK_BUDGET 82
+#define LK_MOST_IMAGE 360453
+
+/* The variables from which on a slot's item and count are kept. */
+#define LK_ITEM_FIRST 600
+#define LK_COUNT_FIRST 620
+
+/* Refusals by name; docs/REFUSALS.md says what to do about each. */
+enum {
+    LK_ACCEPTED = 0,
+    LK_BAD_SHEET = 1,
+    LK_BAD_IMAGE = 2,
+    LK_OVER_LIMIT = 3,
+    LK_TOO_DEEP = 4,
+    LK_NO_SUCH_LINK = 5,
+    LK_NOT_BLOCK = 6,
+    LK_NOT_CODE = 7,
+    LK_BAD_SHOP = 8,
+    LK_NO_ROOM = 9,
+    LK_PARSE_NOT_CODE = 10,
+    LK_PARSE_TOO_MANY = 11,
+    LK_BAD_SAVE = 12,
+    LK_MET_OTHER = 13,
+    LK_NO_NEXT = 14,
+    LK_BUDGET_SPENT = 15,
+    LK_SLICE_SHORT = 16,
+    LK_BORN_LATER = 17,
+    LK_BAD_ROOTS = 18,
+    LK_DEMO_FULL = 19,
+    LK_BAD_TARIFF = 24,
+    LK_BAD_BASKET = 25
+};
+
+/* A sentence for a refusal, "accepted" for 0. */
+static inline const char *lk_message(unsigned refusal) {
+    static const char *const sentences[] = {
+        "accepted",
+        "the sheet breaks a range",
+        "the image is cut short, has a bad number or an unknown code, or bytes are left over",
+        "the script passes a limit",
+        "an expression is deeper than 64",
+        "a block is named that is not there",
+        "the number given is not a block",
+        "the block given is not code",
+        "the shop has an id outside the sheet, or over 14 entries in a slot",
+        "the compile would pass a limit of the script",
+        "the parse reaches a block that is not code",
+        "the parse reads a 15th requirement for a slot",
+        "the save has a wrong length or value",
+        "the run meets a block that is not code, or an unknown command, target or expression",
+        "the run needs a next block and there is none",
+        "the run's budget is spent",
+        "the slice is too short for the image",
+        "the block given was appended by a compile",
+        "over 256 roots are given, or one that is not a block",
+        "the compile would pass a limit of the demo loader",
+        "the user is none of the sixteen",
+        "the slot is not there, or the user may not change that field",
+        "there are no saves or over 64, or a link does not go to a lower block",
+        "the run reads a flag that is not in the save",
+        "a price or the discount is out of range, or there is not one price for each item",
+        "a number is below 0, above its count, or above 0 where the item is not on the sheet",
+    };
+    return refusal < sizeof sentences / sizeof sentences[0] ? sentences[refusal] : "no refusal";
+}
+
+/* For each of items ids its atc + 1, or 0; the count of atcs; the items of the three timers. */
+typedef struct {
+    const uint8_t *attached;
+    size_t items;
+    uint16_t atcs, timer5, timer10, timer15;
+} lk_sheet;
+
+/* A script in memory with its kept counts, birth marks and count of accepted compiles: over half a megabyte, so no local variable. */
+typedef struct {
+    uint16_t ws[LK_NODE_WORDS];
+    int32_t val[LK_VALUES];
+    uint16_t cw[LK_COMMAND_WORDS];
+    uint16_t bw[LK_BLOCK_WORDS];
+    uint32_t births[LK_BLOCKS];
+    uint16_t nodes, commands, blocks;
+    uint32_t compiles;
+} lk_script;
+
+/* Twenty slots. A zeroed one has item 0 in every slot: begin with LK_EMPTY_SHOP. */
+typedef struct {
+    int32_t items[LK_SLOTS];
+    int16_t limits[LK_SLOTS];
+    uint64_t codes[LK_SLOTS * LK_ENTRIES];
+    uint8_t lens[LK_SLOTS];
+} lk_shop;
+
+#define LK_EMPTY_SHOP                                                                                                  \
+    {                                                                                                                  \
+        {-1, -1, -1, -1, -1, -1, -1, -1, -1, -1, -1, -1, -1, -1, -1, -1, -1, -1, -1, -1}, {0}, {0}, { 0 }              \
+    }
+
+/* A save: of items and held only as many count as the sheet has items and atcs. A zeroed one is fine. */
+typedef struct {
+    int16_t items[LK_MOST_ITEMS];
+    uint8_t held[LK_MOST_ATCS];
+    uint8_t flags[LK_FLAGS];
+    int16_t times[LK_TIMES];
+    int32_t vars[LK_VARIABLES];
+} lk_save;
+
+/* Kinds of requirements, in their sorting order. */
+enum { LK_HAVE_ITEM, LK_MISSING_ITEM, LK_HAVE_ATC, LK_MISSING_ATC, LK_HAVE_FLAG, LK_MISSING_FLAG };
+
+static inline uint64_t lk_requirement(unsigned kind, int32_t number) {
+    return ((uint64_t)kind << 32) + (uint64_t)((int64_t)number + 2147483648LL);
+}
+
+/* Puts an item and a limit into slot i, which loses its requirements. */
+static inline void lk_shop_slot(lk_shop *shop, size_t i, int32_t item, int16_t limit) {
+    shop->items[i] = item;
+    shop->limits[i] = limit;
+    shop->lens[i] = 0;
+}
+
+/* One requirement more for slot i. 0 where the slot has LK_ENTRIES already: then nothing changes. */
+static inline int lk_shop_require(lk_shop *shop, size_t i, uint64_t requirement) {
+    if (LK_ENTRIES <= shop->lens[i]) {
+        return 0;
+    }
+    shop->codes[i * LK_ENTRIES + shop->lens[i]] = requirement;
+    shop->lens[i]++;
+    return 1;
+}
+
+/* The lengths of a save's slices: never more than a save here has. A sheet with more is refused (1) before the save is looked at. */
+static inline size_t lk_items_of(const lk_sheet *sheet) {
+    return sheet->items < LK_MOST_ITEMS ? sheet->items : LK_MOST_ITEMS;
+}
+
+static inline size_t lk_atcs_of(const lk_sheet *sheet) {
+    return sheet->atcs < LK_MOST_ATCS ? sheet->atcs : LK_MOST_ATCS;
+}
+
+static inline uint8_t lk_keep(lk_script *script, lk_kept kept) {
+    script->nodes = kept.nodes;
+    script->commands = kept.commands;
+    script->blocks = kept.blocks;
+    script->compiles = kept.compiles;
+    return kept.refusal;
+}
+
+/* Each of these answers the refusal or 0. */
+
+static inline uint8_t lk_script_read(lk_script *script, const uint8_t *bytes, size_t len) {
+    return lk_keep(script, lk_read(bytes, len, script->ws, script->val, script->cw, script->bw, script->births));
+}
+
+/* A script of one block that returns. */
+static inline void lk_script_new(lk_script *script) {
+    static const uint8_t one_return[] = {1, 1, 1, 0, 0, 0};
+    (void)lk_script_read(script, one_return, sizeof one_return);
+}
+
+static inline lk_written lk_script_write(const lk_script *script, uint8_t *out, size_t len) {
+    return lk_write(script->ws, script->val, script->cw, script->bw, script->nodes, script->commands, script->blocks, out,
+                    len);
+}
+
+static inline lk_ran lk_script_run(const lk_sheet *sheet, const lk_script *script, uint32_t start, lk_save *save,
+                                   uint32_t budget) {
+    return lk_run(sheet->attached, sheet->items, sheet->atcs, sheet->timer5, sheet->timer10, sheet->timer15, script->ws,
+                  script->val, script->cw, script->bw, script->nodes, script->commands, script->blocks, start,
+                  save->items, lk_items_of(sheet), save->held, lk_atcs_of(sheet), save->flags, LK_FLAGS, save->times,
+                  LK_TIMES, save->vars, LK_VARIABLES, budget);
+}
+
+static inline uint8_t lk_script_compile(const lk_sheet *sheet, lk_script *script, uint32_t setup, const lk_shop *shop,
+                                        uint8_t loader) {
+    return lk_keep(script, lk_compile(sheet->attached, sheet->items, sheet->atcs, sheet->timer5, sheet->timer10,
+                                      sheet->timer15, script->ws, script->val, script->cw, script->bw, script->births,
+                                      script->nodes, script->commands, script->blocks, script->compiles, loader, setup,
+                                      shop->items, shop->limits, shop->codes, shop->lens));
+}
+
+static inline uint8_t lk_script_reclaim(lk_script *script, const uint32_t *roots, size_t len, uint16_t moved[LK_BLOCKS]) {
+    return lk_keep(script, lk_reclaim(script->ws, script->val, script->cw, script->bw, script->births, script->nodes,
+                                      script->commands, script->blocks, script->compiles, roots, len, moved));
+}
+
+static inline uint8_t lk_script_parse(const lk_sheet *sheet, const lk_script *script, uint32_t setup, lk_shop *shop) {
+    return lk_parse(sheet->attached, sheet->items, sheet->atcs, sheet->timer5, sheet->timer10, sheet->timer15, script->ws,
+                    script->val, script->cw, script->bw, script->nodes, script->commands, script->blocks, setup,
+                    shop->items, shop->limits, shop->codes, shop->lens);
+}
+
+static inline lk_previewed lk_shop_preview(const lk_sheet *sheet, const lk_shop *shop, const lk_save *save) {
+    return lk_preview(sheet->attached, sheet->items, sheet->atcs, sheet->timer5, sheet->timer10, sheet->timer15,
+                      shop->items, shop->limits, shop->codes, shop->lens, save->items, lk_items_of(sheet), save->held,
+                      lk_atcs_of(sheet), save->flags, LK_FLAGS, save->times, LK_TIMES, save->vars, LK_VARIABLES);
+}
+
+/* The bill of a basket by its lines, and their sum. */
+typedef struct {
+    int32_t items[LK_SLOTS];
+    uint8_t slots[LK_SLOTS];
+    uint64_t coins[LK_SLOTS];
+    uint64_t total;
+} lk_lines;
+
+/* Refused, the lines stay as they were, and the total is 0. */
+static inline uint8_t lk_save_bill(const lk_sheet *sheet, const lk_save *save, const uint16_t *prices, size_t prices_len,
+                                   uint16_t discount, const int32_t basket[LK_SLOTS], lk_lines *bill) {
+    const lk_billed billed =
+        lk_bill(sheet->attached, sheet->items, sheet->atcs, sheet->timer5, sheet->timer10, sheet->timer15, save->items,
+                lk_items_of(sheet), save->held, lk_atcs_of(sheet), save->flags, LK_FLAGS, save->times, LK_TIMES,
+                save->vars, LK_VARIABLES, prices, prices_len, discount, basket, bill->items, bill->slots, bill->coins);
+    bill->total = billed.total;
+    return billed.refusal;
+}
+
+#ifdef __cplusplus
+}
+#endif
+
+#endif

@@ -1,0 +1,61 @@
+/* A shop compiled, run, read back and previewed through the structs of the header; compiled as C and as C++. Exit status 0: all as due. */
+#include "locustkeno.h"
+
+#include <stdio.h>
+#include <string.h>
+
+static lk_script script;
+static uint8_t image[LK_MOST_IMAGE];
+static uint16_t moved[LK_BLOCKS];
+
+static int failed;
+
+static void expect(int holds, const char *what) {
+    if (!holds) {
+        printf("not so: %s\n", what);
+        failed = 1;
+    }
+}
+
+int main(void) {
+    static const uint8_t attached[8] = {0};
+    static const uint32_t roots[] = {0};
+    const lk_sheet sheet = {attached, 8, 0, 0, 1, 2};
+    static lk_save save;
+    lk_shop shop = LK_EMPTY_SHOP;
+    lk_shop read = LK_EMPTY_SHOP;
+    lk_ran ran;
+    lk_previewed seen;
+    lk_written written;
+    static const uint16_t prices[8] = {1, 1, 1, 1, 1, 1, 1, 1};
+    static lk_lines bill;
+
+    lk_shop_slot(&shop, 0, 7, 3);
+    expect(lk_shop_require(&shop, 0, lk_requirement(LK_MISSING_FLAG, 40)), "room for a requirement");
+    lk_script_new(&script);
+    expect(lk_script_compile(&sheet, &script, 0, &shop, LK_DISC) == LK_ACCEPTED, "compiled");
+    expect(script.blocks == 26 && script.compiles == 1, "25 blocks appended");
+    expect(lk_script_compile(&sheet, &script, 1, &shop, LK_DISC) == LK_BORN_LATER, "17 at an appended block");
+    save.items[7] = 1;
+    seen = lk_shop_preview(&sheet, &shop, &save);
+    ran = lk_script_run(&sheet, &script, 0, &save, LK_BUDGET);
+    expect(ran.refusal == LK_ACCEPTED && ran.entered == 24, "run of 24 blocks");
+    expect(save.vars[LK_ITEM_FIRST] == 7 && save.vars[LK_COUNT_FIRST] == 2, "two are left");
+    expect(seen.refusal == LK_ACCEPTED && seen.items[0] == 7 && seen.counts[0] == 2, "the preview agrees");
+    expect(lk_save_bill(&sheet, &save, prices, 8, 500, save.vars + LK_COUNT_FIRST, &bill) == LK_ACCEPTED, "billed");
+    expect(bill.total == 1 && bill.items[0] == -1 && bill.slots[0] == 1, "a line for each slot, hidden ones first");
+    expect(bill.items[19] == 7 && bill.slots[19] == 0 && bill.coins[19] == 1, "two pieces at half a coin");
+    expect(lk_save_bill(&sheet, &save, prices, 7, 500, save.vars + LK_COUNT_FIRST, &bill) == LK_BAD_TARIFF, "24 for a price too few");
+    expect(lk_script_parse(&sheet, &script, 0, &read) == LK_ACCEPTED, "parsed");
+    expect(memcmp(read.items, shop.items, sizeof read.items) == 0 && memcmp(read.limits, shop.limits, sizeof read.limits) == 0,
+           "items and limits read back");
+    expect(memcmp(read.codes, shop.codes, sizeof read.codes) == 0 && memcmp(read.lens, shop.lens, sizeof read.lens) == 0,
+           "requirements read back");
+    expect(lk_script_reclaim(&script, roots, 1, moved) == LK_ACCEPTED && moved[0] == 1, "reclaimed");
+    written = lk_script_write(&script, image, sizeof image);
+    expect(written.refusal == LK_ACCEPTED && written.len > 0, "written");
+    expect(lk_script_read(&script, image, written.len) == LK_ACCEPTED && script.blocks == 26, "read again");
+    expect(lk_script_write(&script, image, written.len - 1).refusal == LK_SLICE_SHORT, "16 in a byte less");
+    expect(strcmp(lk_message(LK_NO_ROOM), "the compile would pass a limit of the script") == 0, "a sentence for 9");
+    return failed;
+}
