@@ -2,6 +2,7 @@
 //! document 01's meaning of a shop, on the same inputs.
 
 pub mod bill;
+pub mod shopper;
 pub mod convert;
 pub mod images;
 pub mod interpret;
@@ -44,6 +45,7 @@ pub fn all(seed: u64, count: usize, longest: usize, small: bool) -> Tally {
     runs::operators(&mut tally, &mut random);
     reclaimed(&mut tally, &mut random, count);
     billed(&mut tally, &mut random, count);
+    shopper::random(&mut tally, &mut random, count);
     tally
 }
 
@@ -67,6 +69,13 @@ pub fn reclaims(seed: u64, count: usize) -> Tally {
 pub fn bills(seed: u64, count: usize) -> Tally {
     let mut tally = Tally::default();
     billed(&mut tally, &mut Random::new(seed), count);
+    tally
+}
+
+/// Shoppers alone.
+pub fn shoppers(seed: u64, count: usize) -> Tally {
+    let mut tally = Tally::default();
+    shopper::random(&mut tally, &mut Random::new(seed), count);
     tally
 }
 

@@ -5,7 +5,7 @@
 //! small blocks too. `compare SEED COUNT shops` makes COUNT lists of compiles and ten times as many
 //! parses, and nothing else; `compare SEED COUNT reclaims` makes COUNT reclaims of each kind and COUNT
 //! lists that mix them with compiles; `compare SEED COUNT bills` makes COUNT bills of saves that were not run and
-//! COUNT after runs of compiled shops. It ends with 1 where something differs.
+//! COUNT after runs of compiled shops; `compare SEED COUNT shoppers` makes COUNT shoppers. It ends with 1 where something differs.
 
 use compare::all;
 use compare::tally::Tally;
@@ -14,7 +14,7 @@ use std::process::ExitCode;
 use std::{env, error::Error};
 
 const USAGE: &str =
-    "usage: compare SEED COUNT [LONGEST [small]], or compare SEED COUNT shops|reclaims|bills";
+    "usage: compare SEED COUNT [LONGEST [small]], or compare SEED COUNT shops|reclaims|bills|shoppers";
 
 fn main() -> Result<ExitCode, Box<dyn Error>> {
     let arguments: Vec<String> = env::args().skip(1).collect();
@@ -27,6 +27,7 @@ fn main() -> Result<ExitCode, Box<dyn Error>> {
         [] => (3, false),
         ["shops"] => return said(seed, || compare::shops(seed, count)),
         ["reclaims"] => return said(seed, || compare::reclaims(seed, count)),
+        ["shoppers"] => return said(seed, || compare::shoppers(seed, count)),
         ["bills"] => return said(seed, || compare::bills(seed, count)),
         [longest] => (longest.parse()?, false),
         [longest, "small"] => (longest.parse()?, true),

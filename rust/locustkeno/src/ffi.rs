@@ -99,9 +99,11 @@ unsafe extern "C" {
 }
 
 pub use bill::*;
+pub use shopper::*;
 pub use shops::*;
 
 mod bill;
+mod shopper;
 
 mod shops {
     use super::Kept;

@@ -24,6 +24,7 @@ mod save;
 mod script;
 mod sheet;
 mod shop;
+mod shopper;
 
 pub use arrays::{Arrays, Births, BlockWords, CommandWords, NodeWords, Values};
 pub use bill::{Basket, Bill, Line, Tariff};
@@ -34,4 +35,5 @@ pub use save::{FLAGS, Save, TIMES, VARIABLES};
 pub use script::Preview;
 pub use script::{Loader, Ran, Script};
 pub use sheet::{Atc, Item, Sheet};
+pub use shopper::{Shopper, Step, WISHES};
 pub use shop::{ENTRIES, NUM_SLOTS, Requirement, Shop, Slot};

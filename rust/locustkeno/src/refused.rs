@@ -54,6 +54,9 @@ impl Refused {
             25 => {
                 "a number is below 0, above its count, or above 0 where the item is not on the sheet"
             }
+            26 => "the list has over 1,000 wishes",
+            27 => "a wished slot is outside 0 to 19",
+            28 => "the money is outside 0 to 1,000,000",
             _ => "no refusal of documents 01 and 02",
         }
     }

@@ -1,6 +1,6 @@
 //! Each call on a thread with just the stack that the header promises to be enough, on the largest and nastiest scripts.
 
-use locustkeno::{Item, Loader, Refused, Save, Script, Sheet, Shop, Slot};
+use locustkeno::{Item, Loader, Refused, Requirement, Save, Script, Sheet, Shop, Shopper, Slot, Tariff};
 use std::thread;
 
 const KILOBYTE: usize = 1 << 10;
@@ -11,6 +11,7 @@ const RUN: usize = 160 * KILOBYTE;
 const COMPILE: usize = 160 * KILOBYTE;
 const PARSE: usize = 512 * KILOBYTE;
 const RECLAIM: usize = 768 * KILOBYTE;
+const SHOPPER: usize = 768 * KILOBYTE;
 
 fn sheet() -> Sheet {
     Sheet::new(&[None; 3], 0, [Item(0), Item(1), Item(2)])
@@ -203,4 +204,22 @@ fn preview() {
     let shop = Shop::with_slots([]);
     let save = Save::new(&sheet());
     on_stack(PREVIEW, || done(shop.preview(&sheet(), &save)));
+}
+
+#[test]
+fn shopper() {
+    let slot = Slot {
+        item: Some(Item(0)),
+        limit: 1,
+        requirements: vec![Requirement::MissingItem(Item(1)); 14],
+    };
+    let shop = Shop::with_slots(vec![slot; 20]);
+    let tariff = Tariff::new([1; 3], 0);
+    let mut shopper = Shopper {
+        save: Save::new(&sheet()),
+        money: 1_000_000,
+    };
+    on_stack(SHOPPER, || {
+        done(shopper.shop(&sheet(), &shop, &tariff, &[19; 1_000]))
+    });
 }
