@@ -2,7 +2,6 @@
 //! document 01's meaning of a shop, on the same inputs.
 
 pub mod bill;
-pub mod shopper;
 pub mod convert;
 pub mod images;
 pub mod interpret;
@@ -14,6 +13,7 @@ pub mod recounted;
 pub mod runs;
 pub mod saves;
 pub mod shared;
+pub mod shopper;
 pub mod shops;
 pub mod small;
 pub mod survivors;

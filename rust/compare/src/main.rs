@@ -13,8 +13,7 @@ use oracle::calls;
 use std::process::ExitCode;
 use std::{env, error::Error};
 
-const USAGE: &str =
-    "usage: compare SEED COUNT [LONGEST [small]], or compare SEED COUNT shops|reclaims|bills|shoppers";
+const USAGE: &str = "usage: compare SEED COUNT [LONGEST [small]], or compare SEED COUNT shops|reclaims|bills|shoppers";
 
 fn main() -> Result<ExitCode, Box<dyn Error>> {
     let arguments: Vec<String> = env::args().skip(1).collect();

@@ -35,5 +35,5 @@ pub use save::{FLAGS, Save, TIMES, VARIABLES};
 pub use script::Preview;
 pub use script::{Loader, Ran, Script};
 pub use sheet::{Atc, Item, Sheet};
-pub use shopper::{Shopper, Step, WISHES};
 pub use shop::{ENTRIES, NUM_SLOTS, Requirement, Shop, Slot};
+pub use shopper::{Shopper, Step, WISHES};

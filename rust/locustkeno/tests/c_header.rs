@@ -25,7 +25,10 @@ fn compiled_and_run(compiler: &str, words: &[&str], name: &str) {
         .arg(&program)
         .status()
         .expect("a C compiler is there");
-    assert!(built.success(), "{compiler} refuses the header or the program");
+    assert!(
+        built.success(),
+        "{compiler} refuses the header or the program"
+    );
     let ran = Command::new(&program).output().expect("the program runs");
     assert!(
         ran.status.success(),

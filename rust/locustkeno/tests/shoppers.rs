@@ -26,7 +26,12 @@ fn shopper(money: u32) -> Shopper {
     }
 }
 
-fn shop(shopper: &mut Shopper, slots: &[Slot], price: u16, wishes: &[u8]) -> Result<Vec<Step>, Refused> {
+fn shop(
+    shopper: &mut Shopper,
+    slots: &[Slot],
+    price: u16,
+    wishes: &[u8],
+) -> Result<Vec<Step>, Refused> {
     let shop = Shop::with_slots(slots.to_vec());
     shopper.shop(&sheet(), &shop, &Tariff::new([price; 8], 0), wishes)
 }
@@ -36,7 +41,10 @@ fn buys_up_to_the_limit_and_pays_each_line() {
     let mut shopper = shopper(100);
     let steps = shop(&mut shopper, &[slot(3, 3, vec![])], 10, &[0; 5]).unwrap();
     let bought = Step::Bought(10);
-    assert_eq!(steps, [bought, bought, bought, Step::SoldOut, Step::SoldOut]);
+    assert_eq!(
+        steps,
+        [bought, bought, bought, Step::SoldOut, Step::SoldOut]
+    );
     assert_eq!((shopper.money, shopper.save.items[3]), (70, 3));
     assert_eq!(shopper.save.pair(0), (3, 0));
 }
@@ -54,8 +62,22 @@ fn a_purchase_shows_in_the_next_run() {
 fn a_step_that_cannot_buy_says_why() {
     let mut shopper = shopper(59);
     let hidden = slot(5, 2, vec![Requirement::HaveItem(Item(7))]);
-    let steps = shop(&mut shopper, &[slot(3, 3, vec![]), hidden], 30, &[0, 0, 1, 19]).unwrap();
-    assert_eq!(steps, [Step::Bought(30), Step::TooDear, Step::SoldOut, Step::SoldOut]);
+    let steps = shop(
+        &mut shopper,
+        &[slot(3, 3, vec![]), hidden],
+        30,
+        &[0, 0, 1, 19],
+    )
+    .unwrap();
+    assert_eq!(
+        steps,
+        [
+            Step::Bought(30),
+            Step::TooDear,
+            Step::SoldOut,
+            Step::SoldOut
+        ]
+    );
     assert_eq!((shopper.money, shopper.save.items[3]), (29, 1));
 }
 
@@ -72,14 +94,20 @@ fn an_attachment_becomes_1_and_the_count_stays() {
 fn a_first_save_past_the_limit_stays_there() {
     let mut shopper = shopper(100);
     shopper.save.items[3] = 40;
-    assert_eq!(shop(&mut shopper, &[slot(3, 3, vec![])], 1, &[0]), Ok(vec![Step::SoldOut]));
+    assert_eq!(
+        shop(&mut shopper, &[slot(3, 3, vec![])], 1, &[0]),
+        Ok(vec![Step::SoldOut])
+    );
     assert_eq!(shopper.save.items[3], 40);
 }
 
 /// Stopped by 23 at the first step, with the save as that run left it.
 #[test]
 fn a_stray_flag_ends_the_shopping() {
-    let slots = [slot(3, 3, vec![]), slot(5, 2, vec![Requirement::HaveFlag(2_048)])];
+    let slots = [
+        slot(3, 3, vec![]),
+        slot(5, 2, vec![Requirement::HaveFlag(2_048)]),
+    ];
     let mut shopper = shopper(100);
     let steps = shop(&mut shopper, &slots, 1, &[0; 10]).unwrap();
     assert_eq!(steps, [Step::Stopped(Refused(23))]);
@@ -87,7 +115,10 @@ fn a_stray_flag_ends_the_shopping() {
     let given = Shop::with_slots(slots);
     script.compile(&sheet(), Loader::Disc, 0, &given).unwrap();
     let mut save = Save::new(&sheet());
-    assert_eq!(script.run(&sheet(), 0, &mut save, 82).refusal, Some(Refused(23)));
+    assert_eq!(
+        script.run(&sheet(), 0, &mut save, 82).refusal,
+        Some(Refused(23))
+    );
     assert_eq!((shopper.money, shopper.save), (100, save));
 }
 
@@ -108,7 +139,10 @@ fn refusals_come_in_their_order_and_change_nothing() {
         let mut shopper = shopper(money);
         shopper.save.flags[0] = flag;
         let before = shopper.clone();
-        assert_eq!(shop(&mut shopper, slots, price, wishes), Err(Refused(refusal)));
+        assert_eq!(
+            shop(&mut shopper, slots, price, wishes),
+            Err(Refused(refusal))
+        );
         assert_eq!(shopper, before);
     }
 }
@@ -117,6 +151,9 @@ fn refusals_come_in_their_order_and_change_nothing() {
 fn no_wishes_run_nothing() {
     let mut shopper = shopper(7);
     let before = shopper.clone();
-    assert_eq!(shop(&mut shopper, &[slot(3, 3, vec![])], 1, &[]), Ok(vec![]));
+    assert_eq!(
+        shop(&mut shopper, &[slot(3, 3, vec![])], 1, &[]),
+        Ok(vec![])
+    );
     assert_eq!(shopper, before);
 }

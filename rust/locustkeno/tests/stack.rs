@@ -1,6 +1,8 @@
 //! Each call on a thread with just the stack that the header promises to be enough, on the largest and nastiest scripts.
 
-use locustkeno::{Item, Loader, Refused, Requirement, Save, Script, Sheet, Shop, Shopper, Slot, Tariff};
+use locustkeno::{
+    Item, Loader, Refused, Requirement, Save, Script, Sheet, Shop, Shopper, Slot, Tariff,
+};
 use std::thread;
 
 const KILOBYTE: usize = 1 << 10;
