@@ -1,5 +1,6 @@
 //! Times the proved library beside the Rust sides, on the same inputs: microseconds a call, the
-//! best and the median of 31 rounds. With the word `worst` only the slowest inputs that were found.
+//! best and the median of 31 rounds. With the word `worst` only the slowest inputs that were found,
+//! with the word `shopper` only shoppers.
 
 mod by_hand;
 mod cases;
@@ -7,6 +8,7 @@ mod clock;
 mod place;
 mod program;
 mod reclaim;
+mod shopper;
 mod shops;
 mod worst;
 
@@ -26,7 +28,11 @@ fn main() {
         "{:8} {:12} {:28} {:>10} {:>10}",
         "call", "script", "side", "best us", "median us"
     );
-    if std::env::args().nth(1).is_none_or(|word| word != "worst") {
+    let word = std::env::args().nth(1);
+    if word.as_deref() == Some("shopper") {
+        return shopper::all();
+    }
+    if word.is_none_or(|word| word != "worst") {
         ordinary();
     }
     println!("-- hiding blocks under one large condition");
@@ -56,6 +62,8 @@ fn ordinary() {
     reclaim::after();
     println!("-- a loop of two blocks, entered 100,000 times in all");
     long_run();
+    println!("-- a thousand steps in one call");
+    shopper::all();
 }
 
 fn read(case: &Case) {
