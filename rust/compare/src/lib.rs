@@ -16,6 +16,7 @@ pub mod runs;
 pub mod saves;
 pub mod settings;
 pub mod shared;
+pub mod shopper;
 pub mod shops;
 pub mod small;
 pub mod survivors;
@@ -64,6 +65,7 @@ pub fn settings(seed: u64, count: usize) -> Tally {
     let mut tally = Tally::default();
     settings::random(&mut tally, &mut Random::new(seed), count);
     billed(&mut tally, &mut random, count);
+    shopper::random(&mut tally, &mut random, count);
     tally
 }
 
@@ -94,6 +96,13 @@ pub fn edits(seed: u64, count: usize) -> Tally {
 pub fn bills(seed: u64, count: usize) -> Tally {
     let mut tally = Tally::default();
     billed(&mut tally, &mut Random::new(seed), count);
+    tally
+}
+
+/// Shoppers alone.
+pub fn shoppers(seed: u64, count: usize) -> Tally {
+    let mut tally = Tally::default();
+    shopper::random(&mut tally, &mut Random::new(seed), count);
     tally
 }
 

@@ -10,6 +10,7 @@
 //! - `walks`: COUNT walks of many saves
 //! - `settings`: COUNT slots with all their settings
 //! - `reclaims`: COUNT reclaims of each kind and COUNT lists that mix them with compiles
+//! - `shoppers`: COUNT shoppers
 //! - `bills`: COUNT bills of saves that were not run and COUNT after runs of compiled shops
 
 use compare::all;
@@ -18,7 +19,7 @@ use oracle::calls;
 use std::process::ExitCode;
 use std::{env, error::Error};
 
-const USAGE: &str = "usage: compare SEED COUNT [LONGEST [small]], or compare SEED COUNT KIND, KIND being shops, edits, walks, settings, reclaims or bills";
+const USAGE: &str = "usage: compare SEED COUNT [LONGEST [small]], or compare SEED COUNT KIND, KIND being shops, edits, walks, settings, reclaims, shoppers or bills";
 
 fn main() -> Result<ExitCode, Box<dyn Error>> {
     let arguments: Vec<String> = env::args().skip(1).collect();
@@ -40,6 +41,7 @@ fn main() -> Result<ExitCode, Box<dyn Error>> {
             return said(seed, || compare::settings(seed, count));
         }
         ["reclaims"] => return said(seed, || compare::reclaims(seed, count)),
+        ["shoppers"] => return said(seed, || compare::shoppers(seed, count)),
         ["bills"] => return said(seed, || compare::bills(seed, count)),
         [longest] => (longest.parse()?, false),
         [longest, "small"] => (longest.parse()?, true),

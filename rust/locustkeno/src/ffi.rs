@@ -140,6 +140,7 @@ unsafe extern "C" {
 pub use rights::*;
 pub use settings::*;
 pub use bill::*;
+pub use shopper::*;
 pub use shops::*;
 
 mod rights;
@@ -147,6 +148,7 @@ mod rights;
 mod settings;
 
 mod bill;
+mod shopper;
 
 mod shops {
     use super::Kept;
