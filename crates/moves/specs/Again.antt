@@ -1,22 +1,20 @@
 -- A shop read back and compiled again appends the same blocks each time from the second compile on, links shifted (02, A.14), over lk_compile, lk_reclaim and lk_parse by their promises. Assumes nothing.
 use mathlib.Core.Path.{_≡_, refl, sym, ap, ap₂, _∙_}
-use mathlib.Core.List.{List, _∷_, _++_}
+use mathlib.Core.List.{List, _++_}
 use Prim.Native.Nat.{ℕ, zero, suc, _+_, _≤_, _<_}
 use native.Mathlib.Omega.{arith}
 use lib.ListN.{length, length-set, set, drop}
 use lib.Seq.{drop-at, set-append-left}
-use Rattle.model.specs.Limits.{slotCount}
 use Rattle.model.specs.Sheet.{Sheet}
-use Rattle.model.specs.Shop.{Slot, withSlots}
 use Rattle.model.specs.Script.{Block, Script}
 use Rattle.model.specs.Judge.{scriptRefusal}
 use Rattle.model.specs.Lists.{Along}
 use Rattle.model.specs.Memory.{scriptOf}
-use Rattle.model.specs.Compile.{Call, appended, compileChecks, compileRefusal, freshBlocks, redirect, rootOf, shopBlocks}
+use Rattle.model.specs.Compile.{Call, appended, compileChecks, compileRefusal, freshBlocks, shopBlocks}
 use Rattle.model.specs.Normal.{normalShop}
-use Rattle.model.specs.RecordCalls.{Born, appendedIn, bornAt, compileRefusalIn, compiledIn, recordRefusal}
+use Rattle.model.specs.RecordCalls.{Born, compileRefusalIn, compiledIn}
 use Rattle.model.specs.Record.{judgedRecord}
-use Rattle.model.specs.Laws.Refused.{Accepts, accepts}
+use Rattle.model.specs.Laws.Refused.{accepts}
 use Rattle.memory.specs.RecordLaws.{proper-record}
 use Rattle.memory.specs.Transfer.{accepted-script, blocks-counted, compile-transfer}
 use Rattle.preview.specs.Accepted.{with-all}
@@ -25,7 +23,7 @@ use Rattle.compile.specs.Answer.{callOf, CompiledAs}
 use Rattle.reclaim_record.specs.Stands.{LongBorn}
 use Rattle.reclaim_record.specs.Compiles.{passed-in}
 use Rattle.capi.specs.Answers.{loaderBy}
-use Rattle.library.specs.Delivered.{AsPromised, Made, compile, delivered, leftBy, made, shopOf}
+use Rattle.library.specs.Delivered.{delivered, leftBy, shopOf}
 use Rattle.moves_model.specs.Again.{shifted}
 use Rattle.moves_model.specs.Shifted.{shop-shifted}
 use Rattle.moves_model.specs.Settles.{shop-again}
