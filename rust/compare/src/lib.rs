@@ -7,6 +7,7 @@ pub mod interpret;
 pub mod judge;
 pub mod meaning;
 pub mod mixed;
+pub mod moves;
 pub mod reclaim;
 pub mod recounted;
 pub mod runs;
@@ -42,6 +43,7 @@ pub fn all(seed: u64, count: usize, longest: usize, small: bool) -> Tally {
     }
     runs::operators(&mut tally, &mut random);
     reclaimed(&mut tally, &mut random, count);
+    moves::random(&mut tally, &mut random, count);
     tally
 }
 
@@ -58,6 +60,13 @@ pub fn shops(seed: u64, count: usize) -> Tally {
 pub fn reclaims(seed: u64, count: usize) -> Tally {
     let mut tally = Tally::default();
     reclaimed(&mut tally, &mut Random::new(seed), count);
+    tally
+}
+
+/// Small moves alone.
+pub fn moves(seed: u64, count: usize) -> Tally {
+    let mut tally = Tally::default();
+    moves::random(&mut tally, &mut Random::new(seed), count);
     tally
 }
 

@@ -10,4 +10,5 @@ fn no_difference() {
     assert!(tally.total("recounted") > 200);
     assert!(tally.total("reclaim") > 800 && tally.total("reclaim of a broken record") > 100);
     assert!(tally.total("run after a reclaim") > 4_000 && tally.total("block of the start") > 400);
+    assert!(tally.total("one more held") > 400 && tally.total("compiled again") > 400);
 }

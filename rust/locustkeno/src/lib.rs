@@ -16,6 +16,7 @@
 
 mod arrays;
 mod ffi;
+mod moves;
 mod reclaim;
 mod refused;
 mod room;
