@@ -53,7 +53,7 @@ never : true ≡ false → ⊥
 never e = let z : _≡_ {A = ℕ} 0 1 = cc in omega arith
 
 module _ (w n : ℕ) (s t : Save) (m : OneMore w n s t) where
-  pub zero-same : (i : ℕ) → isZero (held s i) ≡ isZero (held t i)
+  zero-same : (i : ℕ) → isZero (held s i) ≡ isZero (held t i)
   zero-same i = by (ℕ-discrete i w)
     where
       by : Dec (i ≡ w) → isZero (held s i) ≡ isZero (held t i)
