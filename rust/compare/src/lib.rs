@@ -9,6 +9,7 @@ pub mod judge;
 pub mod lanes;
 pub mod meaning;
 pub mod mixed;
+pub mod moves;
 pub mod reclaim;
 pub mod recounted;
 pub mod rights;
@@ -66,6 +67,7 @@ pub fn settings(seed: u64, count: usize) -> Tally {
     settings::random(&mut tally, &mut Random::new(seed), count);
     billed(&mut tally, &mut random, count);
     shopper::random(&mut tally, &mut random, count);
+    moves::random(&mut tally, &mut random, count);
     tally
 }
 
@@ -109,6 +111,13 @@ pub fn shoppers(seed: u64, count: usize) -> Tally {
 fn billed(tally: &mut Tally, random: &mut Random, count: usize) {
     bill::random(tally, random, count);
     bill::after_runs(tally, random, count);
+}
+
+/// Small moves alone.
+pub fn moves(seed: u64, count: usize) -> Tally {
+    let mut tally = Tally::default();
+    moves::random(&mut tally, &mut Random::new(seed), count);
+    tally
 }
 
 fn reclaimed(tally: &mut Tally, random: &mut Random, count: usize) {

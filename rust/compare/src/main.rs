@@ -12,6 +12,7 @@
 //! - `reclaims`: COUNT reclaims of each kind and COUNT lists that mix them with compiles
 //! - `shoppers`: COUNT shoppers
 //! - `bills`: COUNT bills of saves that were not run and COUNT after runs of compiled shops
+//! - `moves`: COUNT shops under two saves, and compiled again
 
 use compare::all;
 use compare::tally::Tally;
@@ -19,7 +20,7 @@ use oracle::calls;
 use std::process::ExitCode;
 use std::{env, error::Error};
 
-const USAGE: &str = "usage: compare SEED COUNT [LONGEST [small]], or compare SEED COUNT KIND, KIND being shops, edits, walks, settings, reclaims, shoppers or bills";
+const USAGE: &str = "usage: compare SEED COUNT [LONGEST [small]], or compare SEED COUNT KIND, KIND being shops, edits, walks, settings, reclaims, shoppers, bills or moves";
 
 fn main() -> Result<ExitCode, Box<dyn Error>> {
     let arguments: Vec<String> = env::args().skip(1).collect();
@@ -43,6 +44,7 @@ fn main() -> Result<ExitCode, Box<dyn Error>> {
         ["reclaims"] => return said(seed, || compare::reclaims(seed, count)),
         ["shoppers"] => return said(seed, || compare::shoppers(seed, count)),
         ["bills"] => return said(seed, || compare::bills(seed, count)),
+        ["moves"] => return said(seed, || compare::moves(seed, count)),
         [longest] => (longest.parse()?, false),
         [longest, "small"] => (longest.parse()?, true),
         _ => return Err(USAGE.into()),

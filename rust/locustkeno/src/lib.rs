@@ -18,6 +18,7 @@ mod arrays;
 mod bill;
 mod ffi;
 mod lanes;
+mod moves;
 mod reclaim;
 mod refused;
 mod rights;
