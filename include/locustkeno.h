@@ -70,8 +70,9 @@ lk_written lk_write(const uint16_t ws[LK_NODE_WORDS], const int32_t val[LK_VALUE
                     const uint16_t bw[LK_BLOCK_WORDS], uint16_t nodes, uint16_t commands, uint16_t blocks, uint8_t *out,
                     size_t out_len);
 
-/* Runs the blocks from start on. Refused by 1 to 12 it enters no block and writes nothing; refused by 13 to 15, vars
- * keeps what was written until then. */
+/* Runs the blocks from start on. Refused by 1 to 12 it enters no block and writes nothing; refused by 13 to 15 or 23, vars
+ * keeps what was written until then. 23: a flag outside 0 to 2,047 is read, met in evaluation order alongside 13; every other
+ * read outside the save gives 0. */
 lk_ran lk_run(const uint8_t *attached, size_t attached_len, uint16_t atcs, uint16_t timer5, uint16_t timer10,
               uint16_t timer15, const uint16_t ws[LK_NODE_WORDS], const int32_t val[LK_VALUES],
               const uint16_t cw[LK_COMMAND_WORDS], const uint16_t bw[LK_BLOCK_WORDS], uint16_t nodes, uint16_t commands,
@@ -126,7 +127,8 @@ uint8_t lk_parse(const uint8_t *attached, size_t attached_len, uint16_t atcs, ui
                  uint16_t commands, uint16_t blocks, uint32_t setup, int32_t items[LK_SLOTS], int16_t limits[LK_SLOTS],
                  uint64_t codes[LK_SLOTS * LK_ENTRIES], uint8_t lens[LK_SLOTS]);
 
-/* What a shop means under a save, with refusals 1, 8 and 12. */
+/* What a shop means under a save, with refusals 1, 8 and 12, and 23 where lk_run of the compiled shop is answered 23: where a
+ * slot with an item has a flag outside 0 to 2,047. Refused it has no pairs, and variable 0 as in the save. */
 lk_previewed lk_preview(const uint8_t *attached, size_t attached_len, uint16_t atcs, uint16_t timer5, uint16_t timer10,
                         uint16_t timer15, const int32_t items[LK_SLOTS], const int16_t limits[LK_SLOTS],
                         const uint64_t codes[LK_SLOTS * LK_ENTRIES], const uint8_t lens[LK_SLOTS], const int16_t *counts,

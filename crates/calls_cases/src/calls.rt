@@ -126,9 +126,9 @@ fn item_of(x: u16) -> SlotItem {
     SlotItem::Of(ItemId(x))
 }
 
-// A requirement's code: its kind times 2^32, plus 2^31, plus its number.
+// A requirement's code: its kind times 2^32, plus 2^31, plus its number, which can be below 0.
 fn code(kind: u32, number: u32) -> u64 {
-    (kind % 6) as u64 * 4294967296 + 2147483648 + (number % 65536) as u64
+    (kind % 6) as u64 * 4294967296 + (2147483648 + number as u64) % 4294967296
 }
 
 // ---- compile

@@ -10,18 +10,19 @@ use lib.Dec.{eqb}
 use lib.ListN.{getD}
 use borrow.Author.Tests.{eqb-true}
 use Rattle.model.specs.Limits.{runBlocks}
-use Rattle.model.specs.Refusal.{bornLater}
+use Rattle.model.specs.Refusal.{accepted, bornLater, budgetSpent}
 use Rattle.model.specs.declared.Loader.{Loader}
 use Rattle.model.specs.Save.{Save}
 use Rattle.model.specs.Sheet.{Sheet, saveRefusal}
 use Rattle.model.specs.Shop.{Slot}
+use Rattle.model.specs.Flags.{flagAnswer, shopInside, untilOutside}
 use Rattle.model.specs.Meaning.{Means}
 use Rattle.model.specs.Normal.{normalShop}
 use Rattle.model.specs.Run.{Ran}
 use Rattle.model.specs.Parse.{Parsed}
 use Rattle.model.specs.Memory.{blockIn}
 use Rattle.model.specs.Lists.{Along, Step, afterAll, lastAt, nowAt}
-use Rattle.model.specs.Demand.{RunsAs}
+use Rattle.model.specs.Demand.{RunsAs, runs-inside}
 use Rattle.model.specs.RecordCalls.{Born, bornAt, compileRefusalIn, compiledIn, parseIn, runIn}
 use Rattle.model.specs.Laws.Lists.{Follows, Followed, follows-all}
 use Rattle.shop.specs.declared.Shop.{Shop}
@@ -86,28 +87,32 @@ AsPromised h k x =
       | reclaim rs mv ↦ ReclaimedAs k rs mv (x .refusal) (x .after) (x .told)
     ]
 
--- a run answered r and left the variables v′, as run promises
-pub record RanWell (h : Sheet) (s : Save) (xs : List Slot) (budget : ℕ) (r : code.Ran) (v′ : List ℤ) : Type 0 where
-  pub not-refused : runBlocks ≤ budget → r .refusal ≡ 0
-  pub few : r .refusal ≡ 0 → r .entered ≤ runBlocks
-  pub means : r .refusal ≡ 0 → Means h s xs (s .variables) v′
+-- a run answered r and left the variables v′, as run promises: n and what the slots xs mean, or 15 where the budget was less than 82 blocks
+pub record RanWell (h : Sheet) (s : Save) (n : ℕ) (xs : List Slot) (budget : ℕ) (r : code.Ran) (v′ : List ℤ) : Type 0 where
+  pub answered : runBlocks ≤ budget → r .refusal ≡ n
+  pub else-spent : r .refusal ≢ n → r .refusal ≡ budgetSpent
+  pub few : r .refusal ≡ n → r .entered ≤ runBlocks
+  pub means : r .refusal ≡ n → Means h s xs (s .variables) v′
 
 -- b is a block of the start, b′ its number after the list
 pub record Delivered (h : Sheet) (k : Born) (xs : List Made) : Type 0 where
-  -- from any surviving block where a compile was accepted, under any save that fits the sheet and any budget
-  pub runs : (b b′ : ℕ) (ys : List Slot) → nowAt made k xs b ≡ some b′ → lastAt made k xs b ≡ some ys → (s : Save) → saveRefusal h s ≡ 0 → (budget : ℕ) (r : code.Ran) (v′ : List ℤ)
-      → ranOf r v′ ≡ runIn h (afterAll made k xs .memory) b′ s budget → RanWell h s ys budget r v′
-  -- a run that is not refused ends the same with any other budget
+  -- from any surviving block where a compile was accepted, the flags of the shop's slots with an item lying in the save (A.10), under any save that fits the sheet and any budget
+  pub runs : (b b′ : ℕ) (ys : List Slot) → nowAt made k xs b ≡ some b′ → lastAt made k xs b ≡ some ys → shopInside ys ≡ true → (s : Save) → saveRefusal h s ≡ 0
+      → (budget : ℕ) (r : code.Ran) (v′ : List ℤ) → ranOf r v′ ≡ runIn h (afterAll made k xs .memory) b′ s budget → RanWell h s accepted ys budget r v′
+  -- of any shop: 23 exactly where one of them lies outside, and then what the slots before the first such slot mean
+  pub ends : (b b′ : ℕ) (ys : List Slot) → nowAt made k xs b ≡ some b′ → lastAt made k xs b ≡ some ys → (s : Save) → saveRefusal h s ≡ 0
+      → (budget : ℕ) (r : code.Ran) (v′ : List ℤ) → ranOf r v′ ≡ runIn h (afterAll made k xs .memory) b′ s budget → RanWell h s (flagAnswer ys) (untilOutside ys) budget r v′
+  -- a run that its budget does not stop ends the same with any other such budget
   pub same : (b b′ : ℕ) (ys : List Slot) → nowAt made k xs b ≡ some b′ → lastAt made k xs b ≡ some ys → (s : Save) → saveRefusal h s ≡ 0
       → (budget other : ℕ) (r q : code.Ran) (v w : List ℤ) → ranOf r v ≡ runIn h (afterAll made k xs .memory) b′ s budget
-      → ranOf q w ≡ runIn h (afterAll made k xs .memory) b′ s other → r .refusal ≡ 0 → q .refusal ≡ 0 → ranOf r v ≡ ranOf q w
+      → ranOf q w ≡ runIn h (afterAll made k xs .memory) b′ s other → r .refusal ≡ flagAnswer ys → q .refusal ≡ flagAnswer ys → ranOf r v ≡ ranOf q w
   -- the parser reads there exactly that shop in normal form
   pub parses : (b b′ : ℕ) (ys : List Slot) → nowAt made k xs b ≡ some b′ → lastAt made k xs b ≡ some ys → (r : ParsedShop) → ParsedAs (parseIn h (afterAll made k xs .memory) b′) r
       → (r .refusal ≡ 0) × (slotsOf (r .shop) ≡ normalShop h ys)
-  -- with a budget of 82 blocks or more the run leaves what a preview of that shop answers
+  -- with a budget of 82 blocks or more the run and a preview of that shop are answered alike, 0 or 23, and where it is 0 the run leaves what the preview answers
   pub previews : (b b′ : ℕ) (ys : List Slot) → nowAt made k xs b ≡ some b′ → lastAt made k xs b ≡ some ys → (s : Save) → saveRefusal h s ≡ 0
       → (budget : ℕ) → runBlocks ≤ budget → (r : code.Ran) (v′ : List ℤ) (q : Previewed)
-      → ranOf r v′ ≡ runIn h (afterAll made k xs .memory) b′ s budget → q ≡ previewedOf (previewCall h ys s) → AgreesCall q v′
+      → ranOf r v′ ≡ runIn h (afterAll made k xs .memory) b′ s budget → q ≡ previewedOf (previewCall h ys s) → AgreesCall q (r .refusal) v′
   -- every other surviving block of the start is as it was but for its number and the links, which go where the blocks are now that they named
   pub others : (b b′ : ℕ) → b < k .memory .count → nowAt made k xs b ≡ some b′ → lastAt made k xs b ≡ none
       → AsWas (nowAt made k xs) (blockIn (k .memory) b) (blockIn (afterAll made k xs .memory) b′)
@@ -186,21 +191,26 @@ module _ (h : Sheet) where
     last-is b = sym (followed .last none b)
 
     runs-at : (b b′ : ℕ) (ys : List Slot) → nowAt made k xs b ≡ some b′ → lastAt made k xs b ≡ some ys → (s : Save) → saveRefusal h s ≡ 0
-        → RunsAs h s ys (λ budget. runIn h (afterAll made k xs .memory) b′ s budget)
+        → RunsAs h s (flagAnswer ys) (untilOutside ys) (λ budget. runIn h (afterAll made k xs .memory) b′ s budget)
     runs-at b b′ ys n e s f =
-        subst (λ (t : Born). RunsAs h s ys (λ budget. runIn h (t .memory) b′ s budget)) (sym (followed .after)) (demand .runs b b′ ys (now-is b ∙ n) (last-is b ∙ e) s f)
+        subst (λ (t : Born). RunsAs h s (flagAnswer ys) (untilOutside ys) (λ budget. runIn h (t .memory) b′ s budget)) (sym (followed .after)) (demand .ends b b′ ys (now-is b ∙ n) (last-is b ∙ e) s f)
+
+    ran : (b : ℕ) (s : Save) (a : ℕ) (ys : List Slot) → RunsAs h s a ys (λ budget. runIn h (afterAll made k xs .memory) b s budget)
+        → (budget : ℕ) (r : code.Ran) (v′ : List ℤ) → ranOf r v′ ≡ runIn h (afterAll made k xs .memory) b s budget → RanWell h s a ys budget r v′
+    ran b s a ys w budget r v′ p =
+        let z : r .refusal ≡ runIn h (afterAll made k xs .memory) b s budget .answer = ap (λ (q : Ran). q .answer) p in
+        record {
+          answered = λ l. z ∙ w .answered budget l;
+          else-spent = λ d. z ∙ w .else-spent budget (λ e. d (z ∙ e));
+          few = λ o. subst (λ (n : ℕ). n ≤ runBlocks) (sym (ap (λ (q : Ran). q .entered) p)) (w .few budget (sym z ∙ o));
+          means = λ o. subst (Means h s ys (s .variables)) (sym (ap (λ (q : Ran). q .variables) p)) (w .means budget (sym z ∙ o));
+        }
 
     pub delivered : Delivered h k xs
     unfolding answerOf
     delivered = record {
-      runs = λ b b′ ys n e s f budget r v′ p.
-          let a = runs-at b b′ ys n e s f in
-          let z : r .refusal ≡ runIn h (afterAll made k xs .memory) b′ s budget .answer = ap (λ (q : Ran). q .answer) p in
-          record {
-            not-refused = λ l. z ∙ a .not-refused budget l;
-            few = λ o. subst (λ (n : ℕ). n ≤ runBlocks) (sym (ap (λ (q : Ran). q .entered) p)) (a .few budget (sym z ∙ o));
-            means = λ o. subst (Means h s ys (s .variables)) (sym (ap (λ (q : Ran). q .variables) p)) (a .means budget (sym z ∙ o));
-          };
+      runs = λ b b′ ys n e i s f budget r v′ p. ran b′ s accepted ys (runs-inside h s ys _ i (runs-at b b′ ys n e s f)) budget r v′ p;
+      ends = λ b b′ ys n e s f budget r v′ p. ran b′ s (flagAnswer ys) (untilOutside ys) (runs-at b b′ ys n e s f) budget r v′ p;
       same = λ b b′ ys n e s f budget other r q v w p u o i.
           let a = runs-at b b′ ys n e s f in
           p ∙ a .same budget (sym (ap (λ (x : Ran). x .answer) p) ∙ o) ∙ sym (u ∙ a .same other (sym (ap (λ (x : Ran). x .answer) u) ∙ i));
@@ -212,8 +222,10 @@ module _ (h : Sheet) where
       previews = λ b b′ ys n e s f budget l r v′ q p u.
           let a = runs-at b b′ ys n e s f in
           let g = demand .given b b′ ys (now-is b ∙ n) (last-is b ∙ e) in
-          let m : Means h s ys (s .variables) v′ = subst (λ (x : Ran). Means h s ys (s .variables) (x .variables)) (sym p) (a .means budget (a .not-refused budget l)) in
-          subst (λ (x : Previewed). AgreesCall x v′) (sym u) (call-agrees (previewCall h ys s) v′ (preview-agrees h ys (g .sheet) (g .twenty) (g .ok) s f v′ m));
+          let z : r .refusal ≡ flagAnswer ys = ap (λ (x : Ran). x .answer) p ∙ a .answered budget l in
+          let m : Means h s (untilOutside ys) (s .variables) v′ = subst (λ (x : Ran). Means h s (untilOutside ys) (s .variables) (x .variables)) (sym p) (a .means budget (a .answered budget l)) in
+          subst (λ (x : ℕ). AgreesCall q x v′) (sym z)
+          (subst (λ (x : Previewed). AgreesCall x (flagAnswer ys) v′) (sym u) (call-agrees (previewCall h ys s) (flagAnswer ys) v′ (preview-agrees h ys (g .sheet) (g .twenty) (g .ok) s f v′ m)));
       others = λ b b′ l n e.
           let w = demand .others b b′ l (now-is b ∙ n) (last-is b ∙ e) in
           record {

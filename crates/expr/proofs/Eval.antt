@@ -6,7 +6,7 @@ use Prim.Native.Nat.{ℕ, _≤_, _<_}
 use lib.IntN.{ℤ}
 use Rattle.model.specs.Save.{Save}
 use Rattle.model.specs.Image.{kindOf}
-use Rattle.model.specs.Expr.{Expr, two, one, imm16, imm32, other, Value, ok, stop, apply1, eval}
+use Rattle.model.specs.Expr.{Expr, two, one, imm16, imm32, other, Value, ok, stop, read1, eval}
 use Rattle.model.specs.Parse.{value}
 use Rattle.model.specs.Memory.{Nodes, codeAt, leftAt, rightAt, valueAt}
 use Rattle.model.specs.declared.Op2.{Op2}
@@ -47,8 +47,8 @@ module _ (s : Save) (v : List ℤ) (ns : Nodes) (b i : ℕ) (lt : i < b) (k : Ki
   pub one-done : (o : Op1) (r x : Value) → k ≡ One o → r ≡ join1 s v o x → x ≡ eval s v (treeBelow ns i (leftAt ns i)) → r ≡ eval s v (treeBelow ns b i)
   one-done o r x e er ex = er ∙ rw ex (sym (ap (eval s v) (below-one ns b i lt k found o e)))
 
-  pub number-done : (o : Op1) (r z : ℤ) → k ≡ One o → r ≡ apply1 s v o z → some z ≡ value (treeBelow ns i (leftAt ns i)) → ok r ≡ eval s v (treeBelow ns b i)
-  number-done o r z e er ez = one-done o (ok r) (ok z) e (ap ok er) (sym (value-eval s v (treeBelow ns i (leftAt ns i)) z (sym ez)))
+  pub number-done : (o : Op1) (r : Value) (z : ℤ) → k ≡ One o → r ≡ read1 s v o z → some z ≡ value (treeBelow ns i (leftAt ns i)) → r ≡ eval s v (treeBelow ns b i)
+  number-done o r z e er ez = one-done o r (ok z) e er (sym (value-eval s v (treeBelow ns i (leftAt ns i)) z (sym ez)))
 
   pub imm16-done : (z : ℤ) → k ≡ Imm16 → z ≡ valueAt ns i → ok z ≡ eval s v (treeBelow ns b i)
   imm16-done z e ez = ap ok ez ∙ sym (ap (eval s v) (below-imm16 ns b i lt k found e))

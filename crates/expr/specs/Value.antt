@@ -7,8 +7,9 @@ use lib.Dec.{ltb}
 use mir.Syntax.{w32}
 use mir.Val.{toZ}
 use lib.IntN.{ℤ, pos, negsuc}
+use Rattle.model.specs.Refusal.{noFlag}
 use Rattle.model.specs.Save.{Save}
-use Rattle.model.specs.Expr.{Expr, two, one, imm16, imm32, other, ok, stop, andThen, apply2, apply1, eval}
+use Rattle.model.specs.Expr.{Expr, two, one, imm16, imm32, other, ok, stop, andThen, apply2, apply1, readable, read1, eval}
 use Rattle.model.specs.Expr as model
 use Rattle.model.specs.declared.Op2.{Op2}
 use Rattle.model.specs.declared.Op1.{Op1}
@@ -43,7 +44,7 @@ abbrev pub join2 : Op2 → model.Value → model.Value → model.Value
 join2 o a b = andThen a (λ x. andThen b (λ y. ok (apply2 o x y)))
 
 abbrev pub join1 : Save → List ℤ → Op1 → model.Value → model.Value
-join1 s v o a = andThen a (λ x. ok (apply1 s v o x))
+join1 s v o a = andThen a (λ x. read1 s v o x)
 
 -- ---- the save's own variables have no part in an evaluation
 
@@ -59,8 +60,8 @@ pub eval-rest : (s : Save) (v : List ℤ) (e : Expr) → eval s v e ≡ eval (re
 eval-rest s v (two o a b) = rw (eval-rest s v a, eval-rest s v b)
 eval-rest s v (one o a) = rw (eval-rest s v a) (go (eval (reads (s .items) (s .atcs) (s .flags) (s .times)) v a))
   where
-    go : (x : model.Value) → andThen x (λ z. ok (apply1 s v o z)) ≡ andThen x (λ z. ok (apply1 (reads (s .items) (s .atcs) (s .flags) (s .times)) v o z))
-    go (ok z) = ap ok (apply-rest s v o z)
+    go : (x : model.Value) → join1 s v o x ≡ join1 (reads (s .items) (s .atcs) (s .flags) (s .times)) v o x
+    go (ok z) = ap (λ (y : ℤ). cond (readable o z) (ok y) (stop noFlag)) (apply-rest s v o z)
     go (stop n) = refl
 eval-rest s v (imm16 z) = refl
 eval-rest s v (imm32 z) = refl

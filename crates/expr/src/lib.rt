@@ -4,7 +4,7 @@ ghost use Prim.Native.Nat.{ℕ, _≤_, _<_};
 ghost use lib.IntN.{pos};
 ghost use Rattle.model.specs.Limits.{nodeLimit};
 ghost use Rattle.model.specs.Save.{natAt, intAt};
-ghost use Rattle.model.specs.Expr.{apply2, apply1, eval};
+ghost use Rattle.model.specs.Expr.{apply2, apply1, readable, read1, eval};
 ghost use Rattle.model.specs.Memory.{nodesIn};
 ghost use Rattle.model.specs.Parse.{value, isJoin};
 ghost use Rattle.expr.specs.Tree.{treeBelow};
@@ -144,6 +144,38 @@ pub fn number_below(ws: &NodeWords, val: &Values, b: u16, i: u16) -> MaybeNumber
 
 // ---- evaluation
 
+// A flag outside the save is not read; every other read outside it gives 0.
+fn is_readable(o: Op1, x: i32) -> bool
+    ensures { λ r. ⌜ r ≡ readable o x ⌝ }
+{
+    match o {
+        Op1::Not => true,
+        Op1::Flag => ints::is_flag(x),
+        Op1::Variable => true,
+        Op1::Item => true,
+        Op1::Atc => true,
+        Op1::Time => true,
+    }
+}
+
+// An operator of one operand on x, or 23: reading goes no further.
+fn read_one(
+    items: &[i16],
+    atcs: &[u8],
+    flags: &[u8],
+    times: &[i16],
+    vars: &[i32; 1024],
+    o: Op1,
+    x: i32,
+) -> Value
+    ensures { λ r. ⌜ valueOf r ≡ read1 (reads (now (items .entry)) (now (atcs .entry)) (now (flags .entry)) (now (times .entry))) (now (vars .entry)) o x ⌝ }
+{
+    if is_readable(o, x) {
+        return Value::Is(apply_one(items, atcs, flags, times, vars, o, x));
+    }
+    Value::Refused(23)
+}
+
 fn join_two(o: Op2, a: Value, b: Value) -> Value
     ensures { λ r. ⌜ valueOf r ≡ join2 o (valueOf a) (valueOf b) ⌝ }
 {
@@ -168,7 +200,7 @@ fn join_one(
     ensures { λ r. ⌜ valueOf r ≡ join1 (reads (now (items .entry)) (now (atcs .entry)) (now (flags .entry)) (now (times .entry))) (now (vars .entry)) o (valueOf a) ⌝ }
 {
     match a {
-        Value::Is(x) => Value::Is(apply_one(items, atcs, flags, times, vars, o, x)),
+        Value::Is(x) => read_one(items, atcs, flags, times, vars, o, x),
         Value::Refused(n) => Value::Refused(n),
     }
 }
@@ -241,8 +273,8 @@ fn evaluate_below(
             let v = number_below(ws, val, i, left);
             match v {
                 MaybeNumber::Is(z) => {
-                    let y = apply_one(items, atcs, flags, times, vars, o, z);
-                    packed(Value::Is(y))
+                    let y = read_one(items, atcs, flags, times, vars, o, z);
+                    packed(y)
                 }
                 MaybeNumber::Nothing => {
                     let w = evaluate_below(ws, val, i, left, items, atcs, flags, times, vars);

@@ -1,10 +1,11 @@
-// Signed numbers: sums and differences that wrap, a number's bits and operations on them, cuts to 16 bits and the tests over them.
+// Signed numbers: sums and differences that wrap, a number's bits and operations on them, cuts to 16 bits and the tests over them, and which are flags of a save.
 ghost use mathlib.Core.Path.{_≡_};
 ghost use Prim.Native.Nat.{_<_, _^_};
 ghost use lib.IntN.{_+ℤ_, _-ℤ_};
 ghost use lib.Signed.{mag};
 ghost use mir.Syntax.{w16, w32};
 ghost use mir.Val.{toZ, ofZ};
+ghost use Rattle.model.specs.Save.{flagInside};
 ghost use Rattle.model.specs.Signed.{wrap32, and32, or32, cut16, b2z, clamp};
 use model::HALF16;
 use model::WIDE16;
@@ -118,4 +119,14 @@ pub fn bit(b: bool) -> i32
     ensures { λ r. ⌜ r ≡ b2z b ⌝ }
 {
     if b { 1 } else { 0 }
+}
+
+// The number of a flag that a save has: 0 to 2,047.
+pub fn is_flag(x: i32) -> bool
+    ensures { λ r. ⌜ r ≡ flagInside x ⌝ }
+{
+    if x < 0 {
+        return false;
+    }
+    x < 2048
 }

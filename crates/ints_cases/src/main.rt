@@ -10,6 +10,7 @@ fn main() {
     cuts();
     limits();
     truths();
+    flags();
 }
 
 // ---- the cases
@@ -111,6 +112,15 @@ fn truths() {
     truth(true);
 }
 
+fn flags() {
+    flag(0);
+    flag(2047);
+    flag(2048);
+    flag(-1);
+    flag(2147483647);
+    flag(-2147483648);
+}
+
 // ---- a line for each
 
 fn add(a: i32, b: i32) {
@@ -177,6 +187,12 @@ fn left(limit: i16, held: i16) {
 fn truth(b: bool) {
     put(b"bit");
     answer(ints::bit(b));
+}
+
+fn flag(x: i32) {
+    put(b"is_flag ");
+    number(x);
+    answer(ints::bit(ints::is_flag(x)));
 }
 
 // ---- text

@@ -1,5 +1,6 @@
 -- Demand 3 over the calls of the library: any list of lk_compile and lk_reclaim as they were made and answered, at any block numbers and for any loaders, then lk_run, lk_parse and lk_preview as they were answered. Each call comes in by its own promise. Assumes nothing.
 use mathlib.Core.Path.{_≡_, refl, sym, ap, _∙_, subst}
+use mathlib.Core.Bool.{true}
 use mathlib.Core.Logic.{_≢_}
 use mathlib.Core.Option.{Option, none, some}
 use mathlib.Core.List.{List, [], map}
@@ -7,10 +8,11 @@ use Prim.Native.Nat.{ℕ, zero, suc, _≤_, _<_}
 use lib.IntN.{ℤ}
 use lib.ListN.{length-map}
 use Rattle.model.specs.Limits.{runBlocks}
-use Rattle.model.specs.Refusal.{bornLater}
+use Rattle.model.specs.Refusal.{accepted, bornLater}
 use Rattle.model.specs.Save.{Save}
 use Rattle.model.specs.Sheet.{Sheet, saveRefusal}
 use Rattle.model.specs.Shop.{Slot, withSlots}
+use Rattle.model.specs.Flags.{flagAnswer, shopInside, untilOutside}
 use Rattle.model.specs.Normal.{normalShop}
 use Rattle.model.specs.Memory.{blockIn}
 use Rattle.model.specs.Preview.{previewCall}
@@ -94,20 +96,23 @@ ranBy r = record { refusal = r .refusal; entered = r .entered }
 
 -- b is a block of the start, b′ its number after the list
 pub record Delivered (h : Sheet) (k : Born) (xs : List Made) : Type 0 where
-  -- lk_run from any surviving block where an lk_compile was accepted, under any save that fits the sheet and any budget
-  pub runs : (b b′ : ℕ) (ys : List Slot) → nowAt made k xs b ≡ some b′ → lastAt made k xs b ≡ some ys → (s : Save) → saveRefusal h s ≡ 0 → (budget : ℕ) (r : Ran) (v : List ℤ)
-      → ranAs r v ≡ runIn h (afterAll made k xs .memory) b′ s budget → engine.RanWell h s ys budget (ranBy r) v
-  -- one that is not refused ends the same with any other budget
+  -- lk_run from any surviving block where an lk_compile was accepted, the flags of the shop's slots with an item lying in the save (A.10), under any save that fits the sheet and any budget
+  pub runs : (b b′ : ℕ) (ys : List Slot) → nowAt made k xs b ≡ some b′ → lastAt made k xs b ≡ some ys → shopInside ys ≡ true → (s : Save) → saveRefusal h s ≡ 0
+      → (budget : ℕ) (r : Ran) (v : List ℤ) → ranAs r v ≡ runIn h (afterAll made k xs .memory) b′ s budget → engine.RanWell h s accepted ys budget (ranBy r) v
+  -- of any shop: 23 exactly where one of them lies outside, and then what the slots before the first such slot mean
+  pub ends : (b b′ : ℕ) (ys : List Slot) → nowAt made k xs b ≡ some b′ → lastAt made k xs b ≡ some ys → (s : Save) → saveRefusal h s ≡ 0
+      → (budget : ℕ) (r : Ran) (v : List ℤ) → ranAs r v ≡ runIn h (afterAll made k xs .memory) b′ s budget → engine.RanWell h s (flagAnswer ys) (untilOutside ys) budget (ranBy r) v
+  -- one that its budget does not stop ends the same with any other such budget
   pub same : (b b′ : ℕ) (ys : List Slot) → nowAt made k xs b ≡ some b′ → lastAt made k xs b ≡ some ys → (s : Save) → saveRefusal h s ≡ 0
       → (budget other : ℕ) (r q : Ran) (v w : List ℤ) → ranAs r v ≡ runIn h (afterAll made k xs .memory) b′ s budget
-      → ranAs q w ≡ runIn h (afterAll made k xs .memory) b′ s other → r .refusal ≡ 0 → q .refusal ≡ 0 → ranAs r v ≡ ranAs q w
+      → ranAs q w ≡ runIn h (afterAll made k xs .memory) b′ s other → r .refusal ≡ flagAnswer ys → q .refusal ≡ flagAnswer ys → ranAs r v ≡ ranAs q w
   -- lk_parse leaves there the arrays of exactly that shop in normal form
   pub parses : (b b′ : ℕ) (ys : List Slot) → nowAt made k xs b ≡ some b′ → lastAt made k xs b ≡ some ys → (n : ℕ) (t : Arrays) → ParsedInto (parseIn h (afterAll made k xs .memory) b′) n t
       → (n ≡ 0) × (shopOf t ≡ normalShop h ys)
-  -- with a budget of 82 blocks or more the run leaves what lk_preview of arrays that stand for that shop answers
+  -- with a budget of 82 blocks or more the run and lk_preview of arrays that stand for that shop are answered alike, 0 or 23, and where it is 0 the run leaves what lk_preview answers
   pub previews : (b b′ : ℕ) (ys : List Slot) → nowAt made k xs b ≡ some b′ → lastAt made k xs b ≡ some ys → (s : Save) → saveRefusal h s ≡ 0
       → (budget : ℕ) → runBlocks ≤ budget → (r : Ran) (v : List ℤ) (q : Previewed)
-      → ranAs r v ≡ runIn h (afterAll made k xs .memory) b′ s budget → previewedAs q ≡ previewedOf (previewCall h ys s) → AgreesCall (previewedAs q) v
+      → ranAs r v ≡ runIn h (afterAll made k xs .memory) b′ s budget → previewedAs q ≡ previewedOf (previewCall h ys s) → AgreesCall (previewedAs q) (r .refusal) v
   -- every other surviving block of the start is as it was but for its number and the links, which go where the blocks are now that they named
   pub others : (b b′ : ℕ) → b < k .memory .count → nowAt made k xs b ≡ some b′ → lastAt made k xs b ≡ none
       → AsWas (nowAt made k xs) (blockIn (k .memory) b) (blockIn (afterAll made k xs .memory) b′)
@@ -177,7 +182,8 @@ module _ (h : Sheet) (k : Born) (xs : List Made) (long : LongBorn k) (promised :
 
   pub delivered : Delivered h k xs
   delivered = record {
-    runs = λ b b′ ys n e s f budget r v p. demand .runs b b′ ys (now-is b ∙ n) (last-is b ∙ e) s f budget (ranBy r) v (p ∙ run-at b′ s budget);
+    runs = λ b b′ ys n e i s f budget r v p. demand .runs b b′ ys (now-is b ∙ n) (last-is b ∙ e) i s f budget (ranBy r) v (p ∙ run-at b′ s budget);
+    ends = λ b b′ ys n e s f budget r v p. demand .ends b b′ ys (now-is b ∙ n) (last-is b ∙ e) s f budget (ranBy r) v (p ∙ run-at b′ s budget);
     same = λ b b′ ys n e s f budget other r q v w p u o i.
         demand .same b b′ ys (now-is b ∙ n) (last-is b ∙ e) s f budget other (ranBy r) (ranBy q) v w (p ∙ run-at b′ s budget) (u ∙ run-at b′ s other) o i;
     parses = λ b b′ ys n e m t p.

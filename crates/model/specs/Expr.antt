@@ -5,9 +5,9 @@ use Prim.Native.Nat.{ℕ, zero, suc, _+_}
 use lib.IntN.{ℤ, pos, negsuc, _+ℤ_, _-ℤ_}
 use lib.Signed.{ltZ, leZ}
 use mir.Syntax.{w16}
-use Rattle.model.specs.Refusal.{metOther}
+use Rattle.model.specs.Refusal.{metOther, noFlag}
 use Rattle.model.specs.Signed.{wrap32, and32, or32, inRange, eqZ, isZero, b2z}
-use Rattle.model.specs.Save.{Save, natAt, intAt}
+use Rattle.model.specs.Save.{Save, natAt, intAt, flagInside}
 use Rattle.model.specs.declared.Op2.{Op2}
 use Rattle.model.specs.declared.Op2.the-variants.{Equal, NotEqual, Less, LessEqual, Greater, GreaterEqual, Add, Subtract, BitAnd, BitOr}
 use Rattle.model.specs.declared.Op1.{Op1}
@@ -77,10 +77,23 @@ apply1 s v Item z = intAt (s .items) z
 apply1 s v Atc z = natAt (s .atcs) z
 apply1 s v Time z = intAt (s .times) z
 
--- both operands are evaluated, left first; an Other expression is 13
+-- A.10: a flag outside the save is not read; every other read outside it gives 0
+abbrev pub readable : Op1 → ℤ → Bool
+readable Not z = true
+readable Flag z = flagInside z
+readable Variable z = true
+readable Item z = true
+readable Atc z = true
+readable Time z = true
+
+-- an operator of one operand on its value, or 23
+abbrev pub read1 : Save → List ℤ → Op1 → ℤ → Value
+read1 s v o z = cond (readable o z) (ok (apply1 s v o z)) (stop noFlag)
+
+-- both operands are evaluated, left first, an index before the flag that it names; an Other expression is 13, a flag outside the save 23, and the first met answers
 abbrev pub evalBy : Joins → Save → List ℤ → Expr → Value
 evalBy j s v (two o a b) = andThen (evalBy j s v a) (λ x. andThen (evalBy j s v b) (λ y. ok (applyBy j o x y)))
-evalBy j s v (one o a) = andThen (evalBy j s v a) (λ x. ok (apply1 s v o x))
+evalBy j s v (one o a) = andThen (evalBy j s v a) (λ x. read1 s v o x)
 evalBy j s v (imm16 z) = ok z
 evalBy j s v (imm32 z) = ok z
 evalBy j s v other = stop metOther

@@ -6,6 +6,7 @@ pub mod Expr
 pub mod Sheet
 pub mod Requirement
 pub mod Shop
+pub mod Flags
 pub mod Script
 pub mod Reading
 pub mod Image
@@ -27,3 +28,4 @@ pub mod Laws
 pub mod Demand
 pub mod BlockCases
 pub mod BitCases
+pub mod FlagCases

@@ -7,6 +7,7 @@ use Rattle.model.specs.Refusal.{firstOf}
 use Rattle.model.specs.Save.{Save}
 use Rattle.model.specs.Sheet.{Sheet, sheetRefusal, saveRefusal}
 use Rattle.model.specs.Shop.{Slot, withSlots, shopRefusal}
+use Rattle.model.specs.Flags.{flagAnswer}
 use Rattle.model.specs.Meaning.{Meaning, meaningOf, tempAfter}
 
 pub record Preview : Type 0 where
@@ -18,8 +19,8 @@ abbrev pub previewOf : ℕ → List Meaning → ℤ → ℤ → Preview
 previewOf zero ms z old = record { answer = 0; slots = ms; temp = z }
 previewOf (suc n) ms z old = record { answer = suc n; slots = []; temp = old }
 
--- 1, 8, 12 in that order
+-- 1, 8, 12 in that order, then 23 where the run of the compiled shop is answered 23 (A.10)
 unfoldable pub previewCall : Sheet → List Slot → Save → Preview
 previewCall h xs s =
-    previewOf (firstOf (sheetRefusal h ∷ shopRefusal h xs ∷ saveRefusal h s ∷ []))
+    previewOf (firstOf (sheetRefusal h ∷ shopRefusal h xs ∷ saveRefusal h s ∷ flagAnswer (withSlots xs) ∷ []))
     (map (meaningOf h s) (withSlots xs)) (tempAfter h s (withSlots xs) (getD (s .variables) 0 (pos 0))) (getD (s .variables) 0 (pos 0))

@@ -1,4 +1,4 @@
--- The preview by the answers of its three checks. Assumes nothing.
+-- The preview by the answers of its four checks. Assumes nothing.
 use mathlib.Core.Path.{_≡_, sym, ap, _∙_}
 use mathlib.Core.Bool.{Bool}
 use lib.ListN.{length, length-map}
@@ -8,6 +8,7 @@ use Rattle.model.specs.Sheet as Model
 use Rattle.model.specs.Sheet.{sheetOk, saveOk, all}
 use Rattle.model.specs.Shop as Shops
 use Rattle.model.specs.Shop.{withSlots, slotOk}
+use Rattle.model.specs.Flags.{shopInside}
 use Rattle.model.specs.Preview.{previewCall}
 use Rattle.shop.specs.Shapes.{slotOf, slotsOf}
 use Rattle.shop.specs.declared.Sheet.{Sheet}
@@ -24,11 +25,11 @@ module _ (h : Model.Sheet) (s : Save) (shop : Shop) (long : length (shop .slots)
   unfolding slotsOf
   twenty = with-all (slotsOf shop) (length-map (shop .slots) slotOf ∙ long)
 
-  by-checks : previewCall h (slotsOf shop) s ≡ checked h (slotsOf shop) s (sheetOk h) (all (slotOk h) (slotsOf shop)) (saveOk h s)
+  by-checks : previewCall h (slotsOf shop) s ≡ checked h (slotsOf shop) s (sheetOk h) (all (slotOk h) (slotsOf shop)) (saveOk h s) (shopInside (slotsOf shop))
   unfolding previewCall
-  by-checks = ap (λ xs. checked h xs s (sheetOk h) (all (slotOk h) xs) (saveOk h s)) twenty
+  by-checks = ap (λ xs. checked h xs s (sheetOk h) (all (slotOk h) xs) (saveOk h s) (shopInside xs)) twenty
 
-  module _ (r : Previewed) (a b d : Bool) (p : sheetOk h ≡ a) (q : all (slotOk h) (slotsOf shop) ≡ b) (t : saveOk h s ≡ d) where
+  module _ (r : Previewed) (a b d f : Bool) (p : sheetOk h ≡ a) (q : all (slotOk h) (slotsOf shop) ≡ b) (t : saveOk h s ≡ d) (u : shopInside (slotsOf shop) ≡ f) where
     -- the call answers what the answers of its checks ask for
-    pub answered : r ≡ previewedOf (checked h (slotsOf shop) s a b d) → r ≡ previewedOf (previewCall h (slotsOf shop) s)
-    answered e = e ∙ ap previewedOf (sym (by-checks ∙ rw (p, q, t)))
+    pub answered : r ≡ previewedOf (checked h (slotsOf shop) s a b d f) → r ≡ previewedOf (previewCall h (slotsOf shop) s)
+    answered e = e ∙ ap previewedOf (sym (by-checks ∙ rw (p, q, t, u)))

@@ -1,18 +1,17 @@
 -- What the requirement of a code reads of a save, and whether it holds. Assumes nothing.
 use mathlib.Core.Path.{_≡_, refl, sym, ap, _∙_}
 use mathlib.Core.Bool.{Bool, true, false, not, cond}
-use mathlib.Core.List.{List, [], _∷_, map}
-use Prim.Native.Nat.{ℕ, zero, suc, _<_}
-use native.Mathlib.Omega.{arith}
+use mathlib.Core.List.{List, map}
+use Prim.Native.Nat.{ℕ}
 use lib.IntN.{pos}
-use lib.ListN.{getD}
 use Rattle.model.specs.Signed.{isZero}
 use Rattle.model.specs.Save.{Save, natAt}
 use Rattle.model.specs.Sheet.{all}
 use Rattle.model.specs.Requirement.{Requirement, haveItem, missingItem, haveAtc, missingAtc, haveFlag, missingFlag}
 use Rattle.model.specs.Meaning.{held, holds, allHold}
+use Rattle.model.specs.Laws.Runs.{all-hold}
 use Rattle.shop_codes.specs.Codes.{requirementOf, subject, isMissing}
-use Rattle.shop.specs.Shapes.{entries}
+use Rattle.shop.proofs.All.{all-map}
 use Rattle.preview.specs.Tests.{isThere}
 
 module _ (s : Save) where
@@ -46,15 +45,4 @@ module _ (s : Save) where
   holds-by (missingFlag f) = twice (isZero (natAt (s .flags) f))
 
   pub all-held : (cs : List ℕ) → all (λ c. holds s (requirementOf c)) cs ≡ allHold s (map requirementOf cs)
-  unfolding allHold
-  all-held [] = refl
-  all-held (c ∷ cs) = rw (all-held cs)
-
--- an entry of a slot is the code in its array, or 0 past that
-pub entry-is : (n : ℕ) (cs : List ℕ) (i : ℕ) → i < n → getD (entries n cs) i 0 ≡ getD cs i 0
-unfolding entries
-entry-is zero cs i h = absurd (omega arith)
-entry-is (suc n) [] zero h = refl
-entry-is (suc n) [] (suc i) h = entry-is n [] i (omega arith)
-entry-is (suc n) (c ∷ cs) zero h = refl
-entry-is (suc n) (c ∷ cs) (suc i) h = entry-is n cs i (omega arith)
+  all-held cs = sym (all-map (holds s) requirementOf cs) ∙ all-hold s (map requirementOf cs)

@@ -1,5 +1,6 @@
 -- A preview that no check refuses: its pairs are those of the shop's slots, each at its slot's number. Assumes nothing.
 use mathlib.Core.Path.{_≡_, refl, ap, _∙_}
+use mathlib.Core.Bool.{true}
 use mathlib.Core.List.{List, [], _∷_, _++_, map, append-nil}
 use Prim.Native.Nat.{ℕ, zero, suc, _+_}
 use native.Mathlib.Omega.{arith}
@@ -10,6 +11,7 @@ use Rattle.model.specs.Limits.{slotCount}
 use Rattle.model.specs.Save.{Save}
 use Rattle.model.specs.Sheet.{Sheet, sheetRefusal, saveRefusal}
 use Rattle.model.specs.Shop.{Slot, padded, withSlots, shopRefusal}
+use Rattle.model.specs.Flags.{shopInside}
 use Rattle.model.specs.Preview.{Preview, previewCall}
 use Rattle.preview.specs.Shown.{meaningsOf, previewedOf}
 
@@ -24,10 +26,10 @@ padded-all (suc n) (x ∷ xs) e = ap (λ l. x ∷ l) (padded-all n xs (omega ari
 pub with-all : (xs : List Slot) → length xs ≡ slotCount → withSlots xs ≡ xs
 with-all xs e = padded-all slotCount xs e
 
-pub accepted-preview : (h : Sheet) (xs : List Slot) (s : Save) → length xs ≡ slotCount → sheetRefusal h ≡ 0 → shopRefusal h xs ≡ 0 → saveRefusal h s ≡ 0
+pub accepted-preview : (h : Sheet) (xs : List Slot) (s : Save) → length xs ≡ slotCount → sheetRefusal h ≡ 0 → shopRefusal h xs ≡ 0 → saveRefusal h s ≡ 0 → shopInside xs ≡ true
     → previewCall h xs s ≡ meaningsOf h xs s
 unfolding previewCall
-accepted-preview h xs s e a b d = rw (a, b, d, with-all xs e)
+accepted-preview h xs s e a b d p = rw (a, b, d, with-all xs e, p)
 
 -- twenty values over twenty zeros
 pub all-set : (zs : List ℤ) → length zs ≡ slotCount → sets (replicate slotCount (pos 0)) 0 zs ≡ zs

@@ -44,6 +44,8 @@ use shop_arrays::sizes;
 use shop_codes::Subject;
 use shop_codes::is_missing;
 use shop_codes::subject_of;
+use shop_flags::entry_at;
+use shop_flags::flags_inside;
 
 // The refusal or 0, the pairs of the slots, 0 where it is refused, and variable 0 after them.
 pub struct Previewed {
@@ -125,16 +127,6 @@ fn holds(code: u64, items: &[i16], atcs: &[u8], flags: &[u8]) -> bool
         return !there;
     }
     there
-}
-
-// Past the row every entry is code 0, as in the slot's value.
-fn entry_at(row: &[u64], i: usize) -> u64
-    ensures { λ r. ⌜ r ≡ getD (now (row .entry)) i 0 ⌝ }
-{
-    if i < row.len() {
-        return row[i];
-    }
-    0
 }
 
 // R: the entries as given, in any order and with repeats.
@@ -420,7 +412,7 @@ fn meanings(
     out
 }
 
-// What the shop of the arrays means under the save. Refused by 1, 8 or 12 it has no pairs, and variable 0 as in the save.
+// What the shop of the arrays means under the save. Refused by 1, 8, 12 or 23 it has no pairs, and variable 0 as in the save.
 pub fn preview_arrays(
     attached: &[u8],
     sheet: Sheet,
@@ -444,6 +436,9 @@ pub fn preview_arrays(
     }
     if !check_save(attached, sheet, items, atcs, flags, times, vars) {
         return blank(12, vars);
+    }
+    if !flags_inside(sold, limits, codes, lens) {
+        return blank(23, vars);
     }
     meanings(
         attached,

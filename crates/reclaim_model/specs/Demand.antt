@@ -9,10 +9,11 @@ use native.Mathlib.Omega.{arith}
 use lib.ListN.{length}
 use lib.IntN.{ℤ}
 use borrow.Author.Tests.{lt-ltb}
-use Rattle.model.specs.Refusal.{bornLater, firstOf}
+use Rattle.model.specs.Refusal.{accepted, bornLater, firstOf}
 use Rattle.model.specs.Save.{Save}
 use Rattle.model.specs.Sheet.{Sheet, saveRefusal}
 use Rattle.model.specs.Shop.{Slot}
+use Rattle.model.specs.Flags.{flagAnswer, shopInside, untilOutside}
 use Rattle.model.specs.Script.{Block, blockAt, isCode}
 use Rattle.model.specs.Judge.{callRefusal, sharedRefusal}
 use Rattle.model.specs.Compile.{Call, redirect}
@@ -20,7 +21,7 @@ use Rattle.model.specs.Run.{run, runCall, runCheckedBy}
 use Rattle.model.specs.Parse.{parse, parseCall, parseChecked}
 use Rattle.model.specs.Normal.{normal, normalShop}
 use Rattle.model.specs.Lists.{afterAll, lastAt, nowAt}
-use Rattle.model.specs.Demand.{RunsAs, runs-as}
+use Rattle.model.specs.Demand.{RunsAs, runs-as, runs-inside}
 use Rattle.model.specs.Laws.Checked.{save-fits, save-long, sheet-fits}
 use Rattle.model.specs.Laws.ReadsAll.{ReadSo, linked-normal}
 use Rattle.model.specs.Laws.RunsAll.{Served, linked-run}
@@ -37,9 +38,12 @@ use Rattle.reclaim_model.specs.Laws.Later.{later-of}
 
 -- b is a block of the start, b′ its number after the list
 pub record Demand3Mixed (h : Sheet) (k : BornScript) (xs : List Change) : Type 0 where
-  -- the run from any surviving block where a compile was accepted, under any save that fits the sheet
-  pub runs : (b b′ : ℕ) (ys : List Slot) → nowAt (changes h) k xs b ≡ some b′ → lastAt (changes h) k xs b ≡ some ys → (s : Save) → saveRefusal h s ≡ 0
-      → RunsAs h s ys (λ budget. runCall h (afterAll (changes h) k xs .script) b′ s budget)
+  -- the run from any surviving block where a compile was accepted, under any save that fits the sheet, the flags of the shop's slots with an item lying in the save (A.10)
+  pub runs : (b b′ : ℕ) (ys : List Slot) → nowAt (changes h) k xs b ≡ some b′ → lastAt (changes h) k xs b ≡ some ys → shopInside ys ≡ true → (s : Save) → saveRefusal h s ≡ 0
+      → RunsAs h s accepted ys (λ budget. runCall h (afterAll (changes h) k xs .script) b′ s budget)
+  -- of any shop: 23 exactly where one of them lies outside, and then what the slots before the first such slot mean
+  pub ends : (b b′ : ℕ) (ys : List Slot) → nowAt (changes h) k xs b ≡ some b′ → lastAt (changes h) k xs b ≡ some ys → (s : Save) → saveRefusal h s ≡ 0
+      → RunsAs h s (flagAnswer ys) (untilOutside ys) (λ budget. runCall h (afterAll (changes h) k xs .script) b′ s budget)
   -- the parser reads there exactly that shop in normal form
   pub parses : (b b′ : ℕ) (ys : List Slot) → nowAt (changes h) k xs b ≡ some b′ → lastAt (changes h) k xs b ≡ some ys
       → parseCall h (afterAll (changes h) k xs .script) b′ ≡ record { answer = 0; slots = normalShop h ys }
@@ -88,11 +92,11 @@ module _ (h : Sheet) (k : BornScript) (b : ℕ) (ys : List Slot) (a : Carried h 
   unfolding runCheckedBy
   run-call s f budget = rw (carried-passes, f)
 
-  run-at : (s : Save) → saveRefusal h s ≡ 0 → RunsAs h s ys (λ budget. runCall h (k .script) b s budget)
+  run-at : (s : Save) → saveRefusal h s ≡ 0 → RunsAs h s (flagAnswer ys) (untilOutside ys) (λ budget. runCall h (k .script) b s budget)
   run-at s f =
       let long = save-long h s f in
       let v = carried-run s (save-fits h s f) (s .variables) (omega arith) in
-      subst (RunsAs h s ys) (fun-ext (λ budget. sym (run-call s f budget))) (runs-as h s ys _ v (a .shop .twenty) long)
+      subst (RunsAs h s (flagAnswer ys) (untilOutside ys)) (fun-ext (λ budget. sym (run-call s f budget))) (runs-as h s ys _ v (a .shop .twenty) long)
 
   parse-at : parseCall h (k .script) b ≡ record { answer = 0; slots = normalShop h ys }
   unfolding parseChecked
@@ -102,7 +106,8 @@ module _ (h : Sheet) (k : BornScript) (b : ℕ) (ys : List Slot) (a : Carried h 
 
 pub demand-3-mixed : (h : Sheet) (k : BornScript) (xs : List Change) → Borne k → Demand3Mixed h k xs
 demand-3-mixed h k xs e = record {
-  runs = λ b b′ ys n l s f. run-at h end b′ ys (carried-all h k xs e b b′ ys n l) s f;
+  runs = λ b b′ ys n l p s f. runs-inside h s ys _ p (run-at h end b′ ys (carried-all h k xs e b b′ ys n l) s f);
+  ends = λ b b′ ys n l s f. run-at h end b′ ys (carried-all h k xs e b b′ ys n l) s f;
   parses = λ b b′ ys n l. parse-at h end b′ ys (carried-all h k xs e b b′ ys n l);
   others = λ b b′ l n q. as-was h xs k b b′ l n q;
   births = λ b b′ l n. birth-all h k xs e b b′ l n .1;

@@ -9,16 +9,18 @@ use native.Mathlib.Omega.{arith}
 use lib.ListN.{length}
 use borrow.Author.Tests.{ne-eqb}
 use Rattle.model.specs.Limits.{slotCount}
-use Rattle.model.specs.Refusal.{bornLater, firstOf}
+use Rattle.model.specs.Refusal.{accepted, bornLater, firstOf}
 use Rattle.model.specs.Save.{Save}
 use Rattle.model.specs.Sheet.{Sheet, all, saveRefusal, sheetRefusal}
 use Rattle.model.specs.Shop.{Slot, slotOk}
+use Rattle.model.specs.Flags.{flagAnswer, shopInside, untilOutside}
 use Rattle.model.specs.Script.{Block, blockAt}
 use Rattle.model.specs.Reading.{Answer, got, refused, refusalOf}
 use Rattle.model.specs.Memory.{blockIn}
 use Rattle.model.specs.Record.{judgedRecord}
 use Rattle.model.specs.RecordCalls.{Born, bornAt, callIn, compileRefusalIn, compiledIn, parseIn, recordRefusal, runIn}
 use Rattle.model.specs.Compile.{Call}
+use Rattle.model.specs.Run.{runCall}
 use Rattle.model.specs.Normal.{normalShop}
 use Rattle.model.specs.Lists.{afterAll, lastAt, lastFrom, nowAt}
 use Rattle.model.specs.Demand.{RunsAs}
@@ -44,9 +46,12 @@ pub record Given (h : Sheet) (ys : List Slot) : Type 0 where
 
 -- the clauses of demand 3, in the terms of the calls on a record; b is a block of the start, b′ its number after the list
 pub record Demand3MixedIn (h : Sheet) (k : Born) (xs : List Change) : Type 0 where
-  -- the run from any surviving block where a compile was accepted, under any save that fits the sheet
-  pub runs : (b b′ : ℕ) (ys : List Slot) → nowAt (changesIn h) k xs b ≡ some b′ → lastAt (changesIn h) k xs b ≡ some ys → (s : Save) → saveRefusal h s ≡ 0
-      → RunsAs h s ys (λ budget. runIn h (afterAll (changesIn h) k xs .memory) b′ s budget)
+  -- the run from any surviving block where a compile was accepted, under any save that fits the sheet, the flags of the shop's slots with an item lying in the save (A.10)
+  pub runs : (b b′ : ℕ) (ys : List Slot) → nowAt (changesIn h) k xs b ≡ some b′ → lastAt (changesIn h) k xs b ≡ some ys → shopInside ys ≡ true → (s : Save) → saveRefusal h s ≡ 0
+      → RunsAs h s accepted ys (λ budget. runIn h (afterAll (changesIn h) k xs .memory) b′ s budget)
+  -- of any shop: 23 exactly where one of them lies outside, and then what the slots before the first such slot mean
+  pub ends : (b b′ : ℕ) (ys : List Slot) → nowAt (changesIn h) k xs b ≡ some b′ → lastAt (changesIn h) k xs b ≡ some ys → (s : Save) → saveRefusal h s ≡ 0
+      → RunsAs h s (flagAnswer ys) (untilOutside ys) (λ budget. runIn h (afterAll (changesIn h) k xs .memory) b′ s budget)
   -- the parser reads there exactly that shop in normal form
   pub parses : (b b′ : ℕ) (ys : List Slot) → nowAt (changesIn h) k xs b ≡ some b′ → lastAt (changesIn h) k xs b ≡ some ys
       → parseIn h (afterAll (changesIn h) k xs .memory) b′ ≡ record { answer = 0; slots = normalShop h ys }
@@ -93,10 +98,14 @@ module _ (h : Sheet) (k : Born) (m : BornScript) (st : Stands k m) (xs : List Ch
   inside : (b b′ : ℕ) → b < k .memory .count → nowAt (changesIn h) k xs b ≡ some b′ → b′ < length (afterAll (changes h) m xs .script .blocks)
   inside b b′ l e = birth-all h m xs (borne k m st) b b′ (omega (arith, n)) (now-is b b′ e) .0
 
+  run-kept : (s : Save) (a : ℕ) (ys : List Slot) (b : ℕ) → RunsAs h s a ys (λ budget. runCall h (afterAll (changes h) m xs .script) b s budget)
+      → RunsAs h s a ys (λ budget. runIn h (afterAll (changesIn h) k xs .memory) b s budget)
+  run-kept s a ys b r = subst (RunsAs h s a ys) (fun-ext (λ budget. sym (run-same end fin (ends .after) h b s budget))) r
+
   judged-demand : Demand3MixedIn h k xs
   judged-demand = record {
-    runs = λ b b′ ys e l s g.
-        subst (RunsAs h s ys) (fun-ext (λ budget. sym (run-same end fin (ends .after) h b′ s budget))) (whole .runs b b′ ys (now-is b b′ e) (sym (ends .last none b) ∙ l) s g);
+    runs = λ b b′ ys e l p s g. run-kept s accepted ys b′ (whole .runs b b′ ys (now-is b b′ e) (sym (ends .last none b) ∙ l) p s g);
+    ends = λ b b′ ys e l s g. run-kept s (flagAnswer ys) (untilOutside ys) b′ (whole .ends b b′ ys (now-is b b′ e) (sym (ends .last none b) ∙ l) s g);
     parses = λ b b′ ys e l. parse-same end fin (ends .after) h b′ ∙ whole .parses b b′ ys (now-is b b′ e) (sym (ends .last none b) ∙ l);
     given = λ b b′ ys e l.
         let a = carried-all h m xs (borne k m st) b b′ ys (now-is b b′ e) (sym (ends .last none b) ∙ l) .shop in
@@ -149,7 +158,8 @@ module _ (h : Sheet) (k : Born) (e : ℕ) (bad : judgedRecord (k .memory) ≡ re
 
   refused-demand : (xs : List Change) → Demand3MixedIn h k xs
   refused-demand xs = record {
-    runs = λ b b′ ys n l s g. absurd (none≢some (sym (u .last b) ∙ l));
+    runs = λ b b′ ys n l p s g. absurd (none≢some (sym (u .last b) ∙ l));
+    ends = λ b b′ ys n l s g. absurd (none≢some (sym (u .last b) ∙ l));
     parses = λ b b′ ys n l. absurd (none≢some (sym (u .last b) ∙ l));
     given = λ b b′ ys n l. absurd (none≢some (sym (u .last b) ∙ l));
     others = λ b b′ l n q.

@@ -1,4 +1,5 @@
-//! A hand-written interpreter of document 01's runner over the same arrays, with the same checks; And and Or are 02's (A.5).
+//! A hand-written interpreter of document 01's runner over the same arrays, with the same checks; And and Or are 02's (A.5), and
+//! so is a flag outside the save (A.10).
 
 use crate::judge;
 use locustkeno::{Arrays, FLAGS, Save, TIMES, VARIABLES};
@@ -102,6 +103,15 @@ fn at<T: Copy + Into<i32>>(values: &[T], index: i32) -> i32 {
     place.and_then(|i| values.get(i)).map_or(0, |v| (*v).into())
 }
 
+/// A flag; outside the save there is none to read.
+fn flag(save: &Save, number: i32) -> Result<i32, u8> {
+    if (0..2_048).contains(&number) {
+        Ok(at(&save.flags, number))
+    } else {
+        Err(23)
+    }
+}
+
 /// The value of a node.
 fn value(a: &Arrays, node: u16, save: &Save) -> Result<i32, u8> {
     let i = usize::from(node);
@@ -110,7 +120,7 @@ fn value(a: &Arrays, node: u16, save: &Save) -> Result<i32, u8> {
     Ok(match words[0] {
         11 | 12 => a.val[i],
         6 => (left()? == 0).into(),
-        13 => at(&save.flags, left()?),
+        13 => flag(save, left()?)?,
         14 => at(&save.variables, left()?),
         15 => at(&save.items, left()?),
         16 => at(&save.atcs, left()?),

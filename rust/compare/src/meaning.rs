@@ -1,16 +1,28 @@
-//! What a shop means for a save, from document 01's words.
+//! What a shop means for a save, from document 01's words, and where its run is stopped (02, A.10).
 
 use locustkeno::{NUM_SLOTS, Save};
 use oracle::plain::{Requirement, Sheet, Slot};
+use record::random::Random;
+use std::iter;
 
 /// The rates of Timer5, Timer10 and Timer15.
 const RATES: [i16; 3] = [200, 100, 67];
 
-/// The pair of each slot, and what variable 0 ends as.
+/// 23 or 0, the pair of each slot that is come to, and what variable 0 ends as.
 #[derive(Debug, Clone, PartialEq, Eq)]
 pub struct Meaning {
-    pub pairs: [(i32, i32); NUM_SLOTS],
+    pub answer: u8,
+    pub pairs: Vec<(i32, i32)>,
     pub variable0: i32,
+}
+
+/// Whether a slot asks about a flag that no save has. One without an item asks about none.
+fn strays(slot: &Slot) -> bool {
+    slot.item.is_some()
+        && slot.requirements.iter().any(|r| match *r {
+            Requirement::HaveFlag(n) | Requirement::MissingFlag(n) => !(0..2_048).contains(&n),
+            _ => false,
+        })
 }
 
 fn met(save: &Save, requirement: &Requirement) -> bool {
@@ -25,6 +37,18 @@ fn met(save: &Save, requirement: &Requirement) -> bool {
         Requirement::MissingAtc(n) => !atc(n),
         Requirement::HaveFlag(n) => flag(n),
         Requirement::MissingFlag(n) => !flag(n),
+    }
+}
+
+/// Two shops in three get flags that a save has, or most runs would be stopped.
+pub fn settle(random: &mut Random, slots: &mut [Slot]) {
+    if random.once_in(3) {
+        return;
+    }
+    for requirement in slots.iter_mut().flat_map(|slot| &mut slot.requirements) {
+        if let Requirement::HaveFlag(n) | Requirement::MissingFlag(n) = requirement {
+            *n = n.rem_euclid(2_048);
+        }
     }
 }
 
@@ -55,23 +79,39 @@ fn single(sheet: &Sheet, item: u16, visible: bool, save: &Save) -> (i32, i32) {
     if acquired { (item.into(), 0) } else { (-1, 0) }
 }
 
-/// What a shop means; slots past the twentieth are dropped, missing ones are empty.
+/// What a shop means, up to the first slot that stops the run; slots past the twentieth are dropped, missing ones are empty.
 pub fn meaning(sheet: &Sheet, slots: &[Slot], save: &Save) -> Meaning {
     let mut meaning = Meaning {
-        pairs: [(-1, 0); NUM_SLOTS],
+        answer: 0,
+        pairs: Vec::new(),
         variable0: save.variables[0],
     };
-    for (pair, slot) in meaning.pairs.iter_mut().zip(slots) {
-        let Some(item) = slot.item else { continue };
-        let visible = slot.requirements.iter().all(|r| met(save, r));
-        let limit = limit(sheet, item, slot.limit);
-        if limit == 1 {
-            *pair = single(sheet, item, visible, save);
-        } else if visible {
-            let left = (limit - i32::from(save.items[usize::from(item)])).max(0);
-            *pair = (item.into(), left);
-            meaning.variable0 = left;
+    let empty = Slot::default();
+    for slot in slots.iter().chain(iter::repeat(&empty)).take(NUM_SLOTS) {
+        if strays(slot) {
+            meaning.answer = 23;
+            break;
         }
+        let pair = pair(sheet, slot, save, &mut meaning.variable0);
+        meaning.pairs.push(pair);
     }
     meaning
+}
+
+/// The pair of a slot, and variable 0 after it.
+fn pair(sheet: &Sheet, slot: &Slot, save: &Save, variable0: &mut i32) -> (i32, i32) {
+    let Some(item) = slot.item else {
+        return (-1, 0);
+    };
+    let visible = slot.requirements.iter().all(|r| met(save, r));
+    let limit = limit(sheet, item, slot.limit);
+    if limit == 1 {
+        return single(sheet, item, visible, save);
+    }
+    if !visible {
+        return (-1, 0);
+    }
+    let left = (limit - i32::from(save.items[usize::from(item)])).max(0);
+    *variable0 = left;
+    (item.into(), left)
 }

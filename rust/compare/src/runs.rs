@@ -1,9 +1,9 @@
 //! Runs: the library's against the hand-written interpreter and against the meaning of a shop.
 
-use crate::meaning::meaning;
+use crate::meaning::{meaning, settle};
 use crate::tally::Tally;
 use crate::{convert, interpret, saves, small};
-use locustkeno::{Arrays, NUM_SLOTS, Save, Script};
+use locustkeno::{Arrays, Save, Script};
 use oracle::plain::{Binary, Command, Expr, Sheet, Slot, Target};
 use oracle::rules::InUse;
 use oracle::{image, plain};
@@ -35,7 +35,7 @@ pub fn check(
     start: u32,
     save: &Save,
     budget: u32,
-) -> (Save, u32) {
+) -> (Save, u8, u32) {
     let (mut ours, mut theirs) = (save.clone(), save.clone());
     let ran = script.run(&convert::sheet(sheet), start, &mut ours, budget);
     let refusal = ran.refusal.map_or(0, |refused| refused.0);
@@ -49,7 +49,7 @@ pub fn check(
     };
     tally.same("run", &(refusal, ran.entered), &answer, case);
     tally.same("variables after a run", &ours, &theirs, case);
-    (ours, ran.entered)
+    (ours, refusal, ran.entered)
 }
 
 /// A budget around what small scripts need.
@@ -157,7 +157,7 @@ pub fn records(tally: &mut Tally, random: &mut Random, count: usize) {
     }
 }
 
-/// The pairs, variable 0 and all other variables after a run of a compiled shop.
+/// The answer, the pairs, variable 0 and all other variables after a run of a compiled shop.
 pub fn check_meaning(
     tally: &mut Tally,
     sheet: &Sheet,
@@ -166,16 +166,17 @@ pub fn check_meaning(
     setup: u32,
     save: &Save,
 ) {
-    let (after, entered) = check(tally, sheet, script, setup, save, MOST);
+    let (after, refusal, entered) = check(tally, sheet, script, setup, save, MOST);
     let expected = meaning(sheet, shop, save);
-    tally.count("meaning", 0);
+    tally.count("meaning", expected.answer);
     let case = || format!("entered {entered}, sheet {sheet:?}, shop {shop:?}, save {save:?}");
     let mut variables = save.variables.clone();
     variables[0] = expected.variable0;
-    for (slot, (item, count)) in expected.pairs.iter().enumerate().take(NUM_SLOTS) {
+    for (slot, (item, count)) in expected.pairs.iter().enumerate() {
         variables[600 + slot] = *item;
         variables[620 + slot] = *count;
     }
+    tally.same("answer of a shop", &refusal, &expected.answer, case);
     tally.same("meaning", &after.variables, &variables, case);
 }
 
@@ -189,7 +190,8 @@ pub fn compiled(tally: &mut Tally, random: &mut Random, count: usize) {
             sheet: sheet.clone(),
             blocks: 1,
         };
-        let shop = maker.shop();
+        let mut shop = maker.shop();
+        settle(maker.random, &mut shop);
         let code = plain::Block::Code(plain::Code::default());
         let mut in_use = InUse::new(plain::Script { blocks: vec![code] });
         in_use

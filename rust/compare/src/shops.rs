@@ -1,9 +1,9 @@
 //! Parses, compiles, lists of compiles and previews: the library's against the original's.
 
-use crate::meaning::meaning;
+use crate::meaning::{meaning, settle};
 use crate::tally::Tally;
 use crate::{convert, runs, saves, small, tree};
-use locustkeno::{Loader, Preview, Script, Shop};
+use locustkeno::{Loader, NUM_SLOTS, Preview, Script, Shop};
 use oracle::plain::{self, Block, Code, Command, Expr, Sheet, Slot, Target};
 use oracle::rules::{self, InUse};
 use oracle::{image, slots};
@@ -268,6 +268,9 @@ pub fn check_last(
 pub fn lists(tally: &mut Tally, random: &mut Random, count: usize) {
     for _ in 0..count {
         let mut case = compile_cases::case(random);
+        for step in &mut case.steps {
+            settle(random, &mut step.shop);
+        }
         let near = if random.once_in(2) {
             Some(random.below(3))
         } else {
@@ -304,17 +307,20 @@ pub fn compile_limits(tally: &mut Tally, random: &mut Random) {
     }
 }
 
-/// The preview of a shop against its meaning.
+/// The preview of a shop against its meaning: 23 where the run is stopped.
 fn check_preview(tally: &mut Tally, sheet: &Sheet, slots: &[Slot], save: &locustkeno::Save) {
     let ours = shop(slots)
         .preview(&convert::sheet(sheet), save)
         .map_err(|refused| refused.0);
     tally.count("preview", ours.as_ref().err().copied().unwrap_or(0));
     let expected = meaning(sheet, slots, save);
-    let theirs = Ok(Preview {
-        pairs: expected.pairs,
-        variable0: expected.variable0,
-    });
+    let theirs = match <[_; NUM_SLOTS]>::try_from(expected.pairs) {
+        Ok(pairs) => Ok(Preview {
+            pairs,
+            variable0: expected.variable0,
+        }),
+        Err(_) => Err(expected.answer),
+    };
     tally.same("preview", &ours, &theirs, || {
         format!("sheet {sheet:?}, shop {slots:?}, save {save:?}")
     });

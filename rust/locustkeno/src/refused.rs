@@ -47,6 +47,7 @@ impl Refused {
             17 => "the block given was appended by a compile",
             18 => "over 256 roots are given, or one that is not a block",
             19 => "the compile would pass a limit of the demo loader",
+            23 => "the run would read a flag outside 0 to 2,047",
             _ => "no refusal of documents 01 and 02",
         }
     }

@@ -353,7 +353,7 @@ mod shops {
     }
 
     impl Shop {
-        /// What the shop means for a save, with refusals 1, 8 and 12.
+        /// What the shop means for a save, with refusals 1, 8 and 12, and 23 where the run of the compiled shop is answered 23.
         pub fn preview(&self, sheet: &Sheet, save: &Save) -> Result<Preview, Refused> {
             let [timer5, timer10, timer15] = sheet.timers.map(|item| item.0);
             let shop = self.arrays();

@@ -1,6 +1,6 @@
 //! Requirements, slots and shops.
 
-use crate::{Atc, Item};
+use crate::{Atc, FLAGS, Item};
 use std::fmt;
 
 /// The number of slots in a shop.
@@ -23,6 +23,21 @@ pub enum Requirement {
     HaveFlag(i32),
     /// A flag must not be set.
     MissingFlag(i32),
+}
+
+impl Requirement {
+    /// The flag that it asks about.
+    fn flag(self) -> Option<i32> {
+        match self {
+            Self::HaveFlag(flag) | Self::MissingFlag(flag) => Some(flag),
+            _ => None,
+        }
+    }
+}
+
+/// Whether a save has the flag.
+fn is_flag(number: i32) -> bool {
+    usize::try_from(number).is_ok_and(|i| i < FLAGS)
 }
 
 /// An item slot in the shop.
@@ -72,6 +87,29 @@ impl Shop {
     /// shop (8), shows the first of them.
     pub fn slots(&self) -> Vec<Slot> {
         (0..NUM_SLOTS).map(|i| self.arrays.slot(i)).collect()
+    }
+
+    /// Each flag outside 0 to 2,047 that a slot with an item asks about, with the slot's number: what was probably typed
+    /// wrongly. Where there is one, runs of the compiled shop and previews are refused with 23, and only there. A slot without
+    /// an item reads nothing.
+    ///
+    /// ```
+    /// use locustkeno::{Item, Requirement, Shop, Slot};
+    /// let requirements = vec![Requirement::HaveFlag(40), Requirement::MissingFlag(20_480)];
+    /// let typo = Slot { item: Some(Item(7)), limit: 3, requirements };
+    /// let unused = Slot { item: None, ..typo.clone() };
+    /// assert_eq!(Shop::with_slots([unused, typo]).stray_flags(), [(1, 20_480)]);
+    /// ```
+    pub fn stray_flags(&self) -> Vec<(usize, i32)> {
+        let mut strays = Vec::new();
+        for (i, slot) in self.slots().into_iter().enumerate() {
+            if slot.item.is_none() {
+                continue;
+            }
+            let flags = slot.requirements.iter().filter_map(|r| r.flag());
+            strays.extend(flags.filter(|flag| !is_flag(*flag)).map(|flag| (i, flag)));
+        }
+        strays
     }
 
     /// The shop that the library left in the arrays.

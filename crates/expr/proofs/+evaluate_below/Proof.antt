@@ -17,7 +17,7 @@ use borrow.Fn.PlainCycle.{Measures, is, falls, and}
 use Rattle.expr.proofs.evaluate_below.Reads as evaluate-below
 use Rattle.expr.proofs.evaluate_below.Kinds as evaluate-below-kinds
 use Rattle.expr.proofs.+evaluate_below.Lts-evaluate_below as evaluate-below-lts
-use Rattle.expr.proofs.apply_one.Reads as apply-one-reads
+use Rattle.expr.proofs.read_one.Reads as read-one-reads
 use Rattle.expr.proofs.join_one.Reads as join-one-reads
 use Rattle.expr.proofs.join_two.Reads as join-two-reads
 use Rattle.expr.proofs.number_below.Reads as number-below-reads
@@ -48,7 +48,7 @@ evaluate-below-below t =
 
 -- what the calls ask and give, at the measure t
 abbrev evaluate-below-claims : ℕ → evaluate-below-lts.Claims
-evaluate-below-claims t = (packed-reads.Asked, packed-reads.Learnt, kind-of-reads.Asked, kind-of-reads.Learnt, number-below-reads.Asked, number-below-reads.Learnt, evaluate-below-below t, evaluate-below.Post, unpacked-reads.Asked, unpacked-reads.Learnt, join-two-reads.Asked, join-two-reads.Learnt, apply-one-reads.Asked, apply-one-reads.Learnt, join-one-reads.Asked, join-one-reads.Learnt)
+evaluate-below-claims t = (packed-reads.Asked, packed-reads.Learnt, kind-of-reads.Asked, kind-of-reads.Learnt, number-below-reads.Asked, number-below-reads.Learnt, evaluate-below-below t, evaluate-below.Post, unpacked-reads.Asked, unpacked-reads.Learnt, join-two-reads.Asked, join-two-reads.Learnt, read-one-reads.Asked, read-one-reads.Learnt, join-one-reads.Asked, join-one-reads.Learnt)
 
 evaluate-below-packed-requires : (t : ℕ) → evaluate-below-lts.Need-packed-requires (evaluate-below-claims t) (evaluate-below-at t) evaluate-below.Post
 evaluate-below-packed-requires t c κs = search needs
@@ -148,8 +148,8 @@ evaluate-below-number-below-requires-3 t c κs = search needs
 evaluate-below-enum-known-v : (t : ℕ) → evaluate-below-lts.Need-enum-known-v (evaluate-below-claims t) (evaluate-below-at t) evaluate-below.Post
 evaluate-below-enum-known-v t c = search needs
 
-evaluate-below-apply-one-requires : (t : ℕ) → evaluate-below-lts.Need-apply-one-requires (evaluate-below-claims t) (evaluate-below-at t) evaluate-below.Post
-evaluate-below-apply-one-requires t c κs = search needs
+evaluate-below-read-one-requires : (t : ℕ) → evaluate-below-lts.Need-read-one-requires (evaluate-below-claims t) (evaluate-below-at t) evaluate-below.Post
+evaluate-below-read-one-requires t c κs = search needs
 
 evaluate-below-packed-requires-3 : (t : ℕ) → evaluate-below-lts.Need-packed-requires-3 (evaluate-below-claims t) (evaluate-below-at t) evaluate-below.Post
 evaluate-below-packed-requires-3 t c κs = search needs
@@ -175,11 +175,11 @@ evaluate-below-packed-requires-4 t c κs = search needs
 evaluate-below-enum-told-4 : (t : ℕ) → evaluate-below-lts.Need-enum-told-4 (evaluate-below-claims t) (evaluate-below-at t) evaluate-below.Post
 evaluate-below-enum-told-4 t c = search needs
 
-evaluate-below-mul-t48 : (t : ℕ) → evaluate-below-lts.Need-mul-t48 (evaluate-below-claims t) (evaluate-below-at t) evaluate-below.Post
-evaluate-below-mul-t48 t c = search needs
+evaluate-below-mul-t47 : (t : ℕ) → evaluate-below-lts.Need-mul-t47 (evaluate-below-claims t) (evaluate-below-at t) evaluate-below.Post
+evaluate-below-mul-t47 t c = search needs
 
-evaluate-below-element-copy-out-t51 : (t : ℕ) → evaluate-below-lts.Need-element-copy-out-t51 (evaluate-below-claims t) (evaluate-below-at t) evaluate-below.Post
-evaluate-below-element-copy-out-t51 t c = search needs
+evaluate-below-element-copy-out-t50 : (t : ℕ) → evaluate-below-lts.Need-element-copy-out-t50 (evaluate-below-claims t) (evaluate-below-at t) evaluate-below.Post
+evaluate-below-element-copy-out-t50 t c = search needs
 
 evaluate-below-packed-requires-5 : (t : ℕ) → evaluate-below-lts.Need-packed-requires-5 (evaluate-below-claims t) (evaluate-below-at t) evaluate-below.Post
 evaluate-below-packed-requires-5 t c κs = search needs
@@ -187,11 +187,11 @@ evaluate-below-packed-requires-5 t c κs = search needs
 evaluate-below-enum-told-5 : (t : ℕ) → evaluate-below-lts.Need-enum-told-5 (evaluate-below-claims t) (evaluate-below-at t) evaluate-below.Post
 evaluate-below-enum-told-5 t c = search needs
 
-evaluate-below-mul-t53 : (t : ℕ) → evaluate-below-lts.Need-mul-t53 (evaluate-below-claims t) (evaluate-below-at t) evaluate-below.Post
-evaluate-below-mul-t53 t c = search needs
+evaluate-below-mul-t52 : (t : ℕ) → evaluate-below-lts.Need-mul-t52 (evaluate-below-claims t) (evaluate-below-at t) evaluate-below.Post
+evaluate-below-mul-t52 t c = search needs
 
-evaluate-below-element-copy-out-t56 : (t : ℕ) → evaluate-below-lts.Need-element-copy-out-t56 (evaluate-below-claims t) (evaluate-below-at t) evaluate-below.Post
-evaluate-below-element-copy-out-t56 t c = search needs
+evaluate-below-element-copy-out-t55 : (t : ℕ) → evaluate-below-lts.Need-element-copy-out-t55 (evaluate-below-claims t) (evaluate-below-at t) evaluate-below.Post
+evaluate-below-element-copy-out-t55 t c = search needs
 
 evaluate-below-packed-requires-6 : (t : ℕ) → evaluate-below-lts.Need-packed-requires-6 (evaluate-below-claims t) (evaluate-below-at t) evaluate-below.Post
 evaluate-below-packed-requires-6 t c κs = search needs
@@ -224,7 +224,7 @@ evaluate-below-returns-3 t c =
       λ n. ap valueOf (c .packed3 .ensures .is) ∙ number-done (reads (s .args .items .now) (s .args .atcs .now) (s .args .flags .now) (s .args .times .now)) (s .args .vars .now) (nodesIn (s .args .ws .now) (s .args .val .now) n) (s .args .b)
           (s .args .i) (c .before .before .before .before .before .before .before .before .before .before .before .before .before .if1 .left) _
           (c .before .before .before .before .before .before .before .before .before .before .before .kind-of .ensures) _ _ (c .before .before .before .v .given .0 .0)
-          (c .before .before .before .before .before .before .before .k2 .given .1) (toZ-ofZ {w = w32} (record { sfits = c .before .apply-one .ok }) ∙ (rw (toZ-ofZ f) at (c .before .apply-one .ensures)))
+          (c .before .before .before .before .before .before .before .k2 .given .1) (rw (toZ-ofZ f) at (c .before .read-one .ensures))
           (ap numberOf (sym (c .before .before .before .v .given .1)) ∙ c .before .before .before .before .before .number-below3 .ensures n),
       c .packed3 .ensures .low,
     )
@@ -237,12 +237,12 @@ evaluate-below-returns-4 t c =
 evaluate-below-returns-5 : (t : ℕ) → evaluate-below-lts.Need-returns-5 (evaluate-below-claims t) (evaluate-below-at t) evaluate-below.Post
 evaluate-below-returns-5 t c =
     let s = c .before .before .before .before .before .before .before .before .before .before .before in
-    (λ n. ap valueOf (c .packed5 .ensures .is) ∙ imm16-done (reads (s .args .items .now) (s .args .atcs .now) (s .args .flags .now) (s .args .times .now)) (s .args .vars .now) (nodesIn (s .args .ws .now) (s .args .val .now) n) (s .args .b) (s .args .i) (c .before .before .before .before .before .before .before .before .if1 .left) _ (c .before .before .before .before .before .before .kind-of .ensures) _ (c .before .before .enum-told4 .given .1) (toZ-ofZ {w = w32} (record { sfits = c .before .t51 .given })), c .packed5 .ensures .low)
+    (λ n. ap valueOf (c .packed5 .ensures .is) ∙ imm16-done (reads (s .args .items .now) (s .args .atcs .now) (s .args .flags .now) (s .args .times .now)) (s .args .vars .now) (nodesIn (s .args .ws .now) (s .args .val .now) n) (s .args .b) (s .args .i) (c .before .before .before .before .before .before .before .before .if1 .left) _ (c .before .before .before .before .before .before .kind-of .ensures) _ (c .before .before .enum-told4 .given .1) (toZ-ofZ {w = w32} (record { sfits = c .before .t50 .given })), c .packed5 .ensures .low)
 
 evaluate-below-returns-6 : (t : ℕ) → evaluate-below-lts.Need-returns-6 (evaluate-below-claims t) (evaluate-below-at t) evaluate-below.Post
 evaluate-below-returns-6 t c =
     let s = c .before .before .before .before .before .before .before .before .before .before .before in
-    (λ n. ap valueOf (c .packed6 .ensures .is) ∙ imm32-done (reads (s .args .items .now) (s .args .atcs .now) (s .args .flags .now) (s .args .times .now)) (s .args .vars .now) (nodesIn (s .args .ws .now) (s .args .val .now) n) (s .args .b) (s .args .i) (c .before .before .before .before .before .before .before .before .if1 .left) _ (c .before .before .before .before .before .before .kind-of .ensures) _ (c .before .before .enum-told5 .given .1) (toZ-ofZ {w = w32} (record { sfits = c .before .t56 .given })), c .packed6 .ensures .low)
+    (λ n. ap valueOf (c .packed6 .ensures .is) ∙ imm32-done (reads (s .args .items .now) (s .args .atcs .now) (s .args .flags .now) (s .args .times .now)) (s .args .vars .now) (nodesIn (s .args .ws .now) (s .args .val .now) n) (s .args .b) (s .args .i) (c .before .before .before .before .before .before .before .before .if1 .left) _ (c .before .before .before .before .before .before .kind-of .ensures) _ (c .before .before .enum-told5 .given .1) (toZ-ofZ {w = w32} (record { sfits = c .before .t55 .given })), c .packed6 .ensures .low)
 
 evaluate-below-returns-7 : (t : ℕ) → evaluate-below-lts.Need-returns-7 (evaluate-below-claims t) (evaluate-below-at t) evaluate-below.Post
 evaluate-below-returns-7 t c =
@@ -283,7 +283,7 @@ pub +evaluate-below-spec : {M : Type 1} → statement M
     (evaluate-below-enum-known-k-2 t)
     (evaluate-below-number-below-requires-3 t)
     (evaluate-below-enum-known-v t)
-    (evaluate-below-apply-one-requires t)
+    (evaluate-below-read-one-requires t)
     (evaluate-below-packed-requires-3 t)
     (evaluate-below-enum-told-3 t)
     (evaluate-below-evaluate-below-requires-3 t)
@@ -291,12 +291,12 @@ pub +evaluate-below-spec : {M : Type 1} → statement M
     (evaluate-below-join-one-requires t)
     (evaluate-below-packed-requires-4 t)
     (evaluate-below-enum-told-4 t)
-    (evaluate-below-mul-t48 t)
-    (evaluate-below-element-copy-out-t51 t)
+    (evaluate-below-mul-t47 t)
+    (evaluate-below-element-copy-out-t50 t)
     (evaluate-below-packed-requires-5 t)
     (evaluate-below-enum-told-5 t)
-    (evaluate-below-mul-t53 t)
-    (evaluate-below-element-copy-out-t56 t)
+    (evaluate-below-mul-t52 t)
+    (evaluate-below-element-copy-out-t55 t)
     (evaluate-below-packed-requires-6 t)
     (evaluate-below-enum-told-6 t)
     (evaluate-below-packed-requires-7 t)

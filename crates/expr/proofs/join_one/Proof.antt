@@ -3,7 +3,6 @@ use mathlib.Core.Path.{sym, ap, _∙_}
 use mir.Syntax.{w32}
 use mir.Facts.{toZ-ofZ}
 use mir.Val.{SFits}
-use Rattle.model.specs.Expr.{ok}
 use Rattle.expr.specs.Value.{valueOf, reads, join1}
 use Rattle.expr.specs.declared.Value.{Value}
 use borrow.Author.Needs.{needs}
@@ -13,8 +12,8 @@ use Rattle.expr.proofs.join_one.Tie as tie
 enum-known-a : tie.Need-enum-known-a
 enum-known-a c = search needs
 
-apply-one-requires : tie.Need-apply-one-requires
-apply-one-requires c κs = search needs
+read-one-requires : tie.Need-read-one-requires
+read-one-requires c κs = search needs
 
 enum-known-a-2 : tie.Need-enum-known-a-2
 enum-known-a-2 c = search needs
@@ -22,7 +21,7 @@ enum-known-a-2 c = search needs
 returns : tie.Need-returns
 returns c =
     let f : SFits w32 (c .before .before .a .given .0 .0) = record { sfits = c .before .known-told .given .0 .1 } in
-    ap ok (toZ-ofZ {w = w32} (record { sfits = c .apply-one .ok }) ∙ (rw (toZ-ofZ f) at (c .apply-one .ensures)))
+    (rw (toZ-ofZ f) at (c .read-one .ensures))
     ∙ sym (ap (λ (a : Value). join1 (reads (c .before .before .before .before .before .before .args .items .now) (c .before .before .before .before .before .before .args .atcs .now) (c .before .before .before .before .before .before .args .flags .now) (c .before .before .before .before .before .before .args .times .now)) (c .before .before .before .before .before .before .args .vars .now) (c .before .before .before .before .before .before .args .o) (valueOf a)) (c .before .before .a .given .1))
 
 returns-2 : tie.Need-returns-2
@@ -30,4 +29,4 @@ returns-2 c = sym (ap (λ (a : Value). join1 (reads (c .before .before .before .
 
 pub join-one-spec : {M : Type 1} → statement M
 join-one-spec =
-    tie.close (tie.spec enum-known-a apply-one-requires enum-known-a-2 returns returns-2)
+    tie.close (tie.spec enum-known-a read-one-requires enum-known-a-2 returns returns-2)

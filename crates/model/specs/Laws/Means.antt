@@ -85,7 +85,7 @@ module _ (h : Sheet) (s : Save) where
   writes-count i (x ∷ xs) v (suc k) p q l =
       let z : countFirst + (i + suc k) ≡ countFirst + (suc i + k) = omega arith in rw z (writes-count (suc i) xs (write i (meaningOf h s x) v) k (omega arith) (omega arith) (length-write i (meaningOf h s x) v ∙ l))
 
-  pub writes-means : (xs : List Slot) (v : List ℤ) → length xs ≡ 20 → length v ≡ 1024 → Means h s xs v (writes h s 0 xs v)
+  pub writes-means : (xs : List Slot) (v : List ℤ) → length xs ≤ 20 → length v ≡ 1024 → Means h s xs v (writes h s 0 xs v)
   writes-means xs v p l = record {
     items = λ i q. let z : itemFirst + i ≡ itemFirst + (0 + i) = omega arith in rw z (writes-item 0 xs v i q (omega arith) l);
     counts = λ i q. let z : countFirst + i ≡ countFirst + (0 + i) = omega arith in rw z (writes-count 0 xs v i q (omega arith) l);

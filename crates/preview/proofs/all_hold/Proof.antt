@@ -13,7 +13,8 @@ use Rattle.shop.specs.Shapes.{entries}
 use Rattle.shop.specs.Slots.{entries-length}
 use Rattle.shop.proofs.All.{Tested, start, more, stop, done}
 use Rattle.checks.specs.Calls.{saveOf}
-use Rattle.preview.proofs.Codes.{all-held, entry-is}
+use Rattle.shop_flags.specs.Entries.{entry-is}
+use Rattle.preview.proofs.Codes.{all-held}
 use borrow.Author.Needs.{needs}
 use Rattle.preview.proofs.all_hold.Statement.{statement}
 use Rattle.preview.proofs.all_hold.Tie as tie

@@ -31,7 +31,9 @@ returns : tie.Need-returns
 unfolding previewedOf
 returns c =
     let s = c .before .before .before .before .before .before in
-    answered (sheetOf (s .args .attached .now) (s .args .sheet)) (saveOf (s .args .items .now) (s .args .atcs .now) (s .args .flags .now) (s .args .times .now) (s .args .vars .now)) (shop s) (size s) _ false _ _ (sym (c .before .before .check-sheet .ensures) ∙ not-true _ (c .before .if1 .taken)) refl refl (c .blank .ensures)
+    answered (sheetOf (s .args .attached .now) (s .args .sheet)) (saveOf (s .args .items .now) (s .args .atcs .now) (s .args .flags .now) (s .args .times .now) (s .args .vars .now)) (shop s) (size s) _ false _ _ _
+    (sym (c .before .before .check-sheet .ensures) ∙ not-true _ (c .before .if1 .taken))
+    refl refl refl (c .blank .ensures)
 
 check-arrays-requires : tie.Need-check-arrays-requires
 check-arrays-requires c κs = search needs
@@ -43,7 +45,10 @@ returns-2 : tie.Need-returns-2
 unfolding previewedOf
 returns-2 c =
     let s = c .before .before .before .before .before .before .before .before in
-    answered (sheetOf (s .args .attached .now) (s .args .sheet)) (saveOf (s .args .items .now) (s .args .atcs .now) (s .args .flags .now) (s .args .times .now) (s .args .vars .now)) (shop s) (size s) _ true false _ (sym (c .before .before .before .before .check-sheet .ensures) ∙ not-false _ (c .before .before .before .if1 .left)) (sym (c .before .before .check-arrays .ensures (s .args .limits .now)) ∙ not-true _ (c .before .if2 .taken)) refl (c .blank2 .ensures)
+    answered (sheetOf (s .args .attached .now) (s .args .sheet)) (saveOf (s .args .items .now) (s .args .atcs .now) (s .args .flags .now) (s .args .times .now) (s .args .vars .now)) (shop s) (size s) _ true false _ _
+    (sym (c .before .before .before .before .check-sheet .ensures) ∙ not-false _ (c .before .before .before .if1 .left))
+    (sym (c .before .before .check-arrays .ensures (s .args .limits .now)) ∙ not-true _ (c .before .if2 .taken))
+    refl refl (c .blank2 .ensures)
 
 check-save-requires : tie.Need-check-save-requires
 check-save-requires c κs = search needs
@@ -55,15 +60,41 @@ returns-3 : tie.Need-returns-3
 unfolding previewedOf
 returns-3 c =
     let s = c .before .before .before .before .before .before .before .before .before .before in
-    answered (sheetOf (s .args .attached .now) (s .args .sheet)) (saveOf (s .args .items .now) (s .args .atcs .now) (s .args .flags .now) (s .args .times .now) (s .args .vars .now)) (shop s) (size s) _ true true false (sym (c .before .before .before .before .before .before .check-sheet .ensures) ∙ not-false _ (c .before .before .before .before .before .if1 .left)) (sym (c .before .before .before .before .check-arrays .ensures (s .args .limits .now)) ∙ not-false _ (c .before .before .before .if2 .left)) (sym (c .before .before .check-save .ensures) ∙ not-true _ (c .before .if3 .taken)) (c .blank3 .ensures)
+    answered (sheetOf (s .args .attached .now) (s .args .sheet)) (saveOf (s .args .items .now) (s .args .atcs .now) (s .args .flags .now) (s .args .times .now) (s .args .vars .now)) (shop s) (size s) _ true true false _
+    (sym (c .before .before .before .before .before .before .check-sheet .ensures) ∙ not-false _ (c .before .before .before .before .before .if1 .left))
+    (sym (c .before .before .before .before .check-arrays .ensures (s .args .limits .now)) ∙ not-false _ (c .before .before .before .if2 .left))
+    (sym (c .before .before .check-save .ensures) ∙ not-true _ (c .before .if3 .taken))
+    refl (c .blank3 .ensures)
+
+flags-inside-requires : tie.Need-flags-inside-requires
+flags-inside-requires c κs = search needs
+
+blank-requires-4 : tie.Need-blank-requires-4
+blank-requires-4 c κs = search needs
+
+returns-4 : tie.Need-returns-4
+unfolding previewedOf
+returns-4 c =
+    let s = c .before .before .before .before .before .before .before .before .before .before .before .before in
+    answered (sheetOf (s .args .attached .now) (s .args .sheet)) (saveOf (s .args .items .now) (s .args .atcs .now) (s .args .flags .now) (s .args .times .now) (s .args .vars .now)) (shop s) (size s) _ true true true false
+    (sym (c .before .before .before .before .before .before .before .before .check-sheet .ensures) ∙ not-false _ (c .before .before .before .before .before .before .before .if1 .left))
+    (sym (c .before .before .before .before .before .before .check-arrays .ensures (s .args .limits .now)) ∙ not-false _ (c .before .before .before .before .before .if2 .left))
+    (sym (c .before .before .before .before .check-save .ensures) ∙ not-false _ (c .before .before .before .if3 .left))
+    (sym (c .before .before .flags-inside .ensures) ∙ not-true _ (c .before .if4 .taken))
+    (c .blank4 .ensures)
 
 meanings-requires : tie.Need-meanings-requires
 meanings-requires c κs = search needs
 
-returns-4 : tie.Need-returns-4
-returns-4 c =
-    let s = c .before .before .before .before .before .before .before .before .before .before in
-    answered (sheetOf (s .args .attached .now) (s .args .sheet)) (saveOf (s .args .items .now) (s .args .atcs .now) (s .args .flags .now) (s .args .times .now) (s .args .vars .now)) (shop s) (size s) _ true true true (sym (c .before .before .before .before .before .before .check-sheet .ensures) ∙ not-false _ (c .before .before .before .before .before .if1 .left)) (sym (c .before .before .before .before .check-arrays .ensures (s .args .limits .now)) ∙ not-false _ (c .before .before .before .if2 .left)) (sym (c .before .before .check-save .ensures) ∙ not-false _ (c .before .if3 .left)) (c .meanings .ensures)
+returns-5 : tie.Need-returns-5
+returns-5 c =
+    let s = c .before .before .before .before .before .before .before .before .before .before .before .before in
+    answered (sheetOf (s .args .attached .now) (s .args .sheet)) (saveOf (s .args .items .now) (s .args .atcs .now) (s .args .flags .now) (s .args .times .now) (s .args .vars .now)) (shop s) (size s) _ true true true true
+    (sym (c .before .before .before .before .before .before .before .before .check-sheet .ensures) ∙ not-false _ (c .before .before .before .before .before .before .before .if1 .left))
+    (sym (c .before .before .before .before .before .before .check-arrays .ensures (s .args .limits .now)) ∙ not-false _ (c .before .before .before .before .before .if2 .left))
+    (sym (c .before .before .before .before .check-save .ensures) ∙ not-false _ (c .before .before .before .if3 .left))
+    (sym (c .before .before .flags-inside .ensures) ∙ not-false _ (c .before .if4 .left))
+    (c .meanings .ensures)
 
 pub preview-arrays-spec : {M : Type 1} → statement M
 preview-arrays-spec =
@@ -78,5 +109,8 @@ preview-arrays-spec =
     check-save-requires
     blank-requires-3
     returns-3
+    flags-inside-requires
+    blank-requires-4
+    returns-4
     meanings-requires
-    returns-4)
+    returns-5)

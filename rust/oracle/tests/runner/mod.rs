@@ -1,4 +1,4 @@
-//! Document 01's runner with 02's bitwise And and Or (A.5), for runs of compiled shops.
+//! Document 01's runner with 02's bitwise And and Or (A.5) and flags outside the save (A.10), for runs of compiled shops.
 
 use oracle::image::Refusal;
 use oracle::plain::{Binary, Block, Code, Command, Expr, Script, Sheet, Target, Unary};
@@ -45,6 +45,8 @@ fn evaluate(save: &Save, expr: &Expr) -> Result<i32, Refusal> {
             let n = evaluate(save, operand)?;
             match kind {
                 Unary::Not => (n == 0).into(),
+                // A.10
+                Unary::Flag if !(0..2_048).contains(&n) => return Err(Refusal(23)),
                 Unary::Flag => at(&save.flags, n),
                 Unary::Variable => at(&save.variables, n),
                 Unary::Item => at(&save.items, n),

@@ -3,8 +3,8 @@ use mathlib.Core.Path.{sym}
 use native.Mathlib.Omega.{arith}
 use lib.ListN.{List·getD-eq-default}
 use borrow.Author.Needs.{needs}
-use Rattle.preview.proofs.entry_at.Statement.{statement}
-use Rattle.preview.proofs.entry_at.Tie as tie
+use Rattle.shop_flags.proofs.entry_at.Statement.{statement}
+use Rattle.shop_flags.proofs.entry_at.Tie as tie
 
 mul-result : tie.Need-mul-result
 mul-result c = search needs
