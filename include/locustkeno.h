@@ -3,8 +3,8 @@
  * Every call answers with a refusal's number from documents 01 and 02, or 0. A slice is a pointer and a length; where the
  * length is 0 the pointer must still not be null. What is written to must not overlap anything else that is handed in.
  * No call keeps a pointer, allocates, or has any state of its own: threads may call at the same time on different memory.
- * On the largest and nastiest scripts 32 kilobytes of stack were enough for lk_read and lk_preview, 160 for lk_write, lk_run
- * and lk_compile, 512 for lk_parse, 768 for lk_reclaim (rust/locustkeno/tests/stack.rs).
+ * On the largest and nastiest scripts 32 kilobytes of stack were enough for lk_read, lk_preview, lk_edit and lk_show, 160 for
+ * lk_write, lk_run and lk_compile, 512 for lk_parse, 768 for lk_reclaim (rust/locustkeno/tests/stack.rs).
  *
  * A script is four arrays and three kept counts:
  *   ws   nodes: code, left operand, right operand at 3n, 3n + 1, 3n + 2
@@ -39,6 +39,7 @@ extern "C" {
 #define LK_DEMO 1
 #define LK_SLOTS 20
 #define LK_ENTRIES 14
+#define LK_USERS 16
 
 /* The refusal or 0, the kept counts of the script and the count of its accepted compiles; all counts are 0 where a read is
  * refused. */
@@ -134,6 +135,32 @@ lk_previewed lk_preview(const uint8_t *attached, size_t attached_len, uint16_t a
                         const uint64_t codes[LK_SLOTS * LK_ENTRIES], const uint8_t lens[LK_SLOTS], const int16_t *counts,
                         size_t counts_len, const uint8_t *held, size_t held_len, const uint8_t *flags, size_t flags_len,
                         const int16_t *times, size_t times_len, const int32_t *vars, size_t vars_len);
+
+/* Rights are a byte for each user and slot, that of user u and slot s at LK_SLOTS * u + s: the sum of what the user may do with
+ * the slot. Every byte is one; its higher bits mean nothing. */
+#define LK_SEE 1
+#define LK_CHANGE_ITEM 2
+#define LK_CHANGE_LIMIT 4
+#define LK_CHANGE_REQUIREMENTS 8
+
+/* The field of an edit. */
+#define LK_ITEM 0
+#define LK_LIMIT 1
+#define LK_REQUIREMENTS 2
+
+/* An edit of one field of a slot by a user. Of item (-1 for none), limit and the len entries the one counts that field names;
+ * it is stored as it is given. Refused (1, 20, 21, 8 in this order), nothing is written; accepted, the words of that field of
+ * that slot and no others. 20: a user that is not below LK_USERS. 21: a slot that is not below LK_SLOTS, a field above
+ * LK_REQUIREMENTS, or no right to change that field; LK_SEE is not needed. 8 judges the new content and nothing of the shop. */
+uint8_t lk_edit(const uint8_t *attached, size_t attached_len, uint16_t atcs, uint16_t timer5, uint16_t timer10,
+                uint16_t timer15, const uint8_t rights[LK_USERS * LK_SLOTS], int32_t items[LK_SLOTS],
+                int16_t limits[LK_SLOTS], uint64_t codes[LK_SLOTS * LK_ENTRIES], uint8_t lens[LK_SLOTS], uint32_t user,
+                uint32_t slot, uint8_t field, int32_t item, int16_t limit, const uint64_t entries[LK_ENTRIES], uint8_t len);
+
+/* The arrays of a shop become those of the shop as a user sees it: every word of a slot with LK_SEE stays, every other slot
+ * becomes an empty one, its LK_ENTRIES codes 0. Refused (20), an empty shop. */
+uint8_t lk_show(const uint8_t rights[LK_USERS * LK_SLOTS], int32_t items[LK_SLOTS], int16_t limits[LK_SLOTS],
+                uint64_t codes[LK_SLOTS * LK_ENTRIES], uint8_t lens[LK_SLOTS], uint32_t user);
 
 #ifdef __cplusplus
 }

@@ -43,7 +43,9 @@ enum {
     LK_SLICE_SHORT = 16,
     LK_BORN_LATER = 17,
     LK_BAD_ROOTS = 18,
-    LK_DEMO_FULL = 19
+    LK_DEMO_FULL = 19,
+    LK_NO_USER = 20,
+    LK_NO_RIGHT = 21
 };
 
 /* A sentence for a refusal, "accepted" for 0. */
@@ -69,6 +71,8 @@ static inline const char *lk_message(unsigned refusal) {
         "the block given was appended by a compile",
         "over 256 roots are given, or one that is not a block",
         "the compile would pass a limit of the demo loader",
+        "there is no such user",
+        "there is no such slot, or the user may not change that field of it",
     };
     return refusal < sizeof sentences / sizeof sentences[0] ? sentences[refusal] : "no refusal";
 }
@@ -202,6 +206,50 @@ static inline lk_previewed lk_shop_preview(const lk_sheet *sheet, const lk_shop 
     return lk_preview(sheet->attached, sheet->items, sheet->atcs, sheet->timer5, sheet->timer10, sheet->timer15,
                       shop->items, shop->limits, shop->codes, shop->lens, save->items, lk_items_of(sheet), save->held,
                       lk_atcs_of(sheet), save->flags, LK_FLAGS, save->times, LK_TIMES, save->vars, LK_VARIABLES);
+}
+
+/* The rights of each user in each slot. A zeroed one gives nobody any. */
+typedef struct {
+    uint8_t bytes[LK_USERS * LK_SLOTS];
+} lk_rights;
+
+/* Gives a user that is there a right in a slot that is there; nobody else gets any. */
+static inline void lk_rights_give(lk_rights *rights, uint32_t user, uint32_t slot, uint8_t right) {
+    if (user < LK_USERS && slot < LK_SLOTS) {
+        rights->bytes[LK_SLOTS * user + slot] |= right;
+    }
+}
+
+/* The three edits, one for each field. */
+
+static inline uint8_t lk_shop_edit(const lk_sheet *sheet, const lk_rights *rights, lk_shop *shop, uint32_t user, uint32_t slot,
+                                   uint8_t field, int32_t item, int16_t limit, const uint64_t entries[LK_ENTRIES],
+                                   uint8_t len) {
+    return lk_edit(sheet->attached, sheet->items, sheet->atcs, sheet->timer5, sheet->timer10, sheet->timer15,
+                   rights->bytes, shop->items, shop->limits, shop->codes, shop->lens, user, slot, field, item, limit,
+                   entries, len);
+}
+
+static inline uint8_t lk_shop_edit_item(const lk_sheet *sheet, const lk_rights *rights, lk_shop *shop, uint32_t user,
+                                        uint32_t slot, int32_t item) {
+    static const uint64_t none[LK_ENTRIES] = {0};
+    return lk_shop_edit(sheet, rights, shop, user, slot, LK_ITEM, item, 0, none, 0);
+}
+
+static inline uint8_t lk_shop_edit_limit(const lk_sheet *sheet, const lk_rights *rights, lk_shop *shop, uint32_t user,
+                                         uint32_t slot, int16_t limit) {
+    static const uint64_t none[LK_ENTRIES] = {0};
+    return lk_shop_edit(sheet, rights, shop, user, slot, LK_LIMIT, -1, limit, none, 0);
+}
+
+static inline uint8_t lk_shop_edit_requirements(const lk_sheet *sheet, const lk_rights *rights, lk_shop *shop, uint32_t user,
+                                                uint32_t slot, const uint64_t entries[LK_ENTRIES], uint8_t len) {
+    return lk_shop_edit(sheet, rights, shop, user, slot, LK_REQUIREMENTS, -1, 0, entries, len);
+}
+
+/* The shop becomes what the user is shown of it: show a copy. */
+static inline uint8_t lk_shop_show(const lk_rights *rights, lk_shop *shop, uint32_t user) {
+    return lk_show(rights->bytes, shop->items, shop->limits, shop->codes, shop->lens, user);
 }
 
 #ifdef __cplusplus

@@ -1,19 +1,23 @@
--- The call that edits arrays, by the number of the field and by the answers of what it calls. Assumes nothing.
+-- The calls that edit and show arrays, by the number of the field and by the answers of what they call. Assumes nothing.
 use mathlib.Core.Path.{_≡_, refl, sym, ap, _∙_}
 use mathlib.Core.List.{List}
-use Prim.Native.Nat.{ℕ, zero, suc, _*_, _≤_, _<_}
+use Prim.Native.Nat.{ℕ, zero, suc, _+_, _*_, _≤_, _<_}
 use native.Mathlib.Omega.{arith}
+use native.Mathlib.Numerals.{add-one}
+use borrow.Author.Tests.{le-ltb, lt-ltb}
 use lib.IntN.{ℤ}
 use lib.ListN.{set}
 use lib.Seq.{paste}
-use Rattle.model.specs.Limits.{entryLimit, slotCount}
+use Rattle.model.specs.Limits.{entryLimit, slotCount, userCount}
+use Rattle.model.specs.Refusal.{noUser}
 use Rattle.model.specs.Sheet as Model
 use Rattle.rights_model.specs.Rights.{Table, editRefusal}
 use Rattle.rights_model.specs.Fields.{allowed}
 use Rattle.shop.specs.declared.Slot.{Slot}
 use Rattle.shop.specs.declared.SlotItem.{SlotItem}
 use Rattle.shop_arrays.specs.Arrays.{Arrays, arraysIn, itemFrom}
-use Rattle.rights.specs.InArrays.{Contents, arraysAs, arraysEdited, arraysWith, fieldFrom, placeFor, slotBy}
+use Rattle.shop_arrays.specs.Slots.{noArrays}
+use Rattle.rights.specs.InArrays.{Contents, arraysEdited, arraysShown, arraysWith, editedAs, fieldFrom, firstShown, placeFor, shownAt, slotBy}
 use Rattle.rights.specs.Values.{editOf}
 use Rattle.rights.specs.declared.Field.{Field}
 use Rattle.rights.specs.declared.Field.the-variants.{Item, Limit, Requirements}
@@ -69,9 +73,9 @@ module _ (t : Table) (h : Model.Sheet) (a : Arrays) (u i n : ℕ) (x : Contents)
   unfolding arraysEdited
   arrays-not q = by r known q
     where
-      by : (m : ℕ) → m ≡ editRefusal t h (editOf u (placeFor n i) (fieldFrom n) (slotBy x)) → (m ≡ 0 → ⊥) → record { refusal = m; arrays = a } ≡ arraysAs (editRefusal t h (editOf u (placeFor n i) (fieldFrom n) (slotBy x))) (arraysWith (fieldFrom n) x (placeFor n i) a) a
+      by : (m : ℕ) → m ≡ editRefusal t h (editOf u (placeFor n i) (fieldFrom n) (slotBy x)) → (m ≡ 0 → ⊥) → record { refusal = m; arrays = a } ≡ editedAs (editRefusal t h (editOf u (placeFor n i) (fieldFrom n) (slotBy x))) (arraysWith (fieldFrom n) x (placeFor n i) a) a
       by zero w q = absurd (q refl)
-      by (suc m) w q = ap (λ m. arraysAs m (arraysWith (fieldFrom n) x (placeFor n i) a) a) w
+      by (suc m) w q = ap (λ m. editedAs m (arraysWith (fieldFrom n) x (placeFor n i) a) a) w
 
   pub place-inside : r ≡ 0 → p < slotCount
   place-inside q = allowed t h (editOf u p f y) (sym k ∙ q) .slot
@@ -80,4 +84,31 @@ module _ (t : Table) (h : Model.Sheet) (a : Arrays) (u i n : ℕ) (x : Contents)
   unfolding arraysEdited
   arrays-now q b w =
       ap (λ (c : Arrays). record { refusal = 0; arrays = c }) (w ∙ ap (λ m. arraysWith (fieldFrom n) x m a) e)
-      ∙ ap (λ m. arraysAs m (arraysWith (fieldFrom n) x (placeFor n i) a) a) (sym q ∙ known)
+      ∙ ap (λ m. editedAs m (arraysWith (fieldFrom n) x (placeFor n i) a) a) (sym q ∙ known)
+
+-- ---- the loop over the slots that are shown
+
+pub record ShownUpTo (t : Table) (u : ℕ) (first : Arrays) (i : ℕ) (out : Arrays) : Type 0 where
+  pub few : i ≤ slotCount
+  pub is : out ≡ firstShown t u i first
+
+module _ (t : Table) (u : ℕ) (first : Arrays) where
+  pub shown-start : ShownUpTo t u first 0 first
+  unfolding firstShown
+  shown-start = record { few = omega arith; is = refl }
+
+  pub shown-more : (i : ℕ) (out : Arrays) → ShownUpTo t u first i out → i < slotCount → (r : Arrays) → r ≡ shownAt (t u i) i out → ShownUpTo t u first (i + 1) r
+  unfolding firstShown
+  shown-more i out k l r e = rw (add-one i) (record { few = l; is = e ∙ ap (shownAt (t u i) i) (k .is) })
+
+  -- accepted
+  pub shown-end : (i : ℕ) (out : Arrays) → ShownUpTo t u first i out → slotCount ≤ i → u < userCount → record { refusal = 0; arrays = out } ≡ arraysShown t first u
+  unfolding arraysShown
+  shown-end i out k l m =
+      let z : i ≡ slotCount = omega (arith, k .few) in
+      let d : out ≡ firstShown t u slotCount first = k .is ∙ ap (λ n. firstShown t u n first) z in
+      rw (d, lt-ltb u userCount m)
+
+  pub shown-not : (out : Arrays) → out ≡ noArrays → userCount ≤ u → record { refusal = noUser; arrays = out } ≡ arraysShown t first u
+  unfolding arraysShown
+  shown-not out e l = rw (e, le-ltb u userCount l)

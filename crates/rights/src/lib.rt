@@ -1,34 +1,27 @@
-// Edits of a shop by users with rights, and what a user is shown (02, A.7): on shops by value, and on the arrays of a shop where they stand.
+// Edits of a shop by users with rights, and what a user is shown (02, A.7), on the arrays of a shop where they stand.
 ghost use mathlib.Core.Path.{_≡_};
-ghost use mathlib.Core.Bool.{cond};
 ghost use Prim.Native.Nat.{_<_, _+_, _*_};
 ghost use lib.ListN.{getD, length};
 ghost use lib.Seq.{paste};
 ghost use Rattle.model.specs.Limits.{slotCount, entryLimit, userCount};
 ghost use Rattle.model.specs.Shop.{itemKnown};
 ghost use Rattle.rights_model.specs.Rights.{contentOk, editRefusal};
-ghost use Rattle.shop.specs.Shapes.{sheetOf, itemOf, placed, noSlot};
-ghost use Rattle.shop_arrays.specs.Arrays.{arraysIn, shopFrom};
-ghost use Rattle.rights.specs.Values.{bitOf, changedSlot, contentOf, editOf, edited, fieldIs, shownShop, shownTo, tableOf, weightOf};
-ghost use Rattle.rights.specs.InArrays.{arraysEdited, arraysWith, contents, fieldFrom, placeFor, slotBy};
-ghost use Rattle.rights.specs.declared.Shown.{Shown};
+ghost use Rattle.shop.specs.Shapes.{sheetOf, itemOf};
+ghost use Rattle.shop_arrays.specs.Arrays.{arraysIn};
+ghost use Rattle.rights.specs.Values.{bitOf, contentOf, editOf, fieldIs, tableOf, weightOf};
+ghost use Rattle.rights.specs.InArrays.{arraysEdited, arraysShown, arraysWith, contents, emptied, fieldFrom, placeFor, shownAt, slotBy};
 use shop::Codes;
 use shop::ENTRIES;
 use shop::Row;
 use shop::SLOTS;
 use shop::Sheet;
-use shop::Shop;
 use shop::Slot;
 use shop::SlotItem;
 use shop::capacity;
 use shop::check_parts;
 use shop::check_sheet;
-use shop::empty_shop;
-use shop::empty_slot;
-use shop::with_slot;
 use shop_arrays::clear_arrays;
 use shop_arrays::item_at;
-use shop_arrays::put_slot;
 
 // Up to so many users work on one shop; a byte of rights for each user and slot, user by user.
 pub const USERS: usize = 16;
@@ -53,18 +46,6 @@ pub enum Field {
     Item,
     Limit,
     Requirements,
-}
-
-// The refusal or 0, and the shop after the edit.
-pub struct Edited {
-    pub refusal: u8,
-    pub shop: Shop,
-}
-
-// The refusal or 0, and the shop as the user sees it.
-pub struct Shown {
-    pub refusal: u8,
-    pub shop: Shop,
 }
 
 // ---- rights
@@ -147,116 +128,7 @@ fn refusal_of(
     0
 }
 
-// The content in its field, the other fields as they were.
-fn changed(old: Slot, field: Field, content: Slot) -> Slot
-    ensures { λ r. ⌜ r ≡ changedSlot field content old ⌝ }
-{
-    match field {
-        Field::Item => {
-            let item = content.item;
-            let row = old.requirements;
-            Slot {
-                item: item,
-                limit: old.limit,
-                requirements: row,
-                len: old.len,
-            }
-        }
-        Field::Limit => {
-            let item = old.item;
-            let row = old.requirements;
-            Slot {
-                item: item,
-                limit: content.limit,
-                requirements: row,
-                len: old.len,
-            }
-        }
-        Field::Requirements => {
-            let item = old.item;
-            let row = content.requirements;
-            Slot {
-                item: item,
-                limit: old.limit,
-                requirements: row,
-                len: content.len,
-            }
-        }
-    }
-}
-
-// Refused, the shop is as it was.
-pub fn edit(
-    attached: &[u8],
-    sheet: Sheet,
-    rights: &[u8; RIGHTS],
-    shop: Shop,
-    user: u32,
-    slot: u32,
-    field: Field,
-    content: Slot,
-) -> Edited
-    ensures { λ r. ⌜ r ≡ edited (tableOf (now (rights .entry))) (sheetOf (now (attached .entry)) sheet) shop user slot field content ⌝ }
-{
-    let refusal = refusal_of(attached, sheet, rights, user, slot, field, content);
-    if refusal != 0 {
-        return Edited {
-            refusal: refusal,
-            shop: shop,
-        };
-    }
-    let i = slot as usize;
-    let new = changed(shop.slots[i], field, content);
-    Edited {
-        refusal: 0,
-        shop: with_slot(shop, i, new),
-    }
-}
-
-// ---- being shown
-
-// Slot number slot as the user sees it, the others as they are.
-fn show_slot(rights: &[u8; RIGHTS], shop: Shop, user: u32, slot: u32) -> Shop
-    requires { ⌜ (user < userCount) × (slot < slotCount) ⌝ }
-    ensures { λ r. ⌜ r ≡ cond (tableOf (now (rights .entry)) user slot .see) shop (placed shop slot noSlot) ⌝ }
-{
-    if has_right(rights, user, slot, SEE) {
-        return shop;
-    }
-    let empty = empty_slot();
-    with_slot(shop, slot as usize, empty)
-}
-
-fn show_slots(rights: &[u8; RIGHTS], shop: Shop, user: u32) -> Shop
-    requires { ⌜ user < userCount ⌝ }
-    ensures { λ r. ⌜ r ≡ shownShop (tableOf (now (rights .entry))) user shop ⌝ }
-{
-    let mut out = shop;
-    let mut i = 0;
-    while i < SLOTS_HERE {
-        out = show_slot(rights, out, user, i);
-        i += 1;
-    }
-    out
-}
-
-// 20 only; refused, all slots are empty.
-pub fn show(rights: &[u8; RIGHTS], shop: Shop, user: u32) -> Shown
-    ensures { λ r. ⌜ r ≡ shownTo (tableOf (now (rights .entry))) user shop ⌝ }
-{
-    if USERS_HERE <= user {
-        return Shown {
-            refusal: 20,
-            shop: empty_shop(),
-        };
-    }
-    Shown {
-        refusal: 0,
-        shop: show_slots(rights, shop, user),
-    }
-}
-
-// ---- edits on the arrays of a shop, where they stand: what is not edited is not written
+// ---- on the arrays
 
 // Fields by number, as programs in Rust and C give them.
 fn field_from(field: u8) -> Field
@@ -392,6 +264,26 @@ pub fn edit_arrays(
     0
 }
 
+// ---- being shown
+
+// The words of slot i become those of an empty slot.
+fn empty_at(
+    items: &mut [i32; SLOTS],
+    limits: &mut [i16; SLOTS],
+    codes: &mut Codes,
+    lens: &mut [u8; SLOTS],
+    i: usize,
+)
+    requires { ⌜ i < slotCount ⌝ }
+    ensures { λ _. ⌜ arraysIn (now (items .exit)) (now (limits .exit)) (now (codes .exit)) (now (lens .exit)) ≡ emptied i (arraysIn (now (items .entry)) (now (limits .entry)) (now (codes .entry)) (now (lens .entry))) ⌝ }
+{
+    let row = [0; ENTRIES];
+    items[i] = -1;
+    limits[i] = 0;
+    put_entries(&row, codes, i);
+    lens[i] = 0;
+}
+
 // Slot number slot made empty where the user may not see it.
 fn hide_slot(
     rights: &[u8; RIGHTS],
@@ -403,16 +295,16 @@ fn hide_slot(
     slot: u32,
 )
     requires { ⌜ (user < userCount) × (slot < slotCount) ⌝ }
-    ensures { λ _. ⌜ shopFrom (arraysIn (now (items .exit)) (now (limits .exit)) (now (codes .exit)) (now (lens .exit))) ≡ cond (tableOf (now (rights .entry)) user slot .see) (shopFrom (arraysIn (now (items .entry)) (now (limits .entry)) (now (codes .entry)) (now (lens .entry)))) (placed (shopFrom (arraysIn (now (items .entry)) (now (limits .entry)) (now (codes .entry)) (now (lens .entry)))) slot noSlot) ⌝ }
+    ensures { λ _. ⌜ arraysIn (now (items .exit)) (now (limits .exit)) (now (codes .exit)) (now (lens .exit)) ≡ shownAt (tableOf (now (rights .entry)) user slot) slot (arraysIn (now (items .entry)) (now (limits .entry)) (now (codes .entry)) (now (lens .entry))) ⌝ }
 {
     if has_right(rights, user, slot, SEE) {
         return;
     }
-    let empty = empty_slot();
-    put_slot(items, limits, codes, lens, slot as usize, empty);
+    empty_at(items, limits, codes, lens, slot as usize);
 }
 
-// The arrays of a shop become those of the shop as the user sees it; refused, those of the empty shop.
+// The arrays of a shop become those of the shop as the user sees it: the words of a slot that is seen stay, those of another become an
+// empty slot's. Refused, all are those of the empty shop.
 pub fn show_arrays(
     rights: &[u8; RIGHTS],
     items: &mut [i32; SLOTS],
@@ -421,7 +313,7 @@ pub fn show_arrays(
     lens: &mut [u8; SLOTS],
     user: u32,
 ) -> u8
-    ensures { λ r. ⌜ _≡_ {A = Shown} (record { refusal = r; shop = shopFrom (arraysIn (now (items .exit)) (now (limits .exit)) (now (codes .exit)) (now (lens .exit))) }) (shownTo (tableOf (now (rights .entry))) user (shopFrom (arraysIn (now (items .entry)) (now (limits .entry)) (now (codes .entry)) (now (lens .entry))))) ⌝ }
+    ensures { λ r. ⌜ record { refusal = r; arrays = arraysIn (now (items .exit)) (now (limits .exit)) (now (codes .exit)) (now (lens .exit)) } ≡ arraysShown (tableOf (now (rights .entry))) (arraysIn (now (items .entry)) (now (limits .entry)) (now (codes .entry)) (now (lens .entry))) user ⌝ }
 {
     if USERS_HERE <= user {
         clear_arrays(items, limits, codes, lens);

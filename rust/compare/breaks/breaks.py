@@ -20,7 +20,10 @@ TOP = HERE.parents[2]
 KIT = pathlib.Path(os.environ.get("RATTLE_HOME") or pathlib.Path(shutil.which("rt")).resolve().parent.parent)
 TOOLS = KIT / "on" / os.uname().machine
 CLANG = TOOLS / "toolchain/bin/clang"
-CALLS = ["lk_read", "lk_write", "lk_run", "lk_compile", "lk_parse", "lk_preview", "lk_with_slots", "lk_reclaim"]
+CALLS = {
+    "capi": ["lk_read", "lk_write", "lk_run", "lk_compile", "lk_parse", "lk_preview", "lk_with_slots", "lk_reclaim"],
+    "capi_rights": ["lk_edit", "lk_show"],
+}
 
 # A program that reaches the calls and makes none of them.
 PROGRAM = """fn main() {
@@ -49,13 +52,17 @@ PROGRAM = """fn main() {
         let roots = [0, 0];
         let mut moved = [0; 4096];
         capi::lk_reclaim(&mut ws, &mut val, &mut cw, &mut bw, &mut births, 0, 0, 0, 0, &roots, &mut moved);
+        let rights = [0; 320];
+        let row = [0; 14];
+        capi_rights::lk_edit(&bytes, 0, 0, 1, 2, &rights, &mut items, &mut limits, &mut codes, &mut lens, 0, 0, 0, 0, 0, &row, 0);
+        capi_rights::lk_show(&rights, &mut items, &mut limits, &mut codes, &mut lens, 0);
     }
 }
 """
 
 
-def reached(name):
-    """The crates that a crate rests on, itself last."""
+def reached():
+    """The crates that export calls and those that they rest on, each behind what it rests on."""
     lines = (TOP / "crates.txt").read_text().splitlines()
     deps = dict(re.split(r":\s*", line, maxsplit=1) for line in lines if line and not line.startswith("#"))
     order = []
@@ -66,7 +73,8 @@ def reached(name):
         if crate not in order:
             order.append(crate)
 
-    visit(name)
+    for name in CALLS:
+        visit(name)
     return order
 
 
@@ -104,7 +112,7 @@ def module(crates, work):
     program = work / "program/main.rt"
     program.parent.mkdir()
     program.write_text(PROGRAM)
-    sources = [f"std={KIT}/libs/std/src/lib.rt"] + [f"{crate}={crates}/{crate}/src/lib.rt" for crate in reached("capi")]
+    sources = [f"std={KIT}/libs/std/src/lib.rt"] + [f"{crate}={crates}/{crate}/src/lib.rt" for crate in reached()]
     libs = [word for source in sources for word in ("--lib", source)]
     command = [TOOLS / "bin/rattle-cases", "--toolchain", tool, program, "--crate-name", "broken", *libs]
     said = subprocess.run(command, capture_output=True, text=True)
@@ -113,9 +121,9 @@ def module(crates, work):
     flags = ["-S", "-emit-llvm", "-x", "ir", "-O0", "-Xclang", "-disable-llvm-passes"]
     subprocess.run([CLANG, *flags, work / "module.bc", "-o", work / "module.ll"], check=True, capture_output=True)
     text = (work / "module.ll").read_text()
-    for call in CALLS:
-        text = re.sub(rf'define internal (.*)@"capi::{call}"', rf'define \1@"capi::{call}"', text)
-        text = text.replace(f'@"capi::{call}"', f"@inner_{call}")
+    for name, call in ((name, call) for name, calls in CALLS.items() for call in calls):
+        text = re.sub(rf'define internal (.*)@"{name}::{call}"', rf'define \1@"{name}::{call}"', text)
+        text = text.replace(f'@"{name}::{call}"', f"@inner_{call}")
     return text.replace("define i32 @main()", "define internal i32 @main()")
 
 
@@ -158,7 +166,7 @@ def main():
             work = pathlib.Path(temporary) / "work"
             shutil.rmtree(work, ignore_errors=True)
             crates = work / "crates"
-            for crate in reached("capi"):
+            for crate in reached():
                 shutil.copytree(TOP / "crates" / crate / "src", crates / crate / "src")
             if edit:
                 apply(edit, crates)

@@ -104,3 +104,20 @@ lk_kept lk_reclaim(uint16_t *ws, int32_t *val, uint16_t *cw, uint16_t *bw, uint3
     inner_lk_reclaim(&answer, ws, val, cw, bw, births, nodes, commands, blocks, compiles, &r, moved);
     return answer;
 }
+
+uint8_t inner_lk_edit(slice *, uint16_t, uint16_t, uint16_t, uint16_t, const uint8_t *, int32_t *, int16_t *, uint64_t *,
+                      uint8_t *, uint32_t, uint32_t, uint8_t, int32_t, int16_t, const uint64_t *, uint8_t);
+uint8_t inner_lk_show(const uint8_t *, int32_t *, int16_t *, uint64_t *, uint8_t *, uint32_t);
+
+uint8_t lk_edit(const uint8_t *attached, size_t attached_len, uint16_t atcs, uint16_t timer5, uint16_t timer10,
+                uint16_t timer15, const uint8_t *rights, int32_t *items, int16_t *limits, uint64_t *codes, uint8_t *lens,
+                uint32_t user, uint32_t slot, uint8_t field, int32_t item, int16_t limit, const uint64_t *entries,
+                uint8_t len) {
+    slice a = {attached, attached_len};
+    return inner_lk_edit(&a, atcs, timer5, timer10, timer15, rights, items, limits, codes, lens, user, slot, field, item,
+                         limit, entries, len);
+}
+
+uint8_t lk_show(const uint8_t *rights, int32_t *items, int16_t *limits, uint64_t *codes, uint8_t *lens, uint32_t user) {
+    return inner_lk_show(rights, items, limits, codes, lens, user);
+}

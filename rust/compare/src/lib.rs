@@ -9,6 +9,7 @@ pub mod meaning;
 pub mod mixed;
 pub mod reclaim;
 pub mod recounted;
+pub mod rights;
 pub mod runs;
 pub mod saves;
 pub mod shared;
@@ -42,6 +43,7 @@ pub fn all(seed: u64, count: usize, longest: usize, small: bool) -> Tally {
     }
     runs::operators(&mut tally, &mut random);
     reclaimed(&mut tally, &mut random, count);
+    rights::lists(&mut tally, &mut random, count / 4);
     tally
 }
 
@@ -58,6 +60,13 @@ pub fn shops(seed: u64, count: usize) -> Tally {
 pub fn reclaims(seed: u64, count: usize) -> Tally {
     let mut tally = Tally::default();
     reclaimed(&mut tally, &mut Random::new(seed), count);
+    tally
+}
+
+/// Edits and shows alone.
+pub fn edits(seed: u64, count: usize) -> Tally {
+    let mut tally = Tally::default();
+    rights::lists(&mut tally, &mut Random::new(seed), count);
     tally
 }
 

@@ -4,7 +4,8 @@
 //! image of at most LONGEST bytes of a small alphabet; with `small` it takes every script of two
 //! small blocks too. `compare SEED COUNT shops` makes COUNT lists of compiles and ten times as many
 //! parses, and nothing else; `compare SEED COUNT reclaims` makes COUNT reclaims of each kind and COUNT
-//! lists that mix them with compiles. It ends with 1 where something differs.
+//! lists that mix them with compiles; `compare SEED COUNT edits` makes COUNT lists of edits by users
+//! with rights. It ends with 1 where something differs.
 
 use compare::all;
 use compare::tally::Tally;
@@ -13,7 +14,7 @@ use std::process::ExitCode;
 use std::{env, error::Error};
 
 const USAGE: &str =
-    "usage: compare SEED COUNT [LONGEST [small]], or compare SEED COUNT shops|reclaims";
+    "usage: compare SEED COUNT [LONGEST [small]], or compare SEED COUNT shops|reclaims|edits";
 
 fn main() -> Result<ExitCode, Box<dyn Error>> {
     let arguments: Vec<String> = env::args().skip(1).collect();
@@ -25,6 +26,7 @@ fn main() -> Result<ExitCode, Box<dyn Error>> {
     let (longest, small) = match rest[..] {
         [] => (3, false),
         ["shops"] => return said(seed, || compare::shops(seed, count)),
+        ["edits"] => return said(seed, || compare::edits(seed, count)),
         ["reclaims"] => return said(seed, || compare::reclaims(seed, count)),
         [longest] => (longest.parse()?, false),
         [longest, "small"] => (longest.parse()?, true),

@@ -98,7 +98,10 @@ unsafe extern "C" {
     ) -> Kept;
 }
 
+pub use rights::*;
 pub use shops::*;
+
+mod rights;
 
 mod shops {
     use super::Kept;

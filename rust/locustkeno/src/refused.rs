@@ -48,6 +48,8 @@ impl Refused {
             18 => "over 256 roots are given, or one that is not a block",
             19 => "the compile would pass a limit of the demo loader",
             23 => "the run would read a flag outside 0 to 2,047",
+            20 => "there is no such user",
+            21 => "there is no such slot, or the user may not change that field of it",
             _ => "no refusal of documents 01 and 02",
         }
     }

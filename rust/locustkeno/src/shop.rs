@@ -120,6 +120,10 @@ impl Shop {
     pub(crate) fn arrays(&self) -> &ShopArrays {
         &self.arrays
     }
+
+    pub(crate) fn arrays_mut(&mut self) -> &mut ShopArrays {
+        &mut self.arrays
+    }
 }
 
 impl fmt::Debug for Shop {
@@ -129,7 +133,7 @@ impl fmt::Debug for Shop {
 }
 
 use crossing::Given;
-pub(crate) use crossing::{Codes, ShopArrays};
+pub(crate) use crossing::{Codes, Row, ShopArrays, row};
 
 /// Slots as the library takes them, there and back.
 mod crossing {
@@ -138,6 +142,9 @@ mod crossing {
 
     /// The codes of the requirements, as many for each slot as it may be given.
     pub type Codes = [u64; NUM_SLOTS * ENTRIES];
+
+    /// The codes of one slot.
+    pub type Row = [u64; ENTRIES];
 
     /// A shop as four arrays: no item is -1, and a length over `ENTRIES` counts as that many entries.
     #[derive(Clone, PartialEq, Eq)]
@@ -171,6 +178,15 @@ mod crossing {
             Requirement::MissingFlag(n) => (5, i64::from(n)),
         };
         (kind << 32) + (number + (1 << 31)) as u64
+    }
+
+    /// Requirements by their codes, and how many there are. Entries past `ENTRIES` have no place among the codes, but count.
+    pub fn row(requirements: &[Requirement]) -> (Row, u8) {
+        let mut row = [0; ENTRIES];
+        for (place, entry) in row.iter_mut().zip(requirements) {
+            *place = code(*entry);
+        }
+        (row, u8::try_from(requirements.len()).unwrap_or(u8::MAX))
     }
 
     fn requirement(code: u64) -> Requirement {
@@ -227,16 +243,14 @@ mod crossing {
             self.count < GIVEN
         }
 
-        /// One slot more. Entries past `ENTRIES` have no place among the codes, but count.
+        /// One slot more.
         pub fn push(&mut self, slot: &Slot) {
             let i = self.count;
             self.items[i] = slot.item.map_or(-1, |item| item.0.into());
             self.limits[i] = slot.limit;
-            self.lens[i] = u8::try_from(slot.requirements.len()).unwrap_or(u8::MAX);
-            let row = &mut self.codes[ENTRIES * i..][..ENTRIES];
-            for (place, entry) in row.iter_mut().zip(&slot.requirements) {
-                *place = code(*entry);
-            }
+            let (row, len) = row(&slot.requirements);
+            self.codes[ENTRIES * i..][..ENTRIES].copy_from_slice(&row);
+            self.lens[i] = len;
             self.count += 1;
         }
 

@@ -1,11 +1,15 @@
 //! Each call on a thread with just the stack that the header promises to be enough, on the largest and nastiest scripts.
 
-use locustkeno::{Item, Loader, Refused, Save, Script, Sheet, Shop, Slot};
+use locustkeno::{
+    Content, Edit, Item, Loader, Refused, Requirement, Rights, Save, Script, Sheet, Shop, Slot,
+    USERS,
+};
 use std::thread;
 
 const KILOBYTE: usize = 1 << 10;
 const READ: usize = 32 * KILOBYTE;
 const PREVIEW: usize = 32 * KILOBYTE;
+const EDIT: usize = 32 * KILOBYTE;
 const WRITE: usize = 160 * KILOBYTE;
 const RUN: usize = 160 * KILOBYTE;
 const COMPILE: usize = 160 * KILOBYTE;
@@ -203,4 +207,22 @@ fn preview() {
     let shop = Shop::with_slots([]);
     let save = Save::new(&sheet());
     on_stack(PREVIEW, || done(shop.preview(&sheet(), &save)));
+}
+
+#[test]
+fn edit_and_show() {
+    let rights = Rights::from_bytes([14; USERS * 20]);
+    let contents = [
+        Content::Item(Some(Item(2))),
+        Content::Limit(1),
+        Content::Requirements(vec![Requirement::HaveItem(Item(2)); 14]),
+    ];
+    let edits = contents.map(|content| Edit { slot: 19, content });
+    on_stack(EDIT, || {
+        let mut shop = Shop::with_slots([]);
+        for edit in &edits {
+            shop.edit(&sheet(), &rights, 15, edit).unwrap();
+        }
+        done(shop.shown_to(&rights, 15));
+    });
 }

@@ -1,42 +1,33 @@
 -- `show_arrays` meets its contract. The loop's invariant: the slots passed are shown. Assumes nothing.
-use mathlib.Core.Path.{sym, ap, _∙_}
-use mathlib.Core.Bool.{Bool}
 use Prim.Native.Nat.{_-_}
 use native.Mathlib.Omega.{arith}
-use borrow.Author.Tests.{le-ltb, lt-ltb}
 use Rattle.model.specs.Limits.{slotCount}
-use Rattle.shop.specs.declared.Shop.{Shop}
-use Rattle.shop_arrays.specs.Arrays.{arraysIn, shopFrom}
-use Rattle.shop_arrays.specs.Slots.{shop-none}
-use Rattle.rights.specs.Values.{shownAs, shownShop, shownTo, tableOf}
-use Rattle.rights.specs.Answers.{ShownUpTo, shown-start, shown-more, shown-end}
+use Rattle.shop_arrays.specs.Arrays.{Arrays, arraysIn}
+use Rattle.rights.specs.Values.{tableOf}
+use Rattle.rights.specs.ArrayLaws.{ShownUpTo, shown-start, shown-more, shown-end, shown-not}
 use borrow.Author.Needs.{needs}
 use Rattle.rights.proofs.show_arrays.Statement.{statement}
 use Rattle.rights.proofs.show_arrays.Tie as tie
 
 abbrev Inv-loop : tie.InvT-loop
-Inv-loop rights items₀ limits₀ codes₀ lens₀ user i₀ items limits codes lens i = ShownUpTo (tableOf rights) user (shopFrom (arraysIn items₀ limits₀ codes₀ lens₀)) i (shopFrom (arraysIn items limits codes lens))
+Inv-loop rights items₀ limits₀ codes₀ lens₀ user i₀ items limits codes lens i = ShownUpTo (tableOf rights) user (arraysIn items₀ limits₀ codes₀ lens₀) i (arraysIn items limits codes lens)
 
 abbrev μ-loop : tie.MeasureT-loop
 μ-loop rights items₀ limits₀ codes₀ lens₀ user i₀ items limits codes lens i = slotCount - i
 
-abbrev shop : tie.Start Inv-loop μ-loop → Shop
-shop s = shopFrom (arraysIn (s .args .items .now) (s .args .limits .now) (s .args .codes .now) (s .args .lens .now))
-
-abbrev seen : tie.Start Inv-loop μ-loop → Shop
-seen s = shownShop (tableOf (s .args .rights .now)) (s .args .user) (shop s)
+abbrev arrays : tie.Start Inv-loop μ-loop → Arrays
+arrays s = arraysIn (s .args .items .now) (s .args .limits .now) (s .args .codes .now) (s .args .lens .now)
 
 clear-arrays-requires : tie.Need-clear-arrays-requires Inv-loop μ-loop
 clear-arrays-requires c κs = search needs
 
 returns : tie.Need-returns Inv-loop μ-loop
-unfolding shownTo
 returns c =
     let s = c .before .before .before .before .before .before in
-    ap (λ (x : Shop). record { refusal = 20; shop = x }) (ap shopFrom (c .clear-arrays .ensures) ∙ shop-none) ∙ ap (λ (b : Bool). shownAs b (seen s)) (sym (le-ltb _ _ (c .before .before .before .before .before .if1 .taken)))
+    shown-not (tableOf (s .args .rights .now)) (s .args .user) (arrays s) _ (c .clear-arrays .ensures) (c .before .before .before .before .before .if1 .taken)
 
 loop-holds : tie.Need-loop-holds Inv-loop μ-loop
-loop-holds c = let s = c .before in shown-start (tableOf (s .args .rights .now)) (s .args .user) (shop s)
+loop-holds c = let s = c .before in shown-start (tableOf (s .args .rights .now)) (s .args .user) (arrays s)
 
 hide-slot-requires : tie.Need-hide-slot-requires Inv-loop μ-loop
 hide-slot-requires c κs = search needs
@@ -51,14 +42,13 @@ loop-again : tie.Need-loop-again Inv-loop μ-loop
 loop-again c =
     let s = c .before .before .before .before .before .before .before .before in
     let l = c .before .before .before .before .before .before .loop in
-    shown-more (tableOf (s .args .rights .now)) (s .args .user) (shop s) (l .i) _ (l .inv) (c .before .before .before .before .before .loop-test .taken) _ (c .hide-slot .ensures)
+    shown-more (tableOf (s .args .rights .now)) (s .args .user) (arrays s) (l .i) _ (l .inv) (c .before .before .before .before .before .loop-test .taken) _ (c .hide-slot .ensures)
 
 returns-2 : tie.Need-returns-2 Inv-loop μ-loop
-unfolding shownTo
 returns-2 c =
     let s = c .before .before .before in
     let l = c .before .loop in
-    ap (λ (x : Shop). record { refusal = 0; shop = x }) (shown-end (tableOf (s .args .rights .now)) (s .args .user) (shop s) (l .i) _ (l .inv) (c .loop-test .left)) ∙ ap (λ (b : Bool). shownAs b (seen s)) (sym (lt-ltb _ _ (c .before .before .if1 .left)))
+    shown-end (tableOf (s .args .rights .now)) (s .args .user) (arrays s) (l .i) _ (l .inv) (c .loop-test .left) (c .before .before .if1 .left)
 
 pub show-arrays-spec : {M : Type 1} → statement M
 show-arrays-spec =

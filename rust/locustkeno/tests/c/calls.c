@@ -17,6 +17,24 @@ static void expect(int holds, const char *what) {
     }
 }
 
+/* User 0 changes the item of slot 0 and sees nothing, user 1 sees slot 0 and changes nothing. */
+static void expect_rights(const lk_sheet *sheet, const lk_shop *start) {
+    static lk_rights rights;
+    lk_shop shop = *start;
+    lk_shop seen;
+
+    lk_rights_give(&rights, 0, 0, LK_CHANGE_ITEM);
+    lk_rights_give(&rights, 1, 0, LK_SEE);
+    expect(lk_shop_edit_item(sheet, &rights, &shop, 0, 0, 6) == LK_ACCEPTED && shop.items[0] == 6, "an edit of the item");
+    expect(lk_shop_edit_item(sheet, &rights, &shop, 0, 0, 8) == LK_BAD_SHOP && shop.items[0] == 6, "8 by the new item");
+    expect(lk_shop_edit_limit(sheet, &rights, &shop, 0, 0, 9) == LK_NO_RIGHT, "21 for the limit");
+    expect(lk_shop_edit_requirements(sheet, &rights, &shop, 16, 0, shop.codes, 1) == LK_NO_USER, "20 for user 16");
+    seen = shop;
+    expect(lk_shop_show(&rights, &seen, 1) == LK_ACCEPTED && seen.items[0] == 6 && seen.lens[0] == 1, "user 1 sees slot 0");
+    seen = shop;
+    expect(lk_shop_show(&rights, &seen, 0) == LK_ACCEPTED && seen.items[0] == -1 && seen.lens[0] == 0, "user 0 sees nothing");
+}
+
 int main(void) {
     static const uint8_t attached[8] = {0};
     static const uint32_t roots[] = {0};
@@ -51,5 +69,6 @@ int main(void) {
     expect(lk_script_read(&script, image, written.len) == LK_ACCEPTED && script.blocks == 26, "read again");
     expect(lk_script_write(&script, image, written.len - 1).refusal == LK_SLICE_SHORT, "16 in a byte less");
     expect(strcmp(lk_message(LK_NO_ROOM), "the compile would pass a limit of the script") == 0, "a sentence for 9");
+    expect_rights(&sheet, &shop);
     return failed;
 }

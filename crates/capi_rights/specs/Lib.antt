@@ -1,0 +1,4 @@
+pub mod Words
+pub mod Stands
+pub mod Calls
+pub mod Hidden
