@@ -158,7 +158,7 @@ module _ (h : Sheet) where
       by true z = ap wordTells (moved-tells k rs mv (eqb-true _ _ z) j) ∙ tells-told (numberAfterIn k (change.reclaim rs) j)
       by false z = rw z
 
-  abbrev call : Made → change.Change
+  abbrev pub call : Made → change.Change
   call x = asChange (x .asked)
 
   follows : Follows made (changesIn h) call (AsPromised h) (λ k t. k ≡ t)
@@ -178,7 +178,8 @@ module _ (h : Sheet) where
     abbrev calls : List change.Change
     calls = map call xs
 
-    followed : Followed made (changesIn h) (λ k t. k ≡ t) k k xs calls
+    -- the list is one of compiles and reclaims on the record
+    pub followed : Followed made (changesIn h) (λ k t. k ≡ t) k k xs (map (λ x. asChange (x .asked)) xs)
     followed = follows-all made (changesIn h) call (AsPromised h) (λ k t. k ≡ t) follows k k refl xs promised
 
     demand : Demand3MixedIn h k calls

@@ -124,7 +124,7 @@ pub record Delivered (h : Sheet) (k : Born) (xs : List Made) : Type 0 where
 
 -- ---- as the calls that they make
 
-abbrev callBy : Made → engine.Made
+abbrev pub callBy : Made → engine.Made
 callBy x = record { asked = asCall (x .asked); refusal = x .answer .refusal; after = leftBy x; told = x .told }
 
 -- arrays stand for twenty slots
@@ -161,10 +161,10 @@ module _ (h : Sheet) (k : Born) (xs : List Made) (long : LongBorn k) (promised :
   along Q Q′ f q =
       follows-along made engine.made callBy (AsPromised h) (λ k t. k ≡ t) (follows (AsPromised h)) Q Q′ (λ k t x e p. subst (λ (j : Born). Q′ j (callBy x)) e (f k x p)) k k refl xs promised q
 
-  followed : Followed made engine.made (λ k t. k ≡ t) k k xs (map callBy xs)
+  pub followed : Followed made engine.made (λ k t. k ≡ t) k k xs (map callBy xs)
   followed = follows-all made engine.made callBy (AsPromised h) (λ k t. k ≡ t) (follows (AsPromised h)) k k refl xs promised
 
-  promises : Along engine.made (engine.AsPromised h) k (map callBy xs)
+  pub promises : Along engine.made (engine.AsPromised h) k (map callBy xs)
   promises = along (AsPromised h) (engine.AsPromised h) (λ t x p. promised-is h t x (x .asked) refl p) promised
 
   demand : engine.Delivered h k (map callBy xs)

@@ -1,0 +1,11 @@
+pub mod Bools
+pub mod Falls
+pub mod Steps
+pub mod Runs
+pub mod Reads
+pub mod Walks
+pub mod Led
+pub mod Compiled
+pub mod Counts
+pub mod Lists
+pub mod Ends

@@ -1,0 +1,1 @@
+// One walk for many saves: definitions and theorems only (specs/).
