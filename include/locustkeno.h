@@ -5,6 +5,8 @@
  * No call keeps a pointer, allocates, or has any state of its own: threads may call at the same time on different memory.
  * On the largest and nastiest scripts 32 kilobytes of stack were enough for lk_read, lk_preview, lk_edit and lk_show, 160 for
  * lk_write, lk_run and lk_compile, 512 for lk_parse, 768 for lk_reclaim (rust/locustkeno/tests/stack.rs).
+ * On the largest and nastiest scripts 32 kilobytes of stack were enough for lk_read, lk_preview and lk_bill, 160 for lk_write,
+ * lk_run and lk_compile, 512 for lk_parse, 768 for lk_reclaim (rust/locustkeno/tests/stack.rs).
  *
  * A script is four arrays and three kept counts:
  *   ws   nodes: code, left operand, right operand at 3n, 3n + 1, 3n + 2
@@ -161,6 +163,27 @@ uint8_t lk_edit(const uint8_t *attached, size_t attached_len, uint16_t atcs, uin
  * becomes an empty one, its LK_ENTRIES codes 0. Refused (20), an empty shop. */
 uint8_t lk_show(const uint8_t rights[LK_USERS * LK_SLOTS], int32_t items[LK_SLOTS], int16_t limits[LK_SLOTS],
                 uint64_t codes[LK_SLOTS * LK_ENTRIES], uint8_t lens[LK_SLOTS], uint32_t user);
+
+/* The bill (document 02, A.11 and A.12). */
+
+/* The refusal or 0, and the total in coins, 0 where the bill is refused. */
+typedef struct {
+    uint8_t refusal;
+    uint64_t total;
+} lk_billed;
+
+/* The bill of a basket, made from the save as lk_run left it. A tariff is a price of 0 to 30,000 coins for each item and a
+ * discount of 0 to 1,000 thousandths. A basket is the number taken from each slot. A line is number * price * (1,000 - discount)
+ * / 1,000, rounded half up to a whole coin. The three arrays get the twenty lines, each slot once: by the item number that the
+ * run left, as a signed number, slots of equal number by slot number. Refused (1, 12, 24, 25 in this order), they stay as they
+ * were. 24: a price or the discount is out of range, or there is not exactly one price for each item. 25: a number is below 0,
+ * above its slot's count, or above 0 where the slot's item is not on the sheet. */
+lk_billed lk_bill(const uint8_t *attached, size_t attached_len, uint16_t atcs, uint16_t timer5, uint16_t timer10,
+                  uint16_t timer15, const int16_t *items, size_t items_len, const uint8_t *held, size_t held_len,
+                  const uint8_t *flags, size_t flags_len, const int16_t *times, size_t times_len, const int32_t *vars,
+                  size_t vars_len, const uint16_t *prices, size_t prices_len, uint16_t discount,
+                  const int32_t basket[LK_SLOTS], int32_t to_items[LK_SLOTS], uint8_t to_slots[LK_SLOTS],
+                  uint64_t to_coins[LK_SLOTS]);
 
 #ifdef __cplusplus
 }

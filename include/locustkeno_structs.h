@@ -45,7 +45,14 @@ enum {
     LK_BAD_ROOTS = 18,
     LK_DEMO_FULL = 19,
     LK_NO_USER = 20,
-    LK_NO_RIGHT = 21
+    LK_NO_RIGHT = 21,
+    LK_BAD_WALK = 22,
+    LK_NO_FLAG = 23,
+    LK_BAD_TARIFF = 24,
+    LK_BAD_BASKET = 25,
+    LK_TOO_MANY_WISHES = 26,
+    LK_NO_SUCH_WISH = 27,
+    LK_BAD_MONEY = 28
 };
 
 /* A sentence for a refusal, "accepted" for 0. */
@@ -73,6 +80,13 @@ static inline const char *lk_message(unsigned refusal) {
         "the compile would pass a limit of the demo loader",
         "there is no such user",
         "there is no such slot, or the user may not change that field of it",
+        "there are no saves or over 64, or a block that is led to has a link that does not go to a lower number",
+        "the run reads a flag that is not in the save",
+        "a price or the discount is out of range, or there is not exactly one price for each item",
+        "a number of the basket is below 0, above its count, or above 0 where the item is not on the sheet",
+        "over 1,000 wishes are given",
+        "a wished slot is not there",
+        "the money is above 1,000,000 coins",
     };
     return refusal < sizeof sentences / sizeof sentences[0] ? sentences[refusal] : "no refusal";
 }
@@ -250,6 +264,25 @@ static inline uint8_t lk_shop_edit_requirements(const lk_sheet *sheet, const lk_
 /* The shop becomes what the user is shown of it: show a copy. */
 static inline uint8_t lk_shop_show(const lk_rights *rights, lk_shop *shop, uint32_t user) {
     return lk_show(rights->bytes, shop->items, shop->limits, shop->codes, shop->lens, user);
+}
+
+/* The bill of a basket by its lines, and their sum. */
+typedef struct {
+    int32_t items[LK_SLOTS];
+    uint8_t slots[LK_SLOTS];
+    uint64_t coins[LK_SLOTS];
+    uint64_t total;
+} lk_lines;
+
+/* Refused, the lines stay as they were, and the total is 0. */
+static inline uint8_t lk_save_bill(const lk_sheet *sheet, const lk_save *save, const uint16_t *prices, size_t prices_len,
+                                   uint16_t discount, const int32_t basket[LK_SLOTS], lk_lines *bill) {
+    const lk_billed billed =
+        lk_bill(sheet->attached, sheet->items, sheet->atcs, sheet->timer5, sheet->timer10, sheet->timer15, save->items,
+                lk_items_of(sheet), save->held, lk_atcs_of(sheet), save->flags, LK_FLAGS, save->times, LK_TIMES,
+                save->vars, LK_VARIABLES, prices, prices_len, discount, basket, bill->items, bill->slots, bill->coins);
+    bill->total = billed.total;
+    return billed.refusal;
 }
 
 #ifdef __cplusplus

@@ -1,6 +1,7 @@
 //! The proved library held against the original, against a hand-written interpreter and against
 //! document 01's meaning of a shop, on the same inputs.
 
+pub mod bill;
 pub mod convert;
 pub mod images;
 pub mod interpret;
@@ -44,6 +45,7 @@ pub fn all(seed: u64, count: usize, longest: usize, small: bool) -> Tally {
     runs::operators(&mut tally, &mut random);
     reclaimed(&mut tally, &mut random, count);
     rights::lists(&mut tally, &mut random, count / 4);
+    billed(&mut tally, &mut random, count);
     tally
 }
 
@@ -68,6 +70,18 @@ pub fn edits(seed: u64, count: usize) -> Tally {
     let mut tally = Tally::default();
     rights::lists(&mut tally, &mut Random::new(seed), count);
     tally
+}
+
+/// Bills alone.
+pub fn bills(seed: u64, count: usize) -> Tally {
+    let mut tally = Tally::default();
+    billed(&mut tally, &mut Random::new(seed), count);
+    tally
+}
+
+fn billed(tally: &mut Tally, random: &mut Random, count: usize) {
+    bill::random(tally, random, count);
+    bill::after_runs(tally, random, count);
 }
 
 fn reclaimed(tally: &mut Tally, random: &mut Random, count: usize) {

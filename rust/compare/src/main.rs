@@ -2,10 +2,13 @@
 //!
 //! `compare SEED COUNT [LONGEST [small]]` makes COUNT cases of each kind from SEED, and reads every
 //! image of at most LONGEST bytes of a small alphabet; with `small` it takes every script of two
-//! small blocks too. `compare SEED COUNT shops` makes COUNT lists of compiles and ten times as many
-//! parses, and nothing else; `compare SEED COUNT reclaims` makes COUNT reclaims of each kind and COUNT
-//! lists that mix them with compiles; `compare SEED COUNT edits` makes COUNT lists of edits by users
-//! with rights. It ends with 1 where something differs.
+//! small blocks too. `compare SEED COUNT KIND` makes cases of one kind alone. It ends with 1 where
+//! something differs.
+//!
+//! - `shops`: COUNT lists of compiles and ten times as many parses
+//! - `edits`: COUNT lists of edits by users with rights
+//! - `reclaims`: COUNT reclaims of each kind and COUNT lists that mix them with compiles
+//! - `bills`: COUNT bills of saves that were not run and COUNT after runs of compiled shops
 
 use compare::all;
 use compare::tally::Tally;
@@ -13,8 +16,7 @@ use oracle::calls;
 use std::process::ExitCode;
 use std::{env, error::Error};
 
-const USAGE: &str =
-    "usage: compare SEED COUNT [LONGEST [small]], or compare SEED COUNT shops|reclaims|edits";
+const USAGE: &str = "usage: compare SEED COUNT [LONGEST [small]], or compare SEED COUNT KIND, KIND being shops, edits, reclaims or bills";
 
 fn main() -> Result<ExitCode, Box<dyn Error>> {
     let arguments: Vec<String> = env::args().skip(1).collect();
@@ -28,6 +30,7 @@ fn main() -> Result<ExitCode, Box<dyn Error>> {
         ["shops"] => return said(seed, || compare::shops(seed, count)),
         ["edits"] => return said(seed, || compare::edits(seed, count)),
         ["reclaims"] => return said(seed, || compare::reclaims(seed, count)),
+        ["bills"] => return said(seed, || compare::bills(seed, count)),
         [longest] => (longest.parse()?, false),
         [longest, "small"] => (longest.parse()?, true),
         _ => return Err(USAGE.into()),

@@ -59,7 +59,7 @@ fn budget(random: &mut Random) -> u32 {
 }
 
 /// A sheet that is broken in one place, or nearly so.
-fn broken_sheet(random: &mut Random, mut sheet: Sheet) -> Sheet {
+pub fn broken_sheet(random: &mut Random, mut sheet: Sheet) -> Sheet {
     match random.below(5) {
         0 => sheet.timers[1] = sheet.timers[0],
         1 => sheet.timers[2] = sheet.items() as u16,

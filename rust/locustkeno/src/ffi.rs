@@ -99,9 +99,12 @@ unsafe extern "C" {
 }
 
 pub use rights::*;
+pub use bill::*;
 pub use shops::*;
 
 mod rights;
+
+mod bill;
 
 mod shops {
     use super::Kept;

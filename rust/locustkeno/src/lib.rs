@@ -15,6 +15,7 @@
 //! ```
 
 mod arrays;
+mod bill;
 mod ffi;
 mod reclaim;
 mod refused;
@@ -28,6 +29,7 @@ mod text;
 mod view;
 
 pub use arrays::{Arrays, Births, BlockWords, CommandWords, NodeWords, Values};
+pub use bill::{Basket, Bill, Line, Tariff};
 pub use reclaim::Moved;
 pub use refused::Refused;
 pub use rights::{Content, Edit, Right, Rights, USERS};

@@ -47,9 +47,21 @@ impl Refused {
             17 => "the block given was appended by a compile",
             18 => "over 256 roots are given, or one that is not a block",
             19 => "the compile would pass a limit of the demo loader",
-            23 => "the run would read a flag outside 0 to 2,047",
             20 => "there is no such user",
             21 => "there is no such slot, or the user may not change that field of it",
+            22 => {
+                "there are no saves or over 64, or a block that is led to has a link that does not go to a lower number"
+            }
+            23 => "the run reads a flag that is not in the save",
+            24 => {
+                "a price or the discount is out of range, or there is not exactly one price for each item"
+            }
+            25 => {
+                "a number of the basket is below 0, above its count, or above 0 where the item is not on the sheet"
+            }
+            26 => "over 1,000 wishes are given",
+            27 => "a wished slot is not there",
+            28 => "the money is above 1,000,000 coins",
             _ => "no refusal of documents 01 and 02",
         }
     }

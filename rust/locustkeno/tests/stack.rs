@@ -1,15 +1,13 @@
 //! Each call on a thread with just the stack that the header promises to be enough, on the largest and nastiest scripts.
 
-use locustkeno::{
-    Content, Edit, Item, Loader, Refused, Requirement, Rights, Save, Script, Sheet, Shop, Slot,
-    USERS,
-};
+use locustkeno::{Basket, Content, Edit, Item, Loader, Refused, Requirement, Rights, Save, Script, Sheet, Shop, Slot, Tariff, USERS};
 use std::thread;
 
 const KILOBYTE: usize = 1 << 10;
 const READ: usize = 32 * KILOBYTE;
 const PREVIEW: usize = 32 * KILOBYTE;
 const EDIT: usize = 32 * KILOBYTE;
+const BILL: usize = 32 * KILOBYTE;
 const WRITE: usize = 160 * KILOBYTE;
 const RUN: usize = 160 * KILOBYTE;
 const COMPILE: usize = 160 * KILOBYTE;
@@ -225,4 +223,11 @@ fn edit_and_show() {
         }
         done(shop.shown_to(&rights, 15));
     });
+}
+
+#[test]
+fn bill() {
+    let save = Save::new(&sheet());
+    let (tariff, basket) = (Tariff::new([30_000; 3], 0), Basket::counts(&save));
+    on_stack(BILL, || done(save.bill(&sheet(), &tariff, &basket)));
 }

@@ -45,6 +45,8 @@ int main(void) {
     lk_ran ran;
     lk_previewed seen;
     lk_written written;
+    static const uint16_t prices[8] = {1, 1, 1, 1, 1, 1, 1, 1};
+    static lk_lines bill;
 
     lk_shop_slot(&shop, 0, 7, 3);
     expect(lk_shop_require(&shop, 0, lk_requirement(LK_MISSING_FLAG, 40)), "room for a requirement");
@@ -58,6 +60,10 @@ int main(void) {
     expect(ran.refusal == LK_ACCEPTED && ran.entered == 24, "run of 24 blocks");
     expect(save.vars[LK_ITEM_FIRST] == 7 && save.vars[LK_COUNT_FIRST] == 2, "two are left");
     expect(seen.refusal == LK_ACCEPTED && seen.items[0] == 7 && seen.counts[0] == 2, "the preview agrees");
+    expect(lk_save_bill(&sheet, &save, prices, 8, 500, save.vars + LK_COUNT_FIRST, &bill) == LK_ACCEPTED, "billed");
+    expect(bill.total == 1 && bill.items[0] == -1 && bill.slots[0] == 1, "a line for each slot, hidden ones first");
+    expect(bill.items[19] == 7 && bill.slots[19] == 0 && bill.coins[19] == 1, "two pieces at half a coin");
+    expect(lk_save_bill(&sheet, &save, prices, 7, 500, save.vars + LK_COUNT_FIRST, &bill) == LK_BAD_TARIFF, "24 for a price too few");
     expect(lk_script_parse(&sheet, &script, 0, &read) == LK_ACCEPTED, "parsed");
     expect(memcmp(read.items, shop.items, sizeof read.items) == 0 && memcmp(read.limits, shop.limits, sizeof read.limits) == 0,
            "items and limits read back");
