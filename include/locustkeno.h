@@ -185,6 +185,20 @@ lk_billed lk_bill(const uint8_t *attached, size_t attached_len, uint16_t atcs, u
                   const int32_t basket[LK_SLOTS], int32_t to_items[LK_SLOTS], uint8_t to_slots[LK_SLOTS],
                   uint64_t to_coins[LK_SLOTS]);
 
+/* The refusal or 0, the subjects of a slot, and in how many combinations of their answers it is listed and hidden. */
+typedef struct {
+    uint8_t refusal, subjects;
+    uint32_t listed, hidden;
+} lk_settings_of;
+
+/* How many settings list a slot, which is given by its item (as in the arrays of a shop), limit, codes and how many of them
+ * are given. Each subject of its requirements (an item held, an atc held, a flag) is a yes or no, at coerced limit 1 also
+ * the acquired one, and for a timer whether time[2] is its rate; the slot is listed where its item variable gets the item.
+ * listed + hidden is 2 to the subjects, which are at most 16. No item: no subjects, 0 and 1. Refused (1, 8), every number
+ * is 0. 32 kilobytes of stack are enough (rust/locustkeno/tests/settings.rs). */
+lk_settings_of lk_settings(const uint8_t *attached, size_t attached_len, uint16_t atcs, uint16_t timer5, uint16_t timer10,
+                           uint16_t timer15, int32_t item, int16_t limit, const uint64_t codes[LK_ENTRIES], uint8_t len);
+
 #ifdef __cplusplus
 }
 #endif

@@ -13,6 +13,7 @@ pub mod recounted;
 pub mod rights;
 pub mod runs;
 pub mod saves;
+pub mod settings;
 pub mod shared;
 pub mod shops;
 pub mod small;
@@ -46,6 +47,14 @@ pub fn all(seed: u64, count: usize, longest: usize, small: bool) -> Tally {
     reclaimed(&mut tally, &mut random, count);
     rights::lists(&mut tally, &mut random, count / 4);
     billed(&mut tally, &mut random, count);
+    settings::random(&mut tally, &mut random, count);
+    tally
+}
+
+/// Settings of slots alone.
+pub fn settings(seed: u64, count: usize) -> Tally {
+    let mut tally = Tally::default();
+    settings::random(&mut tally, &mut Random::new(seed), count);
     tally
 }
 

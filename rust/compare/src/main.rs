@@ -17,6 +17,8 @@ use std::process::ExitCode;
 use std::{env, error::Error};
 
 const USAGE: &str = "usage: compare SEED COUNT [LONGEST [small]], or compare SEED COUNT KIND, KIND being shops, edits, reclaims or bills";
+const USAGE: &str =
+    "usage: compare SEED COUNT [LONGEST [small]], or compare SEED COUNT shops|reclaims|settings";
 
 fn main() -> Result<ExitCode, Box<dyn Error>> {
     let arguments: Vec<String> = env::args().skip(1).collect();
@@ -29,6 +31,13 @@ fn main() -> Result<ExitCode, Box<dyn Error>> {
         [] => (3, false),
         ["shops"] => return said(seed, || compare::shops(seed, count)),
         ["edits"] => return said(seed, || compare::edits(seed, count)),
+        ["settings"] => {
+            println!(
+                "slowest slot: {:.2} microseconds",
+                compare::settings::slowest()
+            );
+            return said(seed, || compare::settings(seed, count));
+        }
         ["reclaims"] => return said(seed, || compare::reclaims(seed, count)),
         ["bills"] => return said(seed, || compare::bills(seed, count)),
         [longest] => (longest.parse()?, false),

@@ -10,6 +10,7 @@ fn no_difference() {
     assert!(tally.total("recounted") > 200);
     assert!(tally.total("reclaim") > 800 && tally.total("reclaim of a broken record") > 100);
     assert!(tally.total("edit") > 500 && tally.total("show") > 1_000);
+    assert!(tally.total("settings") == 400 && tally.total("run of a setting") > 2_000);
     assert!(tally.total("run after a reclaim") > 4_000 && tally.total("block of the start") > 400);
     assert!(tally.total("bill") > 300 && tally.total("bill of all that a run left") > 300);
 }

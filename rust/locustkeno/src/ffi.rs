@@ -100,11 +100,14 @@ unsafe extern "C" {
 
 pub use rights::*;
 pub use bill::*;
+pub use settings::*;
 pub use shops::*;
 
 mod rights;
 
 mod bill;
+
+mod settings;
 
 mod shops {
     use super::Kept;

@@ -1,0 +1,49 @@
+// How many settings list a slot (02, A.9), for programs in Rust and C: numbers, a slice and a reference to an array of numbers go in, a struct of numbers comes out.
+ghost use mathlib.Core.Path.{_≡_};
+ghost use Rattle.shop.specs.Shapes.{sheetOf, slotOf};
+ghost use Rattle.capi_values.specs.Values.{sheetBy};
+ghost use Rattle.settings_model.specs.Settings.{settingsCall};
+ghost use Rattle.settings.specs.Answer.{settingsOf};
+ghost use Rattle.capi_settings.specs.Slots.{slotBy};
+use capi_values::sheet_by;
+use settings::Settings;
+use settings::settings_of;
+use shop::Row;
+use shop::SLOTS;
+use shop::Slot;
+use shop_arrays::item_at;
+
+// -1 is no item; a number that no item can have stands for an item that no sheet has, as in the arrays of a shop.
+fn slot_by(item: i32, limit: i16, codes: &Row, len: u8) -> Slot
+    ensures { λ r. ⌜ r ≡ slotBy item limit (now (codes .entry)) len ⌝ }
+{
+    let items = [item; SLOTS];
+    let it = item_at(&items, 0);
+    let row = *codes;
+    Slot {
+        item: it,
+        limit: limit,
+        requirements: row,
+        len: len,
+    }
+}
+
+// The slot's subjects, and in how many combinations of their answers it is listed and hidden; refused, every number is 0.
+#[no_mangle]
+pub extern "C" fn lk_settings(
+    attached: &[u8],
+    atcs: u16,
+    timer5: u16,
+    timer10: u16,
+    timer15: u16,
+    item: i32,
+    limit: i16,
+    codes: &Row,
+    len: u8,
+) -> Settings
+    ensures { λ r. ⌜ r ≡ settingsOf (settingsCall (sheetOf (now (attached .entry)) (sheetBy atcs timer5 timer10 timer15)) (slotOf (slotBy item limit (now (codes .entry)) len))) ⌝ }
+{
+    let sheet = sheet_by(atcs, timer5, timer10, timer15);
+    let slot = slot_by(item, limit, codes, len);
+    settings_of(attached, sheet, slot)
+}

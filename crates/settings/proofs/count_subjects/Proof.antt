@@ -1,0 +1,81 @@
+-- `count_subjects` meets its contract. The loop's invariant: what is counted and what is left are all. Assumes nothing.
+use mathlib.Core.Path.{_≡_, refl, sym, ap, _∙_}
+use mathlib.Core.List.{List}
+use Prim.Native.Nat.{ℕ, _+_, _-_}
+use native.Mathlib.Omega.{arith}
+use lib.ListN.{length, take, getD}
+use lib.Seq.{length-take-le, getD-take, take-take}
+use Rattle.settings_model.specs.Closed.{bit}
+use Rattle.settings.specs.Counting.{Counted, end, more, newCode, start}
+use borrow.Author.Needs.{needs}
+use Rattle.settings.proofs.count_subjects.Statement.{statement}
+use Rattle.settings.proofs.count_subjects.Tie as tie
+
+abbrev Inv-loop : tie.InvT-loop
+Inv-loop row len one own n₀ i₀ n i = Counted one own (take len row) i n
+
+abbrev μ-loop : tie.MeasureT-loop
+μ-loop row len one own n₀ i₀ n i = len - i
+
+-- how many codes there are
+size : (c : tie.After-capacity Inv-loop μ-loop) → length (take (c .before .args .len) (c .before .args .row .now)) ≡ c .before .args .len
+size c = length-take-le (c .before .args .len) (c .before .args .row .now) (omega (arith, c .capacity .ensures .0, c .before .pre))
+
+capacity-requires : tie.Need-capacity-requires Inv-loop μ-loop
+capacity-requires c κs = search needs
+
+loop-holds : tie.Need-loop-holds Inv-loop μ-loop
+loop-holds c = start _ _ _
+
+cast-at : tie.Need-cast-at Inv-loop μ-loop
+cast-at c = search needs
+
+mul-one-more : tie.Need-mul-one-more Inv-loop μ-loop
+mul-one-more c = omega arith
+
+element-copy-out-one-more : tie.Need-element-copy-out-one-more Inv-loop μ-loop
+element-copy-out-one-more c = omega arith
+
+one-more-requires : tie.Need-one-more-requires Inv-loop μ-loop
+one-more-requires c κs = (omega arith, omega arith)
+
+add-i : tie.Need-add-i Inv-loop μ-loop
+add-i c = omega arith
+
+loop-less : tie.Need-loop-less Inv-loop μ-loop
+loop-less c = omega arith
+
+loop-again : tie.Need-loop-again Inv-loop μ-loop
+loop-again c =
+    let s = c .before .before .before .before .before in
+    let l = c .before .before .before .loop in
+    let t = c .before .before .loop-test .taken in
+    let cs : List ℕ = take (s .args .len) (s .args .row .now) in
+    more (s .args .one) (s .args .own) cs (l .i) (l .n) (l .inv) (omega (arith, size (c .before .before .before .before), t)) _
+    (c .one-more .ensures ∙ ap (λ (x : List ℕ). l .n + bit (newCode (s .args .one) (s .args .own) x (getD (s .args .row .now) (l .i) 0))) (sym (take-take (l .i) (s .args .len) (s .args .row .now) (omega arith)))
+    ∙ ap (λ (x : ℕ). l .n + bit (newCode (s .args .one) (s .args .own) (take (l .i) cs) x)) (sym (getD-take (s .args .len) (s .args .row .now) (l .i) 0 t)))
+
+returns : tie.Need-returns Inv-loop μ-loop
+returns c =
+    let s = c .before .before .before in
+    let l = c .before .loop in (
+      end (s .args .one) (s .args .own) (take (s .args .len) (s .args .row .now)) (l .i) (l .n) (l .inv) (omega (arith, size (c .before .before), c .loop-test .left)),
+      omega (arith, l .inv .few, l .inv .low, size (c .before .before), s .pre),
+    )
+
+pub count-subjects-spec : {M : Type 1} → statement M
+count-subjects-spec =
+    tie.close
+    (tie.spec
+    Inv-loop
+    μ-loop
+    capacity-requires
+    loop-holds
+    cast-at
+    mul-one-more
+    element-copy-out-one-more
+    one-more-requires
+    add-i
+    loop-less
+    loop-again
+    returns)
