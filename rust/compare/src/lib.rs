@@ -8,6 +8,7 @@ pub mod interpret;
 pub mod judge;
 pub mod meaning;
 pub mod mixed;
+pub mod moves;
 pub mod reclaim;
 pub mod recounted;
 pub mod rights;
@@ -55,6 +56,7 @@ pub fn all(seed: u64, count: usize, longest: usize, small: bool) -> Tally {
 pub fn settings(seed: u64, count: usize) -> Tally {
     let mut tally = Tally::default();
     settings::random(&mut tally, &mut Random::new(seed), count);
+    moves::random(&mut tally, &mut random, count);
     tally
 }
 
@@ -91,6 +93,13 @@ pub fn bills(seed: u64, count: usize) -> Tally {
 fn billed(tally: &mut Tally, random: &mut Random, count: usize) {
     bill::random(tally, random, count);
     bill::after_runs(tally, random, count);
+}
+
+/// Small moves alone.
+pub fn moves(seed: u64, count: usize) -> Tally {
+    let mut tally = Tally::default();
+    moves::random(&mut tally, &mut Random::new(seed), count);
+    tally
 }
 
 fn reclaimed(tally: &mut Tally, random: &mut Random, count: usize) {

@@ -9,6 +9,7 @@
 //! - `edits`: COUNT lists of edits by users with rights
 //! - `reclaims`: COUNT reclaims of each kind and COUNT lists that mix them with compiles
 //! - `bills`: COUNT bills of saves that were not run and COUNT after runs of compiled shops
+//! - `moves`: COUNT shops under two saves, and compiled again
 
 use compare::all;
 use compare::tally::Tally;
@@ -16,9 +17,10 @@ use oracle::calls;
 use std::process::ExitCode;
 use std::{env, error::Error};
 
-const USAGE: &str = "usage: compare SEED COUNT [LONGEST [small]], or compare SEED COUNT KIND, KIND being shops, edits, reclaims or bills";
+const USAGE: &str = "usage: compare SEED COUNT [LONGEST [small]], or compare SEED COUNT KIND, KIND being shops, edits, reclaims, bills or moves";
 const USAGE: &str =
     "usage: compare SEED COUNT [LONGEST [small]], or compare SEED COUNT shops|reclaims|settings";
+    "usage: compare SEED COUNT [LONGEST [small]], or compare SEED COUNT shops|reclaims|moves";
 
 fn main() -> Result<ExitCode, Box<dyn Error>> {
     let arguments: Vec<String> = env::args().skip(1).collect();
@@ -40,6 +42,7 @@ fn main() -> Result<ExitCode, Box<dyn Error>> {
         }
         ["reclaims"] => return said(seed, || compare::reclaims(seed, count)),
         ["bills"] => return said(seed, || compare::bills(seed, count)),
+        ["moves"] => return said(seed, || compare::moves(seed, count)),
         [longest] => (longest.parse()?, false),
         [longest, "small"] => (longest.parse()?, true),
         _ => return Err(USAGE.into()),

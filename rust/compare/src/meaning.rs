@@ -53,7 +53,7 @@ pub fn settle(random: &mut Random, slots: &mut [Slot]) {
 }
 
 /// The limit as coerced.
-fn limit(sheet: &Sheet, item: u16, limit: i16) -> i32 {
+pub fn limit(sheet: &Sheet, item: u16, limit: i16) -> i32 {
     let single = sheet.atc_of[usize::from(item)].is_some() || sheet.timers.contains(&item);
     if single { 1 } else { limit.clamp(1, 10).into() }
 }

@@ -13,4 +13,5 @@ fn no_difference() {
     assert!(tally.total("settings") == 400 && tally.total("run of a setting") > 2_000);
     assert!(tally.total("run after a reclaim") > 4_000 && tally.total("block of the start") > 400);
     assert!(tally.total("bill") > 300 && tally.total("bill of all that a run left") > 300);
+    assert!(tally.total("one more held") > 400 && tally.total("compiled again") > 400);
 }

@@ -17,6 +17,7 @@
 mod arrays;
 mod bill;
 mod ffi;
+mod moves;
 mod reclaim;
 mod refused;
 mod rights;

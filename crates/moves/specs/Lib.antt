@@ -1,0 +1,4 @@
+pub mod Differs
+pub mod Rounds
+pub mod Again
+pub mod Previews

@@ -1,0 +1,1 @@
+// Theorems about small moves over the calls of the library: this crate has no code of its own.
