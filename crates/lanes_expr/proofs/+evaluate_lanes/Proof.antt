@@ -1,0 +1,268 @@
+-- `evaluate_lanes` meets its contract: by the kind found at the node. The measure is b, the node whose operand is read. Assumes nothing.
+use Rattle.model.specs.Memory.{nodesIn}
+use Rattle.lanes_expr.proofs.Values.{out-done, same-done, two-done, one-done, number-done, imm16-done, imm32-done, other-done}
+use mathlib.Core.Option.{some}
+use mir.Syntax.{w32}
+use mir.Facts.{toZ-ofZ}
+use Rattle.expr.specs.Value as value
+use Rattle.expr.specs.Requirement.{numberOf}
+use native.Mathlib.Omega.{arith}
+use mathlib.Core.Path.{ap, _≡_, sym, _∙_}
+use borrow.Author.Needs.{needs}
+use Prim.Native.Nat.{ℕ, _<_}
+use borrow.Fn.Kinds.{In}
+use borrow.Fn.PlainCycle.{Measures, is, falls, and}
+use Rattle.lanes_expr.proofs.evaluate_lanes.Reads as evaluate-lanes
+use Rattle.lanes_expr.proofs.evaluate_lanes.Kinds as evaluate-lanes-kinds
+use Rattle.lanes_expr.proofs.+evaluate_lanes.Lts-evaluate_lanes as evaluate-lanes-lts
+use Rattle.expr.proofs.number_below.Reads as number-below-reads
+use Rattle.lanes_expr.proofs.apply_one_lanes.Reads as apply-one-lanes-reads
+use Rattle.lanes_expr.proofs.apply_same_lanes.Reads as apply-same-lanes-reads
+use Rattle.lanes_expr.proofs.apply_two_lanes.Reads as apply-two-lanes-reads
+use Rattle.lanes_expr.proofs.fill.Reads as fill-reads
+use Rattle.lanes_expr.proofs.repeated.Reads as repeated-reads
+use Rattle.lanes_expr.proofs.stop_lanes.Reads as stop-lanes-reads
+use Rattle.memory.proofs.kind_of.Reads as kind-of-reads
+use Rattle.lanes_expr.proofs.+evaluate_lanes.{statement}
+use Rattle.lanes_expr.proofs.+evaluate_lanes.Tie.{close}
+
+abbrev μ-evaluate-lanes : Measures 10 evaluate-lanes-kinds.ps ℕ
+μ-evaluate-lanes κs a = a .1 .1 .0
+
+abbrev evaluate-lanes-at : ℕ → In 10 evaluate-lanes-kinds.ps
+evaluate-lanes-at t =
+    and
+    10
+    evaluate-lanes-kinds.ps
+    (is 10 evaluate-lanes-kinds.ps μ-evaluate-lanes t)
+    evaluate-lanes.Pre
+
+abbrev evaluate-lanes-below : ℕ → In 10 evaluate-lanes-kinds.ps
+evaluate-lanes-below t =
+    and
+    10
+    evaluate-lanes-kinds.ps
+    (falls 10 evaluate-lanes-kinds.ps _<_ μ-evaluate-lanes t)
+    evaluate-lanes.Pre
+
+-- what the calls ask and give, at the measure t
+abbrev evaluate-lanes-claims : ℕ → evaluate-lanes-lts.Claims
+evaluate-lanes-claims t = (stop-lanes-reads.Asked, stop-lanes-reads.Learnt, kind-of-reads.Asked, kind-of-reads.Learnt, evaluate-lanes-below t, evaluate-lanes.Post, number-below-reads.Asked, number-below-reads.Learnt, repeated-reads.Asked, repeated-reads.Learnt, apply-two-lanes-reads.Asked, apply-two-lanes-reads.Learnt, apply-same-lanes-reads.Asked, apply-same-lanes-reads.Learnt, apply-one-lanes-reads.Asked, apply-one-lanes-reads.Learnt, fill-reads.Asked, fill-reads.Learnt)
+
+evaluate-lanes-stop-lanes-requires : (t : ℕ) → evaluate-lanes-lts.Need-stop-lanes-requires (evaluate-lanes-claims t) (evaluate-lanes-at t) evaluate-lanes.Post
+evaluate-lanes-stop-lanes-requires t c κs = search needs
+
+evaluate-lanes-returns : (t : ℕ) → evaluate-lanes-lts.Need-returns (evaluate-lanes-claims t) (evaluate-lanes-at t) evaluate-lanes.Post
+evaluate-lanes-returns t c = let s = c .before .before .before .before .before in λ k. out-done (s .args .n) (s .args .m) (value.reads (s .args .items .now) (s .args .atcs .now) (s .args .flags .now) (s .args .times .now)) (s .args .vars .now) (s .args .lanes .now) (s .args .s) (nodesIn (s .args .ws .now) (s .args .val .now) k) (s .args .b) (s .args .i) (c .before .before .if1 .taken) (c .stop-lanes .ensures)
+
+evaluate-lanes-mul-kind-of : (t : ℕ) → evaluate-lanes-lts.Need-mul-kind-of (evaluate-lanes-claims t) (evaluate-lanes-at t) evaluate-lanes.Post
+evaluate-lanes-mul-kind-of t c = search needs
+
+evaluate-lanes-mul-kind-of-2 : (t : ℕ) → evaluate-lanes-lts.Need-mul-kind-of-2 (evaluate-lanes-claims t) (evaluate-lanes-at t) evaluate-lanes.Post
+evaluate-lanes-mul-kind-of-2 t c = search needs
+
+evaluate-lanes-element-copy-out-kind-of :
+    (t : ℕ) → evaluate-lanes-lts.Need-element-copy-out-kind-of (evaluate-lanes-claims t) (evaluate-lanes-at t) evaluate-lanes.Post
+evaluate-lanes-element-copy-out-kind-of t c = search needs
+
+evaluate-lanes-kind-of-requires : (t : ℕ) → evaluate-lanes-lts.Need-kind-of-requires (evaluate-lanes-claims t) (evaluate-lanes-at t) evaluate-lanes.Post
+evaluate-lanes-kind-of-requires t c κs = search needs
+
+evaluate-lanes-mul-l : (t : ℕ) → evaluate-lanes-lts.Need-mul-l (evaluate-lanes-claims t) (evaluate-lanes-at t) evaluate-lanes.Post
+evaluate-lanes-mul-l t c = search needs
+
+evaluate-lanes-add-l : (t : ℕ) → evaluate-lanes-lts.Need-add-l (evaluate-lanes-claims t) (evaluate-lanes-at t) evaluate-lanes.Post
+evaluate-lanes-add-l t c = search needs
+
+evaluate-lanes-mul-l-2 : (t : ℕ) → evaluate-lanes-lts.Need-mul-l-2 (evaluate-lanes-claims t) (evaluate-lanes-at t) evaluate-lanes.Post
+evaluate-lanes-mul-l-2 t c = search needs
+
+evaluate-lanes-element-copy-out-l : (t : ℕ) → evaluate-lanes-lts.Need-element-copy-out-l (evaluate-lanes-claims t) (evaluate-lanes-at t) evaluate-lanes.Post
+evaluate-lanes-element-copy-out-l t c = search needs
+
+evaluate-lanes-mul-r : (t : ℕ) → evaluate-lanes-lts.Need-mul-r (evaluate-lanes-claims t) (evaluate-lanes-at t) evaluate-lanes.Post
+evaluate-lanes-mul-r t c = search needs
+
+evaluate-lanes-add-r : (t : ℕ) → evaluate-lanes-lts.Need-add-r (evaluate-lanes-claims t) (evaluate-lanes-at t) evaluate-lanes.Post
+evaluate-lanes-add-r t c = search needs
+
+evaluate-lanes-mul-r-2 : (t : ℕ) → evaluate-lanes-lts.Need-mul-r-2 (evaluate-lanes-claims t) (evaluate-lanes-at t) evaluate-lanes.Post
+evaluate-lanes-mul-r-2 t c = search needs
+
+evaluate-lanes-element-copy-out-r : (t : ℕ) → evaluate-lanes-lts.Need-element-copy-out-r (evaluate-lanes-claims t) (evaluate-lanes-at t) evaluate-lanes.Post
+evaluate-lanes-element-copy-out-r t c = search needs
+
+evaluate-lanes-enum-known-k : (t : ℕ) → evaluate-lanes-lts.Need-enum-known-k (evaluate-lanes-claims t) (evaluate-lanes-at t) evaluate-lanes.Post
+evaluate-lanes-enum-known-k t c = search needs
+
+evaluate-lanes-evaluate-lanes-requires : (t : ℕ) → evaluate-lanes-lts.Need-evaluate-lanes-requires (evaluate-lanes-claims t) (evaluate-lanes-at t) evaluate-lanes.Post
+evaluate-lanes-evaluate-lanes-requires t c κs = let s = c .before .before .before .before .before .before .before .before .before .before .before .before in
+    let p : s .args .b ≡ t = s .pre .0 in
+    let l = c .before .before .before .before .before .before .before .before .before .if1 .left in (omega (arith, l), (omega (arith, s .pre .1 .0, l), s .pre .1 .1))
+
+evaluate-lanes-number-below-requires : (t : ℕ) → evaluate-lanes-lts.Need-number-below-requires (evaluate-lanes-claims t) (evaluate-lanes-at t) evaluate-lanes.Post
+evaluate-lanes-number-below-requires t c κs = search needs
+
+evaluate-lanes-enum-known-q : (t : ℕ) → evaluate-lanes-lts.Need-enum-known-q (evaluate-lanes-claims t) (evaluate-lanes-at t) evaluate-lanes.Post
+evaluate-lanes-enum-known-q t c = search needs
+
+evaluate-lanes-repeated-requires : (t : ℕ) → evaluate-lanes-lts.Need-repeated-requires (evaluate-lanes-claims t) (evaluate-lanes-at t) evaluate-lanes.Post
+evaluate-lanes-repeated-requires t c κs = search needs
+
+evaluate-lanes-apply-two-lanes-requires :
+    (t : ℕ) → evaluate-lanes-lts.Need-apply-two-lanes-requires (evaluate-lanes-claims t) (evaluate-lanes-at t) evaluate-lanes.Post
+evaluate-lanes-apply-two-lanes-requires t c κs = c .before .before .before .before .before .before .before .before .before .before .before .before .before .before .before .before .before .before .before .before .pre .1 .1 .few
+
+evaluate-lanes-enum-told : (t : ℕ) → evaluate-lanes-lts.Need-enum-told (evaluate-lanes-claims t) (evaluate-lanes-at t) evaluate-lanes.Post
+evaluate-lanes-enum-told t c = search needs
+
+evaluate-lanes-evaluate-lanes-requires-2 :
+    (t : ℕ) → evaluate-lanes-lts.Need-evaluate-lanes-requires-2 (evaluate-lanes-claims t) (evaluate-lanes-at t) evaluate-lanes.Post
+evaluate-lanes-evaluate-lanes-requires-2 t c κs = let s = c .before .before .before .before .before .before .before .before .before .before .before .before .before .before .before .before .before .before in
+    let p : s .args .b ≡ t = s .pre .0 in
+    let l = c .before .before .before .before .before .before .before .before .before .before .before .before .before .before .before .if1 .left in (omega (arith, l), (omega (arith, s .pre .1 .0, l), s .pre .1 .1))
+
+evaluate-lanes-apply-two-lanes-requires-2 :
+    (t : ℕ) → evaluate-lanes-lts.Need-apply-two-lanes-requires-2 (evaluate-lanes-claims t) (evaluate-lanes-at t) evaluate-lanes.Post
+evaluate-lanes-apply-two-lanes-requires-2 t c κs = c .before .before .before .before .before .before .before .before .before .before .before .before .before .before .before .before .before .before .before .before .before .pre .1 .1 .few
+
+evaluate-lanes-enum-known-k-2 : (t : ℕ) → evaluate-lanes-lts.Need-enum-known-k-2 (evaluate-lanes-claims t) (evaluate-lanes-at t) evaluate-lanes.Post
+evaluate-lanes-enum-known-k-2 t c = search needs
+
+evaluate-lanes-number-below-requires-2 : (t : ℕ) → evaluate-lanes-lts.Need-number-below-requires-2 (evaluate-lanes-claims t) (evaluate-lanes-at t) evaluate-lanes.Post
+evaluate-lanes-number-below-requires-2 t c κs = search needs
+
+evaluate-lanes-enum-known-q-2 : (t : ℕ) → evaluate-lanes-lts.Need-enum-known-q-2 (evaluate-lanes-claims t) (evaluate-lanes-at t) evaluate-lanes.Post
+evaluate-lanes-enum-known-q-2 t c = search needs
+
+evaluate-lanes-apply-same-lanes-requires :
+    (t : ℕ) → evaluate-lanes-lts.Need-apply-same-lanes-requires (evaluate-lanes-claims t) (evaluate-lanes-at t) evaluate-lanes.Post
+evaluate-lanes-apply-same-lanes-requires t c κs = search needs
+
+evaluate-lanes-enum-told-2 : (t : ℕ) → evaluate-lanes-lts.Need-enum-told-2 (evaluate-lanes-claims t) (evaluate-lanes-at t) evaluate-lanes.Post
+evaluate-lanes-enum-told-2 t c = search needs
+
+evaluate-lanes-evaluate-lanes-requires-3 :
+    (t : ℕ) → evaluate-lanes-lts.Need-evaluate-lanes-requires-3 (evaluate-lanes-claims t) (evaluate-lanes-at t) evaluate-lanes.Post
+evaluate-lanes-evaluate-lanes-requires-3 t c κs = let s = c .before .before .before .before .before .before .before .before .before .before .before .before .before .before .before in
+    let p : s .args .b ≡ t = s .pre .0 in
+    let l = c .before .before .before .before .before .before .before .before .before .before .before .before .if1 .left in (omega (arith, l), (omega (arith, s .pre .1 .0, l), s .pre .1 .1))
+
+evaluate-lanes-apply-one-lanes-requires :
+    (t : ℕ) → evaluate-lanes-lts.Need-apply-one-lanes-requires (evaluate-lanes-claims t) (evaluate-lanes-at t) evaluate-lanes.Post
+evaluate-lanes-apply-one-lanes-requires t c κs = search needs
+
+evaluate-lanes-enum-told-3 : (t : ℕ) → evaluate-lanes-lts.Need-enum-told-3 (evaluate-lanes-claims t) (evaluate-lanes-at t) evaluate-lanes.Post
+evaluate-lanes-enum-told-3 t c = search needs
+
+evaluate-lanes-mul-fill : (t : ℕ) → evaluate-lanes-lts.Need-mul-fill (evaluate-lanes-claims t) (evaluate-lanes-at t) evaluate-lanes.Post
+evaluate-lanes-mul-fill t c = search needs
+
+evaluate-lanes-element-copy-out-fill : (t : ℕ) → evaluate-lanes-lts.Need-element-copy-out-fill (evaluate-lanes-claims t) (evaluate-lanes-at t) evaluate-lanes.Post
+evaluate-lanes-element-copy-out-fill t c = search needs
+
+evaluate-lanes-fill-requires : (t : ℕ) → evaluate-lanes-lts.Need-fill-requires (evaluate-lanes-claims t) (evaluate-lanes-at t) evaluate-lanes.Post
+evaluate-lanes-fill-requires t c κs = search needs
+
+evaluate-lanes-enum-told-4 : (t : ℕ) → evaluate-lanes-lts.Need-enum-told-4 (evaluate-lanes-claims t) (evaluate-lanes-at t) evaluate-lanes.Post
+evaluate-lanes-enum-told-4 t c = search needs
+
+evaluate-lanes-mul-fill-2 : (t : ℕ) → evaluate-lanes-lts.Need-mul-fill-2 (evaluate-lanes-claims t) (evaluate-lanes-at t) evaluate-lanes.Post
+evaluate-lanes-mul-fill-2 t c = search needs
+
+evaluate-lanes-element-copy-out-fill-2 : (t : ℕ) → evaluate-lanes-lts.Need-element-copy-out-fill-2 (evaluate-lanes-claims t) (evaluate-lanes-at t) evaluate-lanes.Post
+evaluate-lanes-element-copy-out-fill-2 t c = search needs
+
+evaluate-lanes-fill-requires-2 : (t : ℕ) → evaluate-lanes-lts.Need-fill-requires-2 (evaluate-lanes-claims t) (evaluate-lanes-at t) evaluate-lanes.Post
+evaluate-lanes-fill-requires-2 t c κs = search needs
+
+evaluate-lanes-enum-told-5 : (t : ℕ) → evaluate-lanes-lts.Need-enum-told-5 (evaluate-lanes-claims t) (evaluate-lanes-at t) evaluate-lanes.Post
+evaluate-lanes-enum-told-5 t c = search needs
+
+evaluate-lanes-stop-lanes-requires-2 : (t : ℕ) → evaluate-lanes-lts.Need-stop-lanes-requires-2 (evaluate-lanes-claims t) (evaluate-lanes-at t) evaluate-lanes.Post
+evaluate-lanes-stop-lanes-requires-2 t c κs = search needs
+
+evaluate-lanes-returns-2 : (t : ℕ) → evaluate-lanes-lts.Need-returns-2 (evaluate-lanes-claims t) (evaluate-lanes-at t) evaluate-lanes.Post
+evaluate-lanes-returns-2 t c = let s = c .before .before .before .before .before .before .before .before .before .before .before .before .before .before .before .before .before .before .before .before .before in
+    λ k. two-done (s .args .n) (s .args .m) (value.reads (s .args .items .now) (s .args .atcs .now) (s .args .flags .now) (s .args .times .now)) (s .args .vars .now) (s .args .lanes .now) (s .args .s) (nodesIn (s .args .ws .now) (s .args .val .now) k) (s .args .b) (s .args .i)
+    (c .before .before .before .before .before .before .before .before .before .before .before .before .before .before .before .before .before .before .if1 .left) _ (c .before .before .before .before .before .before .before .before .before .before .before .before .before .before .before .before .kind-of .ensures) _ (c .before .before .before .before .before .before .before .before .before .before .before .before .k .given .1) (c .before .before .before .before .before .before .before .before .evaluate-lanes .ensures k)
+    (same-done (s .args .n) (s .args .m) (value.reads (s .args .items .now) (s .args .atcs .now) (s .args .flags .now) (s .args .times .now)) (s .args .vars .now) (s .args .lanes .now) (s .args .s) (nodesIn (s .args .ws .now) (s .args .val .now) k) (s .args .b) (s .args .i) _ (ap some (toZ-ofZ {w = w32} (record { sfits = c .before .before .before .before .known-told2 .given .0 .1 })) ∙ ap numberOf (sym (c .before .before .before .before .before .q .given .1)) ∙ c .before .before .before .before .before .before .before .number-below .ensures k) (s .pre .1 .1 .few) (c .before .before .before .repeated .ensures))
+    (c .apply-two-lanes .ensures)
+
+evaluate-lanes-returns-3 : (t : ℕ) → evaluate-lanes-lts.Need-returns-3 (evaluate-lanes-claims t) (evaluate-lanes-at t) evaluate-lanes.Post
+evaluate-lanes-returns-3 t c = let s = c .before .before .before .before .before .before .before .before .before .before .before .before .before .before .before .before .before .before .before .before .before .before in
+    λ k. two-done (s .args .n) (s .args .m) (value.reads (s .args .items .now) (s .args .atcs .now) (s .args .flags .now) (s .args .times .now)) (s .args .vars .now) (s .args .lanes .now) (s .args .s) (nodesIn (s .args .ws .now) (s .args .val .now) k) (s .args .b) (s .args .i)
+    (c .before .before .before .before .before .before .before .before .before .before .before .before .before .before .before .before .before .before .before .if1 .left) _ (c .before .before .before .before .before .before .before .before .before .before .before .before .before .before .before .before .before .kind-of .ensures) _ (c .before .before .before .before .before .before .before .before .before .before .before .before .before .k .given .1) (c .before .before .before .before .before .before .before .before .before .evaluate-lanes .ensures k) (c .before .before .before .evaluate-lanes2 .ensures k) (c .apply-two-lanes2 .ensures)
+
+evaluate-lanes-returns-4 : (t : ℕ) → evaluate-lanes-lts.Need-returns-4 (evaluate-lanes-claims t) (evaluate-lanes-at t) evaluate-lanes.Post
+evaluate-lanes-returns-4 t c = let s = c .before .before .before .before .before .before .before .before .before .before .before .before .before .before .before .before in
+    λ k. number-done (s .args .n) (s .args .m) (value.reads (s .args .items .now) (s .args .atcs .now) (s .args .flags .now) (s .args .times .now)) (s .args .vars .now) (s .args .lanes .now) (s .args .s) (nodesIn (s .args .ws .now) (s .args .val .now) k) (s .args .b) (s .args .i)
+    (c .before .before .before .before .before .before .before .before .before .before .before .before .before .if1 .left) _ (c .before .before .before .before .before .before .before .before .before .before .before .kind-of .ensures) _ _ (c .before .before .before .before .before .before .before .k2 .given .1) (ap some (toZ-ofZ {w = w32} (record { sfits = c .before .before .known-told4 .given .0 .1 })) ∙ ap numberOf (sym (c .before .before .before .q2 .given .1)) ∙ c .before .before .before .before .before .number-below2 .ensures k) (c .apply-same-lanes .ensures)
+
+evaluate-lanes-returns-5 : (t : ℕ) → evaluate-lanes-lts.Need-returns-5 (evaluate-lanes-claims t) (evaluate-lanes-at t) evaluate-lanes.Post
+evaluate-lanes-returns-5 t c = let s = c .before .before .before .before .before .before .before .before .before .before .before .before .before .before .before .before .before .before in
+    λ k. one-done (s .args .n) (s .args .m) (value.reads (s .args .items .now) (s .args .atcs .now) (s .args .flags .now) (s .args .times .now)) (s .args .vars .now) (s .args .lanes .now) (s .args .s) (nodesIn (s .args .ws .now) (s .args .val .now) k) (s .args .b) (s .args .i)
+    (c .before .before .before .before .before .before .before .before .before .before .before .before .before .before .before .if1 .left) _ (c .before .before .before .before .before .before .before .before .before .before .before .before .before .kind-of .ensures) _ (c .before .before .before .before .before .before .before .before .before .k2 .given .1) (c .before .before .evaluate-lanes3 .ensures k) (c .apply-one-lanes .ensures)
+
+evaluate-lanes-returns-6 : (t : ℕ) → evaluate-lanes-lts.Need-returns-6 (evaluate-lanes-claims t) (evaluate-lanes-at t) evaluate-lanes.Post
+evaluate-lanes-returns-6 t c = let s = c .before .before .before .before .before .before .before .before .before .before .before .before in λ k. imm16-done (s .args .n) (s .args .m) (value.reads (s .args .items .now) (s .args .atcs .now) (s .args .flags .now) (s .args .times .now)) (s .args .vars .now) (s .args .lanes .now) (s .args .s) (nodesIn (s .args .ws .now) (s .args .val .now) k) (s .args .b) (s .args .i)
+    (c .before .before .before .before .before .before .before .before .before .if1 .left) _ (c .before .before .before .before .before .before .before .kind-of .ensures) (c .before .before .before .enum-told3 .given .1) (toZ-ofZ {w = w32} (record { sfits = c .before .before .fill-arg .given })) (c .fill .ensures)
+
+evaluate-lanes-returns-7 : (t : ℕ) → evaluate-lanes-lts.Need-returns-7 (evaluate-lanes-claims t) (evaluate-lanes-at t) evaluate-lanes.Post
+evaluate-lanes-returns-7 t c = let s = c .before .before .before .before .before .before .before .before .before .before .before .before in λ k. imm32-done (s .args .n) (s .args .m) (value.reads (s .args .items .now) (s .args .atcs .now) (s .args .flags .now) (s .args .times .now)) (s .args .vars .now) (s .args .lanes .now) (s .args .s) (nodesIn (s .args .ws .now) (s .args .val .now) k) (s .args .b) (s .args .i)
+    (c .before .before .before .before .before .before .before .before .before .if1 .left) _ (c .before .before .before .before .before .before .before .kind-of .ensures) (c .before .before .before .enum-told4 .given .1) (toZ-ofZ {w = w32} (record { sfits = c .before .before .fill-arg3 .given })) (c .fill2 .ensures)
+
+evaluate-lanes-returns-8 : (t : ℕ) → evaluate-lanes-lts.Need-returns-8 (evaluate-lanes-claims t) (evaluate-lanes-at t) evaluate-lanes.Post
+evaluate-lanes-returns-8 t c = let s = c .before .before .before .before .before .before .before .before .before .before .before in λ k. other-done (s .args .n) (s .args .m) (value.reads (s .args .items .now) (s .args .atcs .now) (s .args .flags .now) (s .args .times .now)) (s .args .vars .now) (s .args .lanes .now) (s .args .s) (nodesIn (s .args .ws .now) (s .args .val .now) k) (s .args .b) (s .args .i) (c .before .before .before .before .before .before .before .before .if1 .left) _ (c .before .before .before .before .before .before .kind-of .ensures) (c .before .before .enum-told5 .given .1) (c .stop-lanes2 .ensures)
+
+pub +evaluate-lanes-spec : {M : Type 1} → statement M
++evaluate-lanes-spec = close μ-evaluate-lanes λ t. evaluate-lanes-lts.spec (evaluate-lanes-claims t)
+    (evaluate-lanes-at t)
+    evaluate-lanes.Post
+    (evaluate-lanes-stop-lanes-requires t)
+    (evaluate-lanes-returns t)
+    (evaluate-lanes-mul-kind-of t)
+    (evaluate-lanes-mul-kind-of-2 t)
+    (evaluate-lanes-element-copy-out-kind-of t)
+    (evaluate-lanes-kind-of-requires t)
+    (evaluate-lanes-mul-l t)
+    (evaluate-lanes-add-l t)
+    (evaluate-lanes-mul-l-2 t)
+    (evaluate-lanes-element-copy-out-l t)
+    (evaluate-lanes-mul-r t)
+    (evaluate-lanes-add-r t)
+    (evaluate-lanes-mul-r-2 t)
+    (evaluate-lanes-element-copy-out-r t)
+    (evaluate-lanes-enum-known-k t)
+    (evaluate-lanes-evaluate-lanes-requires t)
+    (evaluate-lanes-number-below-requires t)
+    (evaluate-lanes-enum-known-q t)
+    (evaluate-lanes-repeated-requires t)
+    (evaluate-lanes-apply-two-lanes-requires t)
+    (evaluate-lanes-enum-told t)
+    (evaluate-lanes-evaluate-lanes-requires-2 t)
+    (evaluate-lanes-apply-two-lanes-requires-2 t)
+    (evaluate-lanes-enum-known-k-2 t)
+    (evaluate-lanes-number-below-requires-2 t)
+    (evaluate-lanes-enum-known-q-2 t)
+    (evaluate-lanes-apply-same-lanes-requires t)
+    (evaluate-lanes-enum-told-2 t)
+    (evaluate-lanes-evaluate-lanes-requires-3 t)
+    (evaluate-lanes-apply-one-lanes-requires t)
+    (evaluate-lanes-enum-told-3 t)
+    (evaluate-lanes-mul-fill t)
+    (evaluate-lanes-element-copy-out-fill t)
+    (evaluate-lanes-fill-requires t)
+    (evaluate-lanes-enum-told-4 t)
+    (evaluate-lanes-mul-fill-2 t)
+    (evaluate-lanes-element-copy-out-fill-2 t)
+    (evaluate-lanes-fill-requires-2 t)
+    (evaluate-lanes-enum-told-5 t)
+    (evaluate-lanes-stop-lanes-requires-2 t)
+    (evaluate-lanes-returns-2 t)
+    (evaluate-lanes-returns-3 t)
+    (evaluate-lanes-returns-4 t)
+    (evaluate-lanes-returns-5 t)
+    (evaluate-lanes-returns-6 t)
+    (evaluate-lanes-returns-7 t)
+    (evaluate-lanes-returns-8 t)

@@ -1,0 +1,101 @@
+-- `apply_same_lanes` meets its contract: each arm is its operator. Assumes nothing.
+use mathlib.Core.Path.{_≡_, ap, _∙_}
+use mathlib.Core.List.{List}
+use Prim.Native.Nat.{ℕ}
+use lib.ListN.{getD}
+use lib.IntN.{ℤ, pos}
+use mir.Syntax.{w32}
+use mir.Facts.{toZ-ofZ}
+use Rattle.model.specs.declared.Op1.{Op1}
+use Rattle.expr.specs.Value as value
+use Rattle.lanes_expr.specs.Lanes.{applyIn}
+use Rattle.lanes_expr.specs.Each.{Each, each-as}
+use borrow.Author.Needs.{needs}
+use Rattle.lanes_expr.proofs.apply_same_lanes.Statement.{statement}
+use Rattle.lanes_expr.proofs.apply_same_lanes.Tie as tie
+
+-- what an arm computed is what the operator says
+arm : (c : tie.Start) (p : Op1) {f : ℕ → ℤ → ℤ} {xs′ : List ℤ} → c .args .o ≡ p → Each (pos 0) f (c .args .s) (c .args .out .now) xs′ → ((j : ℕ) (y : ℤ) → f j y ≡ applyIn (c .args .n) (c .args .m) (value.reads (c .args .items .now) (c .args .atcs .now) (c .args .flags .now) (c .args .times .now)) (c .args .vars .now) p (getD (c .args .lanes .now) j 0) (c .args .x))
+    → Each (pos 0) (λ j _. applyIn (c .args .n) (c .args .m) (value.reads (c .args .items .now) (c .args .atcs .now) (c .args .flags .now) (c .args .times .now)) (c .args .vars .now) (c .args .o) (getD (c .args .lanes .now) j 0) (c .args .x)) (c .args .s) (c .args .out .now) xs′
+arm c p e h q = each-as h (λ j y. q j y ∙ rw e)
+
+enum-told : tie.Need-enum-told
+enum-told c = search needs
+
+apply-two-requires : tie.Need-apply-two-requires
+apply-two-requires c κs = search needs
+
+fill-requires : tie.Need-fill-requires
+fill-requires c κs = search needs
+
+enum-told-2 : tie.Need-enum-told-2
+enum-told-2 c = search needs
+
+same-bytes-requires : tie.Need-same-bytes-requires
+same-bytes-requires c κs = record { few = c .before .before .before .before .before .pre .few; lie = λ j l. c .before .before .before .before .before .pre .lie j l .flags }
+
+enum-told-3 : tie.Need-enum-told-3
+enum-told-3 c = search needs
+
+same-numbers-requires : tie.Need-same-numbers-requires
+same-numbers-requires c κs = record { few = c .before .before .before .before .before .pre .few; lie = λ j l. c .before .before .before .before .before .pre .lie j l .variables }
+
+enum-told-4 : tie.Need-enum-told-4
+enum-told-4 c = search needs
+
+same-shorts-requires : tie.Need-same-shorts-requires
+same-shorts-requires c κs = record { few = c .before .before .before .before .before .pre .few; lie = λ j l. c .before .before .before .before .before .pre .lie j l .items }
+
+enum-told-5 : tie.Need-enum-told-5
+enum-told-5 c = search needs
+
+same-bytes-requires-2 : tie.Need-same-bytes-requires-2
+same-bytes-requires-2 c κs = record { few = c .before .before .before .before .before .pre .few; lie = λ j l. c .before .before .before .before .before .pre .lie j l .atcs }
+
+enum-told-6 : tie.Need-enum-told-6
+enum-told-6 c = search needs
+
+same-shorts-requires-2 : tie.Need-same-shorts-requires-2
+same-shorts-requires-2 c κs = record { few = c .before .before .before .before .before .pre .few; lie = λ j l. c .before .before .before .before .before .pre .lie j l .times }
+
+returns : tie.Need-returns
+returns c = arm (c .before .before .before .before .before .before .before) _ (c .before .before .before .enum-told .given .1) (c .fill .ensures) (λ _ _. toZ-ofZ {w = w32} (record { sfits = c .before .before .apply-two .ok }) ∙ (rw (toZ-ofZ (c .before .before .before .before .before .before .before .fits .x)) at (c .before .before .apply-two .ensures)))
+
+returns-2 : tie.Need-returns-2
+returns-2 c = arm (c .before .before .before .before .before .before) _ (c .before .before .enum-told2 .given .1) (c .same-bytes .ensures) (λ _ _. rw (toZ-ofZ (c .before .before .before .before .before .before .fits .x)))
+
+returns-3 : tie.Need-returns-3
+returns-3 c = arm (c .before .before .before .before .before .before) _ (c .before .before .enum-told3 .given .1) (c .same-numbers .ensures) (λ _ _. rw (toZ-ofZ (c .before .before .before .before .before .before .fits .x)))
+
+returns-4 : tie.Need-returns-4
+returns-4 c = arm (c .before .before .before .before .before .before) _ (c .before .before .enum-told4 .given .1) (c .same-shorts .ensures) (λ _ _. rw (toZ-ofZ (c .before .before .before .before .before .before .fits .x)))
+
+returns-5 : tie.Need-returns-5
+returns-5 c = arm (c .before .before .before .before .before .before) _ (c .before .before .enum-told5 .given .1) (c .same-bytes2 .ensures) (λ _ _. rw (toZ-ofZ (c .before .before .before .before .before .before .fits .x)))
+
+returns-6 : tie.Need-returns-6
+returns-6 c = arm (c .before .before .before .before .before .before) _ (c .before .before .enum-told6 .given .1) (c .same-shorts2 .ensures) (λ _ _. rw (toZ-ofZ (c .before .before .before .before .before .before .fits .x)))
+
+pub apply-same-lanes-spec : {M : Type 1} → statement M
+apply-same-lanes-spec =
+    tie.close
+    (tie.spec
+    enum-told
+    apply-two-requires
+    fill-requires
+    enum-told-2
+    same-bytes-requires
+    enum-told-3
+    same-numbers-requires
+    enum-told-4
+    same-shorts-requires
+    enum-told-5
+    same-bytes-requires-2
+    enum-told-6
+    same-shorts-requires-2
+    returns
+    returns-2
+    returns-3
+    returns-4
+    returns-5
+    returns-6)

@@ -1,0 +1,72 @@
+-- `same_shorts` meets its contract. The loop's invariant: the first j lanes were read. Assumes nothing.
+use lib.IntN.{pos}
+use mir.Syntax.{w32}
+use mir.Val.{toZ}
+use mir.Facts.{toZ-ofZ}
+use Rattle.model.specs.Save.{intAt}
+use Rattle.lanes_model.specs.Flat.{part}
+use Rattle.lanes_expr.specs.Each.{Each, each-none, each-more, each-all, each-as}
+use Prim.Native.Nat.{_-_, _≤_}
+use native.Mathlib.Omega.{arith}
+use lib.ListN.{getD}
+use mathlib.Core.Path.{ap, _∙_}
+use borrow.Author.Needs.{needs}
+use Rattle.lanes_expr.proofs.same_shorts.Statement.{statement}
+use Rattle.lanes_expr.proofs.same_shorts.Tie as tie
+
+abbrev Inv-loop : tie.InvT-loop
+Inv-loop list width lanes s x out₀ -all j₀ out j = (j ≤ s) × Each (pos 0) (λ j _. intAt (part width (getD lanes j 0) list) (toZ w32 x)) j out₀ out
+
+abbrev μ-loop : tie.MeasureT-loop
+μ-loop list width lanes s x out₀ -all j₀ out j = s - j
+
+known-requires : tie.Need-known-requires Inv-loop μ-loop
+known-requires c κs = search needs
+
+loop-holds : tie.Need-loop-holds Inv-loop μ-loop
+loop-holds c = (omega arith, each-none _ _ _)
+
+element-copy-out-lane-of : tie.Need-element-copy-out-lane-of Inv-loop μ-loop
+element-copy-out-lane-of c = search needs
+
+lane-of-requires : tie.Need-lane-of-requires Inv-loop μ-loop
+lane-of-requires c κs = search needs
+
+short-in-requires : tie.Need-short-in-requires Inv-loop μ-loop
+short-in-requires c κs = rw (c .lane-of .ensures) (c .before .before .before .before .before .before .pre .lie (c .before .before .before .loop .j) (c .before .before .loop-test .taken))
+
+mul-z : tie.Need-mul-z Inv-loop μ-loop
+mul-z c = search needs
+
+element-set-from-z : tie.Need-element-set-from-z Inv-loop μ-loop
+element-set-from-z c = search needs
+
+add-j : tie.Need-add-j Inv-loop μ-loop
+add-j c = search needs
+
+loop-less : tie.Need-loop-less Inv-loop μ-loop
+loop-less c = omega arith
+
+loop-again : tie.Need-loop-again Inv-loop μ-loop
+loop-again c = (omega arith, each-more (c .before .before .before .before .loop .inv .1) (omega (arith, c .before .before .before .before .before .known .ensures, c .before .before .before .before .before .before .before .pre .few)) (toZ-ofZ {w = w32} (record { sfits = c .short-in .ok }) ∙ (rw (c .before .lane-of .ensures) at (c .short-in .ensures))))
+
+returns : tie.Need-returns Inv-loop μ-loop
+returns c = each-as (each-all (c .before .loop .inv .1) (c .before .loop .inv .0) (c .loop-test .left)) (λ j _. ap (intAt (part (c .before .before .before .before .args .width) (getD (c .before .before .before .before .args .lanes .now) j 0) (c .before .before .before .before .args .list .now))) (toZ-ofZ (c .before .before .before .before .fits .x)))
+
+pub same-shorts-spec : {M : Type 1} → statement M
+same-shorts-spec =
+    tie.close
+    (tie.spec
+    Inv-loop
+    μ-loop
+    known-requires
+    loop-holds
+    element-copy-out-lane-of
+    lane-of-requires
+    short-in-requires
+    mul-z
+    element-set-from-z
+    add-j
+    loop-less
+    loop-again
+    returns)

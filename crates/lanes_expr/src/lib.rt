@@ -1,0 +1,472 @@
+// One expression for all the lanes of a walk (02, A.8): one pass over its nodes, and at each node one loop over the lanes.
+ghost use mathlib.Core.Path.{_≡_};
+ghost use Prim.Native.Nat.{ℕ, _+_, _*_, _≤_, _<_};
+ghost use lib.ListN.{getD, length, replicate};
+ghost use lib.IntN.{pos};
+ghost use Rattle.model.specs.Limits.{nodeLimit, mostSaves};
+ghost use Rattle.model.specs.Save.{natAt, intAt};
+ghost use Rattle.model.specs.Expr.{apply2, apply1};
+ghost use Rattle.model.specs.Memory.{nodesIn};
+ghost use Rattle.expr.specs.Tree.{treeBelow};
+ghost use Rattle.expr.specs.Value.{reads};
+ghost use Rattle.lanes_model.specs.Flat.{part};
+ghost use Rattle.lanes_expr.specs.Lanes.{placeIn, Lies, Parts, Stand, applyIn, evalIn, firstOf2, Valued};
+ghost use Rattle.lanes_expr.specs.Each.{Each};
+use expr::MaybeNumber;
+use expr::number_below;
+use memory::NodeWords;
+use memory::Values;
+use memory::kind_of;
+use model::Kind;
+use model::Op1;
+use model::Op2;
+
+// The most lanes of a walk. What a loop over lanes leaves is dense: place j belongs to the lane whose number stands at place j.
+pub const LANES: usize = 64;
+
+// ---- one lane: its part of a list begins at its number times the part's width
+
+// An element of the list of lanes, behind a call: whoever uses it as a number of a part owes no proof that it fits.
+fn lane_of(x: u8) -> usize
+    ensures { λ r. ⌜ r ≡ x ⌝ }
+{
+    x as usize
+}
+
+// The same of a value.
+fn signed_of(x: u8) -> i32
+    ensures { λ r. ⌜ r ≡ pos x ⌝ }
+{
+    x as i32
+}
+
+enum MaybePlace {
+    At(usize),
+    Nothing,
+}
+
+// Where element x of part l stands.
+fn place_in(width: usize, l: usize, x: i32) -> MaybePlace
+    requires { ⌜ l * width + width < 18446744073709551616 ⌝ }
+    ensures { λ r. ⌜ r ≡ placeIn width l x ⌝ }
+{
+    if x < 0 {
+        return MaybePlace::Nothing;
+    }
+    let i = x as usize;
+    if i < width {
+        return MaybePlace::At(l * width + i);
+    }
+    MaybePlace::Nothing
+}
+
+// Element x of part l, and 0 outside it: of bytes, of 16-bit numbers, of 32-bit numbers.
+fn byte_in(list: &[u8], width: usize, l: usize, x: i32) -> i32
+    requires { ⌜ l * width + width ≤ length (now list) ⌝ }
+    ensures { λ r. ⌜ r ≡ natAt (part width l (now (list .entry))) x ⌝ }
+{
+    let p = place_in(width, l, x);
+    match p {
+        MaybePlace::At(i) => signed_of(list[i]),
+        MaybePlace::Nothing => 0,
+    }
+}
+
+fn short_in(list: &[i16], width: usize, l: usize, x: i32) -> i32
+    requires { ⌜ l * width + width ≤ length (now list) ⌝ }
+    ensures { λ r. ⌜ r ≡ intAt (part width l (now (list .entry))) x ⌝ }
+{
+    let p = place_in(width, l, x);
+    match p {
+        MaybePlace::At(i) => ints::widen16(list[i]),
+        MaybePlace::Nothing => 0,
+    }
+}
+
+fn number_in(list: &[i32], width: usize, l: usize, x: i32) -> i32
+    requires { ⌜ l * width + width ≤ length (now list) ⌝ }
+    ensures { λ r. ⌜ r ≡ intAt (part width l (now (list .entry))) x ⌝ }
+{
+    let p = place_in(width, l, x);
+    match p {
+        MaybePlace::At(i) => list[i],
+        MaybePlace::Nothing => 0,
+    }
+}
+
+// What an operator makes of x by the save and the variables of lane l.
+fn apply_in(
+    o: Op1,
+    n: usize,
+    m: usize,
+    l: usize,
+    items: &[i16],
+    atcs: &[u8],
+    flags: &[u8],
+    times: &[i16],
+    vars: &[i32],
+    x: i32,
+) -> i32
+    requires { ⌜ Lies n m (reads (now items) (now atcs) (now flags) (now times)) (now vars) l ⌝ }
+    ensures { λ r. ⌜ r ≡ applyIn n m (reads (now (items .entry)) (now (atcs .entry)) (now (flags .entry)) (now (times .entry))) (now (vars .entry)) o l x ⌝ }
+{
+    match o {
+        Op1::Not => expr::apply_two(Op2::Equal, x, 0),
+        Op1::Flag => byte_in(flags, 2048, l, x),
+        Op1::Variable => number_in(vars, 1024, l, x),
+        Op1::Item => short_in(items, n, l, x),
+        Op1::Atc => byte_in(atcs, m, l, x),
+        Op1::Time => short_in(times, 8, l, x),
+    }
+}
+
+// ---- one node: a loop over the lanes
+
+// The same number for every lane.
+fn repeated(z: i32) -> [i32; LANES]
+    ensures { λ r. ⌜ r ≡ replicate mostSaves z ⌝ }
+{
+    [z; LANES]
+}
+
+// The arrays' lengths, for the proofs.
+fn known(out: &[i32; LANES]) -> usize
+    ensures { λ _. ⌜ length (now (out .entry)) ≡ mostSaves ⌝ }
+{
+    let all: &[i32] = out;
+    all.len()
+}
+
+fn known_stops(stops: &[u8; LANES]) -> usize
+    ensures { λ _. ⌜ length (now (stops .entry)) ≡ mostSaves ⌝ }
+{
+    let all: &[u8] = stops;
+    all.len()
+}
+
+fn fill(z: i32, s: usize, out: &mut [i32; LANES])
+    requires { ⌜ s ≤ mostSaves ⌝ }
+    ensures { λ _. ⌜ Each (pos 0) (λ _ _. z) s (now (out .entry)) (now (out .exit)) ⌝ }
+{
+    let _all = known(out);
+    let mut j = 0;
+    while j < s {
+        out[j] = z;
+        j += 1;
+    }
+}
+
+// The refusal that stands, else the new one.
+fn first_stop(a: u8, r: u8) -> u8
+    ensures { λ x. ⌜ x ≡ firstOf2 a r ⌝ }
+{
+    if a == 0 {
+        return r;
+    }
+    a
+}
+
+// Every lane that has not stopped stops with r.
+fn stop_lanes(r: u8, s: usize, stops: &mut [u8; LANES])
+    requires { ⌜ s ≤ mostSaves ⌝ }
+    ensures { λ _. ⌜ Each 0 (λ _ a. firstOf2 a r) s (now (stops .entry)) (now (stops .exit)) ⌝ }
+{
+    let _all = known_stops(stops);
+    let mut j = 0;
+    while j < s {
+        let a = stops[j];
+        stops[j] = first_stop(a, r);
+        j += 1;
+    }
+}
+
+fn two_each(o: Op2, s: usize, right: &[i32; LANES], out: &mut [i32; LANES])
+    requires { ⌜ s ≤ mostSaves ⌝ }
+    ensures { λ _. ⌜ Each (pos 0) (λ j x. apply2 o x (getD (now (right .entry)) j (pos 0))) s (now (out .entry)) (now (out .exit)) ⌝ }
+{
+    let _all = known(out);
+    let mut j = 0;
+    while j < s {
+        let x = out[j];
+        let y = right[j];
+        let z = expr::apply_two(o, x, y);
+        out[j] = z;
+        j += 1;
+    }
+}
+
+fn one_each(
+    o: Op1,
+    lanes: &[u8; LANES],
+    s: usize,
+    n: usize,
+    m: usize,
+    items: &[i16],
+    atcs: &[u8],
+    flags: &[u8],
+    times: &[i16],
+    vars: &[i32],
+    out: &mut [i32; LANES],
+)
+    requires { ⌜ Stand n m (reads (now items) (now atcs) (now flags) (now times)) (now vars) (now lanes) s ⌝ }
+    ensures { λ _. ⌜ Each (pos 0) (λ j x. applyIn n m (reads (now (items .entry)) (now (atcs .entry)) (now (flags .entry)) (now (times .entry))) (now (vars .entry)) o (getD (now (lanes .entry)) j 0) x) s (now (out .entry)) (now (out .exit)) ⌝ }
+{
+    let _all = known(out);
+    let mut j = 0;
+    while j < s {
+        let l = lane_of(lanes[j]);
+        let x = out[j];
+        let z = apply_in(o, n, m, l, items, atcs, flags, times, vars, x);
+        out[j] = z;
+        j += 1;
+    }
+}
+
+// The operator is a constant at each call, so that no turn of the loop asks for it.
+fn apply_two_lanes(o: Op2, s: usize, right: &[i32; LANES], out: &mut [i32; LANES])
+    requires { ⌜ s ≤ mostSaves ⌝ }
+    ensures { λ _. ⌜ Each (pos 0) (λ j x. apply2 o x (getD (now (right .entry)) j (pos 0))) s (now (out .entry)) (now (out .exit)) ⌝ }
+{
+    match o {
+        Op2::Equal => two_each(Op2::Equal, s, right, out),
+        Op2::NotEqual => two_each(Op2::NotEqual, s, right, out),
+        Op2::Less => two_each(Op2::Less, s, right, out),
+        Op2::LessEqual => two_each(Op2::LessEqual, s, right, out),
+        Op2::Greater => two_each(Op2::Greater, s, right, out),
+        Op2::GreaterEqual => two_each(Op2::GreaterEqual, s, right, out),
+        Op2::Add => two_each(Op2::Add, s, right, out),
+        Op2::Subtract => two_each(Op2::Subtract, s, right, out),
+        Op2::BitAnd => two_each(Op2::BitAnd, s, right, out),
+        Op2::BitOr => two_each(Op2::BitOr, s, right, out),
+    }
+}
+
+// Not is a comparison with 0; the other operators read.
+fn apply_one_lanes(
+    o: Op1,
+    lanes: &[u8; LANES],
+    s: usize,
+    n: usize,
+    m: usize,
+    items: &[i16],
+    atcs: &[u8],
+    flags: &[u8],
+    times: &[i16],
+    vars: &[i32],
+    out: &mut [i32; LANES],
+)
+    requires { ⌜ Stand n m (reads (now items) (now atcs) (now flags) (now times)) (now vars) (now lanes) s ⌝ }
+    ensures { λ _. ⌜ Each (pos 0) (λ j x. applyIn n m (reads (now (items .entry)) (now (atcs .entry)) (now (flags .entry)) (now (times .entry))) (now (vars .entry)) o (getD (now (lanes .entry)) j 0) x) s (now (out .entry)) (now (out .exit)) ⌝ }
+{
+    match o {
+        Op1::Not => {
+            let zeros = repeated(0);
+            two_each(Op2::Equal, s, &zeros, out)
+        }
+        _ => one_each(o, lanes, s, n, m, items, atcs, flags, times, vars, out),
+    }
+}
+
+// ---- one node that reads at the same number for every lane, as nearly all do
+
+fn same_bytes(
+    list: &[u8],
+    width: usize,
+    lanes: &[u8; LANES],
+    s: usize,
+    x: i32,
+    out: &mut [i32; LANES],
+)
+    requires { ⌜ Parts width (now lanes) s (now list) ⌝ }
+    ensures { λ _. ⌜ Each (pos 0) (λ j _. natAt (part width (getD (now (lanes .entry)) j 0) (now (list .entry))) x) s (now (out .entry)) (now (out .exit)) ⌝ }
+{
+    let _all = known(out);
+    let mut j = 0;
+    while j < s {
+        let z = byte_in(list, width, lane_of(lanes[j]), x);
+        out[j] = z;
+        j += 1;
+    }
+}
+
+fn same_shorts(
+    list: &[i16],
+    width: usize,
+    lanes: &[u8; LANES],
+    s: usize,
+    x: i32,
+    out: &mut [i32; LANES],
+)
+    requires { ⌜ Parts width (now lanes) s (now list) ⌝ }
+    ensures { λ _. ⌜ Each (pos 0) (λ j _. intAt (part width (getD (now (lanes .entry)) j 0) (now (list .entry))) x) s (now (out .entry)) (now (out .exit)) ⌝ }
+{
+    let _all = known(out);
+    let mut j = 0;
+    while j < s {
+        let z = short_in(list, width, lane_of(lanes[j]), x);
+        out[j] = z;
+        j += 1;
+    }
+}
+
+fn same_numbers(
+    list: &[i32],
+    width: usize,
+    lanes: &[u8; LANES],
+    s: usize,
+    x: i32,
+    out: &mut [i32; LANES],
+)
+    requires { ⌜ Parts width (now lanes) s (now list) ⌝ }
+    ensures { λ _. ⌜ Each (pos 0) (λ j _. intAt (part width (getD (now (lanes .entry)) j 0) (now (list .entry))) x) s (now (out .entry)) (now (out .exit)) ⌝ }
+{
+    let _all = known(out);
+    let mut j = 0;
+    while j < s {
+        let z = number_in(list, width, lane_of(lanes[j]), x);
+        out[j] = z;
+        j += 1;
+    }
+}
+
+fn apply_same_lanes(
+    o: Op1,
+    x: i32,
+    lanes: &[u8; LANES],
+    s: usize,
+    n: usize,
+    m: usize,
+    items: &[i16],
+    atcs: &[u8],
+    flags: &[u8],
+    times: &[i16],
+    vars: &[i32],
+    out: &mut [i32; LANES],
+)
+    requires { ⌜ Stand n m (reads (now items) (now atcs) (now flags) (now times)) (now vars) (now lanes) s ⌝ }
+    ensures { λ _. ⌜ Each (pos 0) (λ j _. applyIn n m (reads (now (items .entry)) (now (atcs .entry)) (now (flags .entry)) (now (times .entry))) (now (vars .entry)) o (getD (now (lanes .entry)) j 0) x) s (now (out .entry)) (now (out .exit)) ⌝ }
+{
+    match o {
+        Op1::Not => fill(expr::apply_two(Op2::Equal, x, 0), s, out),
+        Op1::Flag => same_bytes(flags, 2048, lanes, s, x, out),
+        Op1::Variable => same_numbers(vars, 1024, lanes, s, x, out),
+        Op1::Item => same_shorts(items, n, lanes, s, x, out),
+        Op1::Atc => same_bytes(atcs, m, lanes, s, x, out),
+        Op1::Time => same_shorts(times, 8, lanes, s, x, out),
+    }
+}
+
+// ---- an expression
+
+// What node i is worth as an operand of node b, for each of the s lanes; a lane that stops keeps its first refusal. Both
+// operands are evaluated, left first; an Imm is read on the spot.
+pub fn evaluate_lanes(
+    ws: &NodeWords,
+    val: &Values,
+    b: u16,
+    i: u16,
+    lanes: &[u8; LANES],
+    s: usize,
+    n: usize,
+    m: usize,
+    items: &[i16],
+    atcs: &[u8],
+    flags: &[u8],
+    times: &[i16],
+    vars: &[i32],
+    out: &mut [i32; LANES],
+    stops: &mut [u8; LANES],
+)
+    requires { ⌜ b ≤ nodeLimit ⌝ }
+    requires { ⌜ Stand n m (reads (now items) (now atcs) (now flags) (now times)) (now vars) (now lanes) s ⌝ }
+    ensures { λ _. ⌜ ((k : ℕ) → Valued s (λ j. evalIn n m (reads (now (items .entry)) (now (atcs .entry)) (now (flags .entry)) (now (times .entry))) (now (vars .entry)) (treeBelow (nodesIn (now (ws .entry)) (now (val .entry)) k) b i) (getD (now (lanes .entry)) j 0)) (now (stops .entry)) (now (stops .exit)) (now (out .exit))) ⌝ }
+{
+    if i >= b {
+        stop_lanes(13, s, stops);
+        return;
+    }
+    let at = i as usize;
+    let k = kind_of(ws[3 * at]);
+    let l = ws[3 * at + 1];
+    let r = ws[3 * at + 2];
+    match k {
+        Kind::Two(o) => {
+            evaluate_lanes(
+                ws,
+                val,
+                i,
+                l,
+                lanes,
+                s,
+                n,
+                m,
+                items,
+                atcs,
+                flags,
+                times,
+                vars,
+                out,
+                stops,
+            );
+            let q = number_below(ws, val, i, r);
+            match q {
+                MaybeNumber::Is(z) => {
+                    let y = repeated(z);
+                    apply_two_lanes(o, s, &y, out);
+                }
+                MaybeNumber::Nothing => {
+                    let mut y = [0; LANES];
+                    evaluate_lanes(
+                        ws,
+                        val,
+                        i,
+                        r,
+                        lanes,
+                        s,
+                        n,
+                        m,
+                        items,
+                        atcs,
+                        flags,
+                        times,
+                        vars,
+                        &mut y,
+                        stops,
+                    );
+                    apply_two_lanes(o, s, &y, out);
+                }
+            }
+        }
+        Kind::One(o) => {
+            let q = number_below(ws, val, i, l);
+            match q {
+                MaybeNumber::Is(z) => {
+                    apply_same_lanes(o, z, lanes, s, n, m, items, atcs, flags, times, vars, out);
+                }
+                MaybeNumber::Nothing => {
+                    evaluate_lanes(
+                        ws,
+                        val,
+                        i,
+                        l,
+                        lanes,
+                        s,
+                        n,
+                        m,
+                        items,
+                        atcs,
+                        flags,
+                        times,
+                        vars,
+                        out,
+                        stops,
+                    );
+                    apply_one_lanes(o, lanes, s, n, m, items, atcs, flags, times, vars, out);
+                }
+            }
+        }
+        Kind::Imm16 => fill(val[at], s, out),
+        Kind::Imm32 => fill(val[at], s, out),
+        Kind::Other => stop_lanes(13, s, stops),
+    }
+}
