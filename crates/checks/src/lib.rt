@@ -25,7 +25,7 @@ use shop::Sheet;
 use shop::check_sheet;
 
 // Each item's count is 0 to 32,767; no number of 16 bits is above that.
-fn counts_ok(items: &[i16]) -> bool
+pub fn counts_ok(items: &[i16]) -> bool
     ensures { λ r. ⌜ r ≡ all isCount (now (items .entry)) ⌝ }
 {
     let mut i = 0;
@@ -40,7 +40,7 @@ fn counts_ok(items: &[i16]) -> bool
 }
 
 // Each is 0 or 1. The largest is taken first: without a way out of the loop it goes over many at a time.
-fn bits_ok(bits: &[u8]) -> bool
+pub fn bits_ok(bits: &[u8]) -> bool
     ensures { λ r. ⌜ r ≡ all isBit (now (bits .entry)) ⌝ }
 {
     let mut most = 0;
@@ -56,7 +56,7 @@ fn bits_ok(bits: &[u8]) -> bool
 }
 
 // Reading a number tells that it is one of 16 bits, and so of all of them. Nothing is computed: the compiled loop is empty.
-fn shorts_known(list: &[i16])
+pub fn shorts_known(list: &[i16])
     ensures { λ _. ⌜ all (inRange w16) (now (list .entry)) ≡ true ⌝ }
 {
     let mut i = 0;
@@ -67,7 +67,7 @@ fn shorts_known(list: &[i16])
 }
 
 // The same of 32 bits.
-fn numbers_known(list: &[i32])
+pub fn numbers_known(list: &[i32])
     ensures { λ _. ⌜ all (inRange w32) (now (list .entry)) ≡ true ⌝ }
 {
     let mut i = 0;

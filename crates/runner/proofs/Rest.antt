@@ -61,7 +61,7 @@ module _ (s : Save) where
   enter-rest (code cs nx el) v = execute-rest nx cs v
   enter-rest dataBlock v = refl
 
-  step-rest : (bs : List Block) (b : ℕ) (v : List ℤ) → step bs s b v ≡ step bs rest b v
+  pub step-rest : (bs : List Block) (b : ℕ) (v : List ℤ) → step bs s b v ≡ step bs rest b v
   unfolding stepBy
   step-rest bs b v = enter-rest (blockAt bs b) v
 
