@@ -49,6 +49,7 @@ pub fn all(seed: u64, count: usize, longest: usize, small: bool) -> Tally {
     rights::lists(&mut tally, &mut random, count / 4);
     billed(&mut tally, &mut random, count);
     settings::random(&mut tally, &mut random, count);
+    moves::random(&mut tally, &mut random, count);
     tally
 }
 
@@ -56,7 +57,6 @@ pub fn all(seed: u64, count: usize, longest: usize, small: bool) -> Tally {
 pub fn settings(seed: u64, count: usize) -> Tally {
     let mut tally = Tally::default();
     settings::random(&mut tally, &mut Random::new(seed), count);
-    moves::random(&mut tally, &mut random, count);
     tally
 }
 

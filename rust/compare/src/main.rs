@@ -8,6 +8,7 @@
 //! - `shops`: COUNT lists of compiles and ten times as many parses
 //! - `edits`: COUNT lists of edits by users with rights
 //! - `reclaims`: COUNT reclaims of each kind and COUNT lists that mix them with compiles
+//! - `settings`: COUNT slots with all their settings
 //! - `bills`: COUNT bills of saves that were not run and COUNT after runs of compiled shops
 //! - `moves`: COUNT shops under two saves, and compiled again
 
@@ -17,10 +18,7 @@ use oracle::calls;
 use std::process::ExitCode;
 use std::{env, error::Error};
 
-const USAGE: &str = "usage: compare SEED COUNT [LONGEST [small]], or compare SEED COUNT KIND, KIND being shops, edits, reclaims, bills or moves";
-const USAGE: &str =
-    "usage: compare SEED COUNT [LONGEST [small]], or compare SEED COUNT shops|reclaims|settings";
-    "usage: compare SEED COUNT [LONGEST [small]], or compare SEED COUNT shops|reclaims|moves";
+const USAGE: &str = "usage: compare SEED COUNT [LONGEST [small]], or compare SEED COUNT KIND, KIND being shops, edits, settings, reclaims, bills or moves";
 
 fn main() -> Result<ExitCode, Box<dyn Error>> {
     let arguments: Vec<String> = env::args().skip(1).collect();

@@ -98,15 +98,13 @@ unsafe extern "C" {
     ) -> Kept;
 }
 
-pub use rights::*;
 pub use bill::*;
+pub use rights::*;
 pub use settings::*;
 pub use shops::*;
 
-mod rights;
-
 mod bill;
-
+mod rights;
 mod settings;
 
 mod shops {

@@ -133,8 +133,7 @@ impl fmt::Debug for Shop {
 }
 
 use crossing::Given;
-pub(crate) use crossing::{Codes, Row, ShopArrays, row};
-pub(crate) use crossing::{Alone, Codes, Row, ShopArrays};
+pub(crate) use crossing::{Codes, Row, ShopArrays, item_number, row};
 
 /// Slots as the library takes them, there and back.
 mod crossing {
@@ -146,16 +145,6 @@ mod crossing {
 
     /// The codes of one slot.
     pub type Row = [u64; ENTRIES];
-
-    /// The codes of one slot.
-    pub type Row = [u64; ENTRIES];
-
-    /// One slot: no item is -1, and entries past `ENTRIES` have no place among the codes, but count.
-    pub struct Alone {
-        pub item: i32,
-        pub row: Row,
-        pub len: u8,
-    }
 
     /// A shop as four arrays: no item is -1, and a length over `ENTRIES` counts as that many entries.
     #[derive(Clone, PartialEq, Eq)]
@@ -239,18 +228,9 @@ mod crossing {
         }
     }
 
-    impl Alone {
-        pub fn new(slot: &Slot) -> Self {
-            let mut row = [0; ENTRIES];
-            for (place, entry) in row.iter_mut().zip(&slot.requirements) {
-                *place = code(*entry);
-            }
-            Self {
-                item: slot.item.map_or(-1, |item| item.0.into()),
-                row,
-                len: u8::try_from(slot.requirements.len()).unwrap_or(u8::MAX),
-            }
-        }
+    /// The number that the library takes for an item: -1 for none.
+    pub fn item_number(item: Option<Item>) -> i32 {
+        item.map_or(-1, |item| item.0.into())
     }
 
     impl Given {
@@ -271,12 +251,9 @@ mod crossing {
         /// One slot more.
         pub fn push(&mut self, slot: &Slot) {
             let i = self.count;
-            let Alone { item, row, len } = Alone::new(slot);
-            self.items[i] = item;
+            self.items[i] = item_number(slot.item);
             self.limits[i] = slot.limit;
             let (row, len) = row(&slot.requirements);
-            self.codes[ENTRIES * i..][..ENTRIES].copy_from_slice(&row);
-            self.lens[i] = len;
             self.codes[ENTRIES * i..][..ENTRIES].copy_from_slice(&row);
             self.lens[i] = len;
             self.count += 1;
