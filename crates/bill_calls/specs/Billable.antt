@@ -4,7 +4,6 @@ use mathlib.Core.Bool.{Bool, true, false, cond, _&&_, true≢false}
 use mathlib.Core.Option.{Option, none, some}
 use mathlib.Core.List.{List}
 use Prim.Native.Nat.{ℕ, _≤_}
-use native.Mathlib.Omega.{arith}
 use lib.Dec.{eqb}
 use lib.IntN.{ℤ}
 use lib.ListN.{length, length-map}
@@ -13,8 +12,6 @@ use Rattle.model.specs.Limits.{slotCount}
 use Rattle.model.specs.Save.{Save}
 use Rattle.model.specs.Sheet.{Sheet, all, saveRefusal, sheetRefusal}
 use Rattle.model.specs.Shop.{Slot, slotOk, withSlots}
-use Rattle.model.specs.Flags.{shopInside}
-use Rattle.model.specs.Meaning.{Means}
 use Rattle.model.specs.Memory.{scriptOf}
 use Rattle.model.specs.RecordCalls.{Born, bornAt, compileRefusalIn, recordRefusal, runIn}
 use Rattle.model.specs.Lists.{Along, acceptedAt, afterAll, lastAt, latest, nowAt}
@@ -29,7 +26,7 @@ use Rattle.reclaim_record.specs.Demand.{Given}
 use Rattle.reclaim_record.specs.Stands.{LongBorn}
 use Rattle.capi.specs.declared.Ran.{Ran}
 use Rattle.capi.specs.Answers.{loaderBy, ranAs}
-use Rattle.library.specs.Delivered.{Asked, AsPromised, Made, compile, delivered, givenBy, made, reclaim, shopOf}
+use Rattle.library.specs.Delivered.{Asked, AsPromised, Made, compile, means-of, givenBy, made, reclaim, shopOf}
 use Rattle.bill_model.specs.Tariff.{Tariff, tariffRefusal}
 use Rattle.bill_model.specs.Bill.{leaves}
 use Rattle.bill_model.specs.Sorting.{billByItem}
@@ -83,23 +80,12 @@ module _ (h : Sheet) (k : Born) (xs : List Made) (long : LongBorn k) (promised :
   given : (b b′ : ℕ) (ys : List Slot) → nowAt made k xs b ≡ some b′ → lastAt made k xs b ≡ some ys → Given h ys
   given b b′ ys n e = kept-all made (AsPromised h) (λ t i o. GivenIf h o) (keeps h) k xs promised b b′ none n (λ zs q. absurd (none≢some q)) ys e
 
-  -- a run that is not refused is one of a shop whose flags lie in the save (A.10)
-  means-of : (b b′ : ℕ) (ys : List Slot) → nowAt made k xs b ≡ some b′ → lastAt made k xs b ≡ some ys → (s : Save) → saveRefusal h s ≡ 0 → (budget : ℕ) (r : Ran) (v : List ℤ)
-      → ranAs r v ≡ runIn h (afterAll made k xs .memory) b′ s budget → r .refusal ≡ 0 → Means h s ys (s .variables) v
-  means-of b b′ ys n e s f budget r v p z = by (shopInside ys) refl
-    where
-      by : (t : Bool) → shopInside ys ≡ t → Means h s ys (s .variables) v
-      by true i = delivered h k xs long promised .runs b b′ ys n e i s f budget r v p .means z
-      by false i =
-          let w = delivered h k xs long promised .ends b b′ ys n e s f budget r v p .else-spent (λ q. let y : 0 ≡ 23 = sym z ∙ q ∙ rw i in omega arith) in
-          absurd (let y : 0 ≡ 15 = sym z ∙ w in omega arith)
-
   -- lk_run from a surviving block where an lk_compile was accepted, under a save that fits the sheet, answered r without a refusal and left the variables v
   pub billable : (b b′ : ℕ) (ys : List Slot) → nowAt made k xs b ≡ some b′ → lastAt made k xs b ≡ some ys → (s : Save) → saveRefusal h s ≡ 0 → (budget : ℕ) (r : Ran) (v : List ℤ)
       → ranAs r v ≡ runIn h (afterAll made k xs .memory) b′ s budget → r .refusal ≡ 0 → Billable h s v
   billable b b′ ys n e s f budget r v p z =
       let g = given b b′ ys n e in
-      let m = means-of b b′ ys n e s f budget r v p z in
+      let m = means-of h k xs long promised b b′ ys n e s f budget r v p z in
       let l : LeftBy h s v = left-by h (g .sheet) ys (g .twenty) (g .ok) s f v m in
       record {
         counts = λ t n total is is′ ss ss′ cs cs′ q. q .answer ∙ by-item-answer h (leaves s v) t (countsFrom v 0 slotCount) ∙ l .counts t;
