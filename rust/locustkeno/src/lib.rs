@@ -18,6 +18,7 @@ mod arrays;
 mod bill;
 mod ffi;
 mod moves;
+mod lanes;
 mod reclaim;
 mod refused;
 mod rights;
@@ -32,6 +33,7 @@ mod view;
 
 pub use arrays::{Arrays, Births, BlockWords, CommandWords, NodeWords, Values};
 pub use bill::{Basket, Bill, Line, Tariff};
+pub use lanes::{LANES, Saves, Walk};
 pub use reclaim::Moved;
 pub use refused::Refused;
 pub use rights::{Content, Edit, Right, Rights, USERS};
