@@ -17,8 +17,8 @@
 mod arrays;
 mod bill;
 mod ffi;
-mod moves;
 mod lanes;
+mod moves;
 mod reclaim;
 mod refused;
 mod rights;
