@@ -101,7 +101,7 @@ fn earlier_checks_answer_first() {
     assert_eq!(bad.preview(&sheet(), &save()), Err(Refused(8)));
     assert_eq!(
         Refused(23).to_string(),
-        "the run reads a flag that is not in the save (refusal 23)"
+        "the run would read a flag outside 0 to 2,047 (refusal 23)"
     );
 }
 
