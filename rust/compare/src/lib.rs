@@ -51,6 +51,7 @@ pub fn all(seed: u64, count: usize, longest: usize, small: bool) -> Tally {
     billed(&mut tally, &mut random, count);
     settings::random(&mut tally, &mut random, count);
     moves::random(&mut tally, &mut random, count);
+    lanes::random(&mut tally, &mut random, count);
     tally
 }
 
@@ -58,7 +59,6 @@ pub fn all(seed: u64, count: usize, longest: usize, small: bool) -> Tally {
 pub fn settings(seed: u64, count: usize) -> Tally {
     let mut tally = Tally::default();
     settings::random(&mut tally, &mut Random::new(seed), count);
-    lanes::random(&mut tally, &mut random, count);
     tally
 }
 
