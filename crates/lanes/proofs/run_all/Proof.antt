@@ -27,11 +27,6 @@ same-length-2 : tie.Need-same-length-2
 same-length-2 c = search needs
 
 returns-2 : tie.Need-returns-2
-returns-2 c =
-    let a = c .before .before .before .before .before .before .before .before .before .before .before .before in
-    let e = sym (c .before .before .before .before .before .before .before .check-all .ensures) ∙ c .before .before .before .before .before .before .if1 .left in
-    left-walked (a .args .attached .now) (a .args .sheet) (memoryOf (a .args .ws .now) (a .args .val .now) (a .args .cw .now) (a .args .bw .now) (a .args .counts)) (a .args .start .0) (a .args .k) (saveOf (a .args .items .now) (a .args .atcs .now) (a .args .flags .now) (a .args .times .now) (a .args .vars .now)) (a .args .answers .now) (a .args .entered .now) (c .before .walk-all .result) _ _ _ e
-    (saves-long (a .args .attached .now) (a .args .sheet) (saveOf (a .args .items .now) (a .args .atcs .now) (a .args .flags .now) (a .args .times .now) (a .args .vars .now)) (a .args .k) (walk-passed-in (sheetOf (a .args .attached .now) (a .args .sheet)) (memoryOf (a .args .ws .now) (a .args .val .now) (a .args .cw .now) (a .args .bw .now) (a .args .counts)) (a .args .start .0) (a .args .k) (saveOf (a .args .items .now) (a .args .atcs .now) (a .args .flags .now) (a .args .times .now) (a .args .vars .now)) e .lengths)) (c .before .walk-all .ensures)
 returns-2 c = c .before .walk-saves .ensures
 
 pub run-all-spec : {M : Type 1} → statement M
