@@ -17,6 +17,7 @@ pub mod runs;
 pub mod saves;
 pub mod settings;
 pub mod shared;
+pub mod shopper;
 pub mod shops;
 pub mod small;
 pub mod survivors;
@@ -66,6 +67,7 @@ pub fn settings(seed: u64, count: usize) -> Tally {
 pub fn walks(seed: u64, count: usize) -> Tally {
     let mut tally = Tally::default();
     lanes::random(&mut tally, &mut Random::new(seed), count);
+    shopper::random(&mut tally, &mut random, count);
     tally
 }
 
@@ -96,6 +98,13 @@ pub fn edits(seed: u64, count: usize) -> Tally {
 pub fn bills(seed: u64, count: usize) -> Tally {
     let mut tally = Tally::default();
     billed(&mut tally, &mut Random::new(seed), count);
+    tally
+}
+
+/// Shoppers alone.
+pub fn shoppers(seed: u64, count: usize) -> Tally {
+    let mut tally = Tally::default();
+    shopper::random(&mut tally, &mut Random::new(seed), count);
     tally
 }
 

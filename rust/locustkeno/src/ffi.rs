@@ -140,11 +140,13 @@ unsafe extern "C" {
 pub use bill::*;
 pub use rights::*;
 pub use settings::*;
+pub use shopper::*;
 pub use shops::*;
 
 mod bill;
 mod rights;
 mod settings;
+mod shopper;
 
 mod shops {
     use super::Kept;

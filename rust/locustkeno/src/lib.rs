@@ -30,6 +30,7 @@ mod sheet;
 mod shop;
 mod text;
 mod view;
+mod shopper;
 
 pub use arrays::{Arrays, Births, BlockWords, CommandWords, NodeWords, Values};
 pub use bill::{Basket, Bill, Line, Tariff};
@@ -46,3 +47,4 @@ pub use sheet::{Atc, Item, Sheet};
 pub use shop::{ENTRIES, NUM_SLOTS, Requirement, Shop, Slot};
 pub use text::BadText;
 pub use view::{Block, Command, Expr, Op1, Op2};
+pub use shopper::{Shopper, Step, WISHES};
