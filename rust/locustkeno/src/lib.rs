@@ -28,9 +28,9 @@ mod script;
 mod settings;
 mod sheet;
 mod shop;
+mod shopper;
 mod text;
 mod view;
-mod shopper;
 
 pub use arrays::{Arrays, Births, BlockWords, CommandWords, NodeWords, Values};
 pub use bill::{Basket, Bill, Line, Tariff};
@@ -45,6 +45,6 @@ pub use script::{Loader, Ran, Script};
 pub use settings::Settings;
 pub use sheet::{Atc, Item, Sheet};
 pub use shop::{ENTRIES, NUM_SLOTS, Requirement, Shop, Slot};
+pub use shopper::{Shopper, Step, WISHES};
 pub use text::BadText;
 pub use view::{Block, Command, Expr, Op1, Op2};
-pub use shopper::{Shopper, Step, WISHES};
