@@ -53,6 +53,7 @@ pub fn all(seed: u64, count: usize, longest: usize, small: bool) -> Tally {
     settings::random(&mut tally, &mut random, count);
     moves::random(&mut tally, &mut random, count);
     lanes::random(&mut tally, &mut random, count);
+    shopper::random(&mut tally, &mut random, count);
     tally
 }
 
@@ -67,7 +68,6 @@ pub fn settings(seed: u64, count: usize) -> Tally {
 pub fn walks(seed: u64, count: usize) -> Tally {
     let mut tally = Tally::default();
     lanes::random(&mut tally, &mut Random::new(seed), count);
-    shopper::random(&mut tally, &mut random, count);
     tally
 }
 
