@@ -34,9 +34,13 @@ fn main() {
     make_nodes(&mut ws, &mut val);
     make_commands(&mut cw);
     make_blocks(&mut bw);
-    refused(&ws, &val, &cw, &bw, &mut items, &flags, &mut vars);
-    rising(&ws, &val, &cw, &bw, &mut items, &flags, &mut vars);
-    walked(&ws, &val, &cw, &bw, &mut items, &flags, &mut vars);
+    refused_script(&ws, &val, &cw, &bw, &mut items, &flags, &mut vars);
+    refused_setup(&ws, &val, &cw, &bw, &mut items, &flags, &mut vars);
+    refused_number(&ws, &val, &cw, &bw, &mut items, &flags, &mut vars);
+    rising_next(&ws, &val, &cw, &bw, &mut items, &flags, &mut vars);
+    rising_others(&ws, &val, &cw, &bw, &mut items, &flags, &mut vars);
+    two_ways(&ws, &val, &cw, &bw, &mut items, &flags, &mut vars);
+    stopped(&ws, &val, &cw, &bw, &mut items, &flags, &mut vars);
 }
 
 // ---- the script
@@ -113,8 +117,8 @@ fn block(bw: &mut BlockWords, i: usize, kind: u16, first: u16, many: u16, next: 
 
 // ---- the cases
 
-// 1, 2, 3, 6, 7, 12 and 22 by the number of saves, each where those after it would be met too.
-fn refused(
+// 1, 2 and 3, each where those after it would be met too.
+fn refused_script(
     ws: &NodeWords,
     val: &Values,
     cw: &CommandWords,
@@ -159,7 +163,28 @@ fn refused(
         flags,
         vars,
     );
-    g.nodes = 9;
+}
+
+// 6, 7 and 12, likewise.
+fn refused_setup(
+    ws: &NodeWords,
+    val: &Values,
+    cw: &CommandWords,
+    bw: &BlockWords,
+    items: &mut [i16; 520],
+    flags: &[u8; 133120],
+    vars: &mut [i32; 66560],
+) {
+    let mut g = Given {
+        timer10: 1,
+        nodes: 9,
+        blocks: 16,
+        setup: 16,
+        saves: 65,
+        first: 1,
+        second: 0,
+        last: -1,
+    };
     show(b"no such block", g, ws, val, cw, bw, items, flags, vars);
     g.setup = 1;
     show(b"a data block", g, ws, val, cw, bw, items, flags, vars);
@@ -175,8 +200,28 @@ fn refused(
         flags,
         vars,
     );
-    g.setup = 9;
-    g.last = 0;
+}
+
+// 22 by the number of saves.
+fn refused_number(
+    ws: &NodeWords,
+    val: &Values,
+    cw: &CommandWords,
+    bw: &BlockWords,
+    items: &mut [i16; 520],
+    flags: &[u8; 133120],
+    vars: &mut [i32; 66560],
+) {
+    let mut g = Given {
+        timer10: 1,
+        nodes: 9,
+        blocks: 16,
+        setup: 9,
+        saves: 65,
+        first: 1,
+        second: 0,
+        last: 0,
+    };
     show(b"65 saves", g, ws, val, cw, bw, items, flags, vars);
     g.saves = 0;
     show(b"no save", g, ws, val, cw, bw, items, flags, vars);
@@ -184,8 +229,8 @@ fn refused(
     show(b"64 saves", g, ws, val, cw, bw, items, flags, vars);
 }
 
-// 22 by a link that does not fall; one from the setup block alone may rise.
-fn rising(
+// 22 by next.
+fn rising_next(
     ws: &NodeWords,
     val: &Values,
     cw: &CommandWords,
@@ -219,7 +264,28 @@ fn rising(
     show(b"next rises", g, ws, val, cw, bw, items, flags, vars);
     g.setup = 14;
     show(b"next stays", g, ws, val, cw, bw, items, flags, vars);
-    g.setup = 10;
+}
+
+// 22 by other links; a link of the setup block alone may rise.
+fn rising_others(
+    ws: &NodeWords,
+    val: &Values,
+    cw: &CommandWords,
+    bw: &BlockWords,
+    items: &mut [i16; 520],
+    flags: &[u8; 133120],
+    vars: &mut [i32; 66560],
+) {
+    let mut g = Given {
+        timer10: 1,
+        nodes: 9,
+        blocks: 16,
+        setup: 10,
+        saves: 2,
+        first: 1,
+        second: 0,
+        last: 0,
+    };
     show(b"else stays", g, ws, val, cw, bw, items, flags, vars);
     g.setup = 12;
     show(
@@ -247,8 +313,8 @@ fn rising(
     );
 }
 
-// Two ways, a data block, and flag 2,048 beside 2,047; each of two saves and of one.
-fn walked(
+// One save goes by block 2, the other straight to 0.
+fn two_ways(
     ws: &NodeWords,
     val: &Values,
     cw: &CommandWords,
@@ -282,8 +348,28 @@ fn walked(
         flags,
         vars,
     );
-    g.first = 1;
-    g.setup = 3;
+}
+
+// A data block is read and is the run's 13; flag 2,048 is 23 and flag 2,047 is read.
+fn stopped(
+    ws: &NodeWords,
+    val: &Values,
+    cw: &CommandWords,
+    bw: &BlockWords,
+    items: &mut [i16; 520],
+    flags: &[u8; 133120],
+    vars: &mut [i32; 66560],
+) {
+    let mut g = Given {
+        timer10: 1,
+        nodes: 9,
+        blocks: 16,
+        setup: 3,
+        saves: 1,
+        first: 1,
+        second: 0,
+        last: 0,
+    };
     show(b"to data, one save", g, ws, val, cw, bw, items, flags, vars);
     g.saves = 2;
     show(b"to data", g, ws, val, cw, bw, items, flags, vars);
