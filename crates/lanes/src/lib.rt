@@ -446,7 +446,18 @@ fn walk_one(
     ensures { λ r. ⌜ Alone (run (scriptOf (memoryOf (now (ws .entry)) (now (val .entry)) (now (cw .entry)) (now (bw .entry)) counts) .blocks) (reads (now (items .entry)) (now (atcs .entry)) (now (flags .entry)) (now (times .entry))) laneBudget (start .0) (now (vars .entry))) (now (answers .entry)) (now (entered .entry)) (now (vars .entry)) r (now (answers .exit)) (now (entered .exit)) (now (vars .exit)) ⌝ }
 {
     let ran = run_copied(
-        ws, val, cw, bw, counts, start, items, atcs, flags, times, vars, 4096,
+        ws,
+        val,
+        cw,
+        bw,
+        counts,
+        start,
+        items,
+        atcs,
+        flags,
+        times,
+        vars,
+        4096,
     );
     answers[0] = ran.refusal;
     entered[0] = ran.entered;
@@ -477,13 +488,40 @@ fn walk_saves(
 {
     if k == 1 {
         return walk_one(
-            ws, val, cw, bw, counts, start, items, atcs, flags, times, vars, answers, entered,
+            ws,
+            val,
+            cw,
+            bw,
+            counts,
+            start,
+            items,
+            atcs,
+            flags,
+            times,
+            vars,
+            answers,
+            entered,
         );
     }
     let n = attached.len();
     let m = sheet.atcs as usize;
     walk_all(
-        ws, val, cw, bw, counts, start, k as usize, n, m, items, atcs, flags, times, vars, answers, entered,
+        ws,
+        val,
+        cw,
+        bw,
+        counts,
+        start,
+        k as usize,
+        n,
+        m,
+        items,
+        atcs,
+        flags,
+        times,
+        vars,
+        answers,
+        entered,
     )
 }
 
@@ -531,7 +569,22 @@ pub fn run_all(
         };
     }
     let read = walk_saves(
-        attached, sheet, ws, val, cw, bw, counts, start, k, items, atcs, flags, times, vars, answers, entered,
+        attached,
+        sheet,
+        ws,
+        val,
+        cw,
+        bw,
+        counts,
+        start,
+        k,
+        items,
+        atcs,
+        flags,
+        times,
+        vars,
+        answers,
+        entered,
     );
     Walked {
         refusal: 0,

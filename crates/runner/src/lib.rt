@@ -435,6 +435,17 @@ pub fn run(
         };
     }
     run_copied(
-        ws, val, cw, bw, counts, start, items, atcs, flags, times, vars, budget,
+        ws,
+        val,
+        cw,
+        bw,
+        counts,
+        start,
+        items,
+        atcs,
+        flags,
+        times,
+        vars,
+        budget,
     )
 }

@@ -12,7 +12,12 @@ use Rattle.lanes.proofs.walk_saves.Statement.{statement}
 use Rattle.lanes.proofs.walk_saves.Tie as tie
 
 walk-one-requires : tie.Need-walk-one-requires
-walk-one-requires c κs = let a = c .before .before .before .before .before .before .before in let p = walk-passed-in (sheetOf (a .args .attached .now) (a .args .sheet)) (memoryOf (a .args .ws .now) (a .args .val .now) (a .args .cw .now) (a .args .bw .now) (a .args .counts)) (a .args .start .0) (a .args .k) (saveOf (a .args .items .now) (a .args .atcs .now) (a .args .flags .now) (a .args .times .now) (a .args .vars .now)) (a .pre) in (call-ready (memoryOf (a .args .ws .now) (a .args .val .now) (a .args .cw .now) (a .args .bw .now) (a .args .counts)) (sheetOf (a .args .attached .now) (a .args .sheet)) (a .args .start .0) (p .call), omega (arith, saves-long (a .args .attached .now) (a .args .sheet) (saveOf (a .args .items .now) (a .args .atcs .now) (a .args .flags .now) (a .args .times .now) (a .args .vars .now)) (a .args .k) (p .lengths), c .before .before .before .if1 .taken))
+walk-one-requires c κs =
+    let a = c .before .before .before .before .before .before .before in
+    let p = walk-passed-in (sheetOf (a .args .attached .now) (a .args .sheet)) (memoryOf (a .args .ws .now) (a .args .val .now) (a .args .cw .now) (a .args .bw .now) (a .args .counts)) (a .args .start .0) (a .args .k) (saveOf (a .args .items .now) (a .args .atcs .now) (a .args .flags .now) (a .args .times .now) (a .args .vars .now)) (a .pre) in (
+      call-ready (memoryOf (a .args .ws .now) (a .args .val .now) (a .args .cw .now) (a .args .bw .now) (a .args .counts)) (sheetOf (a .args .attached .now) (a .args .sheet)) (a .args .start .0) (p .call),
+      omega (arith, saves-long (a .args .attached .now) (a .args .sheet) (saveOf (a .args .items .now) (a .args .atcs .now) (a .args .flags .now) (a .args .times .now) (a .args .vars .now)) (a .args .k) (p .lengths), c .before .before .before .if1 .taken),
+    )
 
 same-length : tie.Need-same-length
 same-length c = search needs
@@ -24,13 +29,22 @@ cast-m : tie.Need-cast-m
 cast-m c = search needs
 
 walk-all-requires : tie.Need-walk-all-requires
-walk-all-requires c κs = let a = c .before .before .before .before .before .before .before .before in let p = walk-passed-in (sheetOf (a .args .attached .now) (a .args .sheet)) (memoryOf (a .args .ws .now) (a .args .val .now) (a .args .cw .now) (a .args .bw .now) (a .args .counts)) (a .args .start .0) (a .args .k) (saveOf (a .args .items .now) (a .args .atcs .now) (a .args .flags .now) (a .args .times .now) (a .args .vars .now)) (a .pre) in (call-ready (memoryOf (a .args .ws .now) (a .args .val .now) (a .args .cw .now) (a .args .bw .now) (a .args .counts)) (sheetOf (a .args .attached .now) (a .args .sheet)) (a .args .start .0) (p .call), saves-lie (a .args .attached .now) (a .args .sheet) (a .args .items .now) (a .args .atcs .now) (a .args .flags .now) (a .args .times .now) (a .args .vars .now) (a .args .k) (p .lengths) (p .few-saves), call-safe (sheetOf (a .args .attached .now) (a .args .sheet)) (memoryOf (a .args .ws .now) (a .args .val .now) (a .args .cw .now) (a .args .bw .now) (a .args .counts)) (a .args .start .0) (a .args .k) (saveOf (a .args .items .now) (a .args .atcs .now) (a .args .flags .now) (a .args .times .now) (a .args .vars .now)) (p .call) .1)
+walk-all-requires c κs =
+    let a = c .before .before .before .before .before .before .before .before in
+    let p = walk-passed-in (sheetOf (a .args .attached .now) (a .args .sheet)) (memoryOf (a .args .ws .now) (a .args .val .now) (a .args .cw .now) (a .args .bw .now) (a .args .counts)) (a .args .start .0) (a .args .k) (saveOf (a .args .items .now) (a .args .atcs .now) (a .args .flags .now) (a .args .times .now) (a .args .vars .now)) (a .pre) in (
+      call-ready (memoryOf (a .args .ws .now) (a .args .val .now) (a .args .cw .now) (a .args .bw .now) (a .args .counts)) (sheetOf (a .args .attached .now) (a .args .sheet)) (a .args .start .0) (p .call),
+      saves-lie (a .args .attached .now) (a .args .sheet) (a .args .items .now) (a .args .atcs .now) (a .args .flags .now) (a .args .times .now) (a .args .vars .now) (a .args .k) (p .lengths) (p .few-saves),
+      call-safe (sheetOf (a .args .attached .now) (a .args .sheet)) (memoryOf (a .args .ws .now) (a .args .val .now) (a .args .cw .now) (a .args .bw .now) (a .args .counts)) (a .args .start .0) (a .args .k) (saveOf (a .args .items .now) (a .args .atcs .now) (a .args .flags .now) (a .args .times .now) (a .args .vars .now)) (p .call) .1,
+    )
 
 same-length-2 : tie.Need-same-length-2
 same-length-2 c = search needs
 
 returns-2 : tie.Need-returns-2
-returns-2 c = let a = c .before .before .before .before .before .before .before .before .before .before in left-walked (a .args .attached .now) (a .args .sheet) (memoryOf (a .args .ws .now) (a .args .val .now) (a .args .cw .now) (a .args .bw .now) (a .args .counts)) (a .args .start .0) (a .args .k) (saveOf (a .args .items .now) (a .args .atcs .now) (a .args .flags .now) (a .args .times .now) (a .args .vars .now)) (a .args .answers .now) (a .args .entered .now) (c .before .walk-all .result) _ _ _ (a .pre) (saves-long (a .args .attached .now) (a .args .sheet) (saveOf (a .args .items .now) (a .args .atcs .now) (a .args .flags .now) (a .args .times .now) (a .args .vars .now)) (a .args .k) (walk-passed-in (sheetOf (a .args .attached .now) (a .args .sheet)) (memoryOf (a .args .ws .now) (a .args .val .now) (a .args .cw .now) (a .args .bw .now) (a .args .counts)) (a .args .start .0) (a .args .k) (saveOf (a .args .items .now) (a .args .atcs .now) (a .args .flags .now) (a .args .times .now) (a .args .vars .now)) (a .pre) .lengths)) (c .before .walk-all .ensures)
+returns-2 c =
+    let a = c .before .before .before .before .before .before .before .before .before .before in
+    left-walked (a .args .attached .now) (a .args .sheet) (memoryOf (a .args .ws .now) (a .args .val .now) (a .args .cw .now) (a .args .bw .now) (a .args .counts)) (a .args .start .0) (a .args .k) (saveOf (a .args .items .now) (a .args .atcs .now) (a .args .flags .now) (a .args .times .now) (a .args .vars .now)) (a .args .answers .now) (a .args .entered .now) (c .before .walk-all .result) _ _ _ (a .pre)
+    (saves-long (a .args .attached .now) (a .args .sheet) (saveOf (a .args .items .now) (a .args .atcs .now) (a .args .flags .now) (a .args .times .now) (a .args .vars .now)) (a .args .k) (walk-passed-in (sheetOf (a .args .attached .now) (a .args .sheet)) (memoryOf (a .args .ws .now) (a .args .val .now) (a .args .cw .now) (a .args .bw .now) (a .args .counts)) (a .args .start .0) (a .args .k) (saveOf (a .args .items .now) (a .args .atcs .now) (a .args .flags .now) (a .args .times .now) (a .args .vars .now)) (a .pre) .lengths)) (c .before .walk-all .ensures)
 
 pub walk-saves-spec : {M : Type 1} → statement M
 walk-saves-spec =
