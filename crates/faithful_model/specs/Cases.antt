@@ -5,11 +5,10 @@ use mathlib.Core.Option.{none, some}
 use mathlib.Core.List.{[], _∷_}
 use lib.IntN.{pos, negsuc}
 use Rattle.model.specs.Sheet.{Sheet}
-use Rattle.model.specs.Requirement.{haveItem, missingItem, haveAtc, haveFlag, missingFlag, insert, member, settled, sorted}
+use Rattle.model.specs.Requirement.{haveItem, missingItem, haveAtc, haveFlag, missingFlag, member}
 use Rattle.model.specs.Shop.{limitOf}
-use Rattle.model.specs.Normal.{acquiredOf, filledSlot, normal}
+use Rattle.model.specs.Normal.{acquiredOf, filledSlot}
 use Rattle.faithful_model.specs.Faithful.{isFaithful, noPair}
-use Rattle.faithful_model.specs.Exact.{isSame}
 
 -- items 0 to 7, item 6 with atc 1, timers 0, 1, 2
 abbrev small : Sheet
@@ -28,10 +27,7 @@ pub record Cases : Type 0 where
   -- an entry twice, a limit that is coerced, requirements of a slot without an item
   pub twice : isFaithful small (filledSlot 7 99 (haveFlag (pos 2) ∷ haveFlag (pos 2) ∷ [])) ≡ true
   pub empty : isFaithful small (record { item = none; limit = negsuc 4; requirements = haveFlag (pos 2) ∷ missingFlag (pos 2) ∷ [] }) ≡ true
-  -- the smallest slot that the rule refuses and that is faithful all the same: its flag 2048 is in no save
-  pub outside : isFaithful small (filledSlot 7 3 (haveFlag (pos 2048) ∷ haveFlag (pos 1) ∷ missingFlag (pos 1) ∷ [])) ≡ false
-  pub outside-same : isSame small (filledSlot 7 3 (haveFlag (pos 2048) ∷ haveFlag (pos 1) ∷ missingFlag (pos 1) ∷ [])) ≡ true
 
 pub cases : Cases
-unfolding isFaithful isSame noPair acquiredOf limitOf member normal settled sorted insert
-cases = record { pair = refl; own = refl; own-atc = refl; stock = refl; missing = refl; atc-item = refl; twice = refl; empty = refl; outside = refl; outside-same = refl }
+unfolding isFaithful noPair acquiredOf limitOf member
+cases = record { pair = refl; own = refl; own-atc = refl; stock = refl; missing = refl; atc-item = refl; twice = refl; empty = refl }

@@ -1,9 +1,3 @@
 pub mod Faithful
 pub mod Lists
-pub mod Saves
-pub mod Holds
-pub mod Rule
-pub mod Witness
-pub mod Exact
-pub mod Shops
 pub mod Cases

@@ -15,14 +15,15 @@ use Rattle.model.specs.Save.{Save}
 use Rattle.model.specs.Sheet.{Sheet, all, saveRefusal, sheetRefusal}
 use Rattle.model.specs.Requirement.{Requirement, keep, member, negateReq, settled, sorted}
 use Rattle.model.specs.Shop.{Slot, itemKnown, limitOf, padded, reqKnown, shopRefusal, slotOk, withSlots}
-use Rattle.model.specs.Meaning.{Means, meaningOf, orOld, tempAfter}
+use Rattle.model.specs.Flags.{insideFor, reqInside, shopInside, slotInside}
+use Rattle.model.specs.Meaning.{meaningOf, orOld, tempAfter}
 use Rattle.model.specs.Normal.{acquiredOf, filledSlot, lone, normal, normalFor, normalShop}
 use Rattle.model.specs.Preview.{previewCall, previewOf}
 use Rattle.model.specs.Laws.Checks.{and-left, and-right}
 use Rattle.model.specs.Laws.Normal.{sorted-length}
 use Rattle.faithful_model.specs.Faithful.{isFaithful}
 use Rattle.faithful_model.specs.Lists.{all-member, all-of}
-use Rattle.faithful_model.specs.Rule.{left-was, leftOf, normal-left, rule-same}
+use Rattle.signed_model.specs.Rule.{left-was, leftOf, normal-left, rule-same}
 
 -- ---- the normal form passes 8 where the slot does
 
@@ -68,6 +69,21 @@ normal-ok h x ok = rw (normal-item h x, and-left (itemKnown h (x .item)) _ ok) (
         rw (normal-left h x w e, le-leb (length (leftOf h w l (x .requirements))) entryLimit (omega (arith, few, left-length h w l (x .requirements))))
         (all-of (reqKnown h) (leftOf h w l (x .requirements)) (λ r m. all-member (reqKnown h) r (x .requirements) (and-right (leb (length (x .requirements)) entryLimit) _ rest) (left-was h w l r (x .requirements) m .0)))
 
+-- what is left reads no other flags
+normal-inside : (h : Sheet) (x : Slot) → slotInside x ≡ true → slotInside (normal h x) ≡ true
+unfolding slotInside
+normal-inside h x i = by (x .item) refl
+  where
+    by : (o : Option ℕ) → x .item ≡ o → insideFor (normal h x .item) (normal h x .requirements) ≡ true
+    by none e = rw (normal-item h x ∙ e)
+    by (some w) e =
+        rw (normal-left h x w e, normal-item h x ∙ e)
+        (all-of reqInside (leftOf h w (limitOf h w (x .limit)) (x .requirements)) (λ r m. all-member reqInside r (x .requirements) (rw e at i) (left-was h w (limitOf h w (x .limit)) r (x .requirements) m .0)))
+
+shop-inside : (h : Sheet) (xs : List Slot) → shopInside xs ≡ true → shopInside (normalShop h xs) ≡ true
+shop-inside h [] a = refl
+shop-inside h (x ∷ xs) a = rw (normal-inside h x (and-left (slotInside x) _ a)) (shop-inside h xs (and-right (slotInside x) _ a))
+
 shop-ok : (h : Sheet) (xs : List Slot) → all (slotOk h) xs ≡ true → all (slotOk h) (normalShop h xs) ≡ true
 shop-ok h [] a = refl
 shop-ok h (x ∷ xs) a = rw (normal-ok h x (and-left (slotOk h x) _ a)) (shop-ok h xs (and-right (slotOk h x) _ a))
@@ -92,7 +108,7 @@ padded-all zero (x ∷ xs) e = absurd (omega arith)
 padded-all (suc n) [] e = absurd (omega arith)
 padded-all (suc n) (x ∷ xs) e = ap (λ l. x ∷ l) (padded-all n xs (omega arith))
 
-module _ (h : Sheet) (xs : List Slot) (long : length xs ≡ slotCount) (ok : all (slotOk h) xs ≡ true) (f : all (isFaithful h) xs ≡ true) where
+module _ (h : Sheet) (xs : List Slot) (long : length xs ≡ slotCount) (ok : all (slotOk h) xs ≡ true) (in-save : shopInside xs ≡ true) (f : all (isFaithful h) xs ≡ true) where
   with-own : withSlots xs ≡ xs
   with-own = padded-all slotCount xs long
 
@@ -102,4 +118,4 @@ module _ (h : Sheet) (xs : List Slot) (long : length xs ≡ slotCount) (ok : all
   -- the preview of what is read is the preview of the shop, under any save
   pub preview-same : (s : Save) → previewCall h (normalShop h xs) s ≡ previewCall h xs s
   unfolding previewCall
-  preview-same s = rw (with-normal, with-own, shop-ok h xs ok, ok, meanings-same h s xs f, temp-same h s xs (getD (s .variables) 0 (pos 0)) f)
+  preview-same s = rw (with-normal, with-own, shop-ok h xs ok, ok, shop-inside h xs in-save, in-save, meanings-same h s xs f, temp-same h s xs (getD (s .variables) 0 (pos 0)) f)

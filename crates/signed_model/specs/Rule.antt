@@ -17,10 +17,10 @@ use Rattle.model.specs.Normal.{acquiredOf, filledSlot, lone, normal, normalFill
 use Rattle.model.specs.Laws.Checks.{and-left, and-right}
 use Rattle.model.specs.Laws.Runs.{sameReq-true}
 use Rattle.model.specs.Laws.Sets.{member-keep, same-refl}
 use Rattle.faithful_model.specs.Faithful.{isFaithful, noPair}
-use Rattle.faithful_model.specs.Saves.{Faithful}
+use Rattle.signed_model.specs.Saves.{Faithful}
 use Rattle.faithful_model.specs.Lists.{all-member}
-use Rattle.faithful_model.specs.Holds.{sorted-member, holds-neg, hold-member, hold-of}
+use Rattle.signed_model.specs.Holds.{sorted-member, holds-neg, hold-member, hold-of}
 use Rattle.model.specs.Laws.Normal.{both-ways}
 
 -- ---- limits

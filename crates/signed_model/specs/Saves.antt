@@ -6,7 +6,7 @@ use Prim.Native.Nat.{ℕ, zero, suc}
 use lib.Dec.{ltb}
 use lib.IntN.{ℤ, pos, negsuc}
 use Rattle.model.specs.Limits.{flagCount, timeCount, variableCount}
-use Rattle.model.specs.Save.{Save}
+use Rattle.model.specs.Save.{Save, flagInside}
 use Rattle.model.specs.Sheet.{Sheet, itemCount, saveOk}
 use Rattle.model.specs.Requirement.{Requirement, haveItem, missingItem, haveAtc, missingAtc, haveFlag, missingFlag, member}
 use Rattle.model.specs.Shop.{Slot}
@@ -19,10 +19,6 @@ pub record Faithful (h : Sheet) (x : Slot) : Type 0 where
 
 -- ---- subjects that some save that fits has
 
-abbrev pub flagInside : ℤ → Bool
-flagInside (pos n) = ltb n flagCount
-flagInside (negsuc n) = false
-
 -- a Have of what no save that fits has never holds
 abbrev pub canHold : Sheet → Requirement → Bool
 canHold h (haveItem i) = ltb i (itemCount h)
@@ -31,15 +27,6 @@ canHold h (haveAtc a) = ltb a (h .atcCount)
 canHold h (missingAtc a) = true
 canHold h (haveFlag f) = flagInside f
 canHold h (missingFlag f) = true
-
--- a slot's flags lie in 0 to 2,047
-abbrev pub flagOk : Requirement → Bool
-flagOk (haveItem i) = true
-flagOk (missingItem i) = true
-flagOk (haveAtc a) = true
-flagOk (missingAtc a) = true
-flagOk (haveFlag f) = flagInside f
-flagOk (missingFlag f) = flagInside f
 
 -- ---- the save that has all that qs require and nothing else
 

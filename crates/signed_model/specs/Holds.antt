@@ -12,8 +12,8 @@ use Rattle.model.specs.Sheet.{all}
 use Rattle.model.specs.Requirement.{Requirement, haveItem, missingItem, haveAtc, missingAtc, haveFlag, missingFlag, negateReq, sameReq, member, sorted}
 use Rattle.model.specs.Meaning.{held, holds, allHold}
 use Rattle.model.specs.Laws.Sets.{member-insert, same-refl}
 use Rattle.faithful_model.specs.Lists.{all-member, all-of}
-use Rattle.faithful_model.specs.Saves.{table}
+use Rattle.signed_model.specs.Saves.{table}
 
 not-not : (b : Bool) → not (not b) ≡ b
 not-not true = refl

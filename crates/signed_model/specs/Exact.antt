@@ -13,18 +13,19 @@ use mir.Syntax.{w16, w32}
 use Rattle.model.specs.Limits.{entryLimit, flagCount, timeCount, variableCount}
 use Rattle.model.specs.Signed.{isZero, inRange}
 use Rattle.model.specs.Save.{Save, natAt}
+use Rattle.model.specs.Flags.{reqInside, slotInside}
 use Rattle.model.specs.Sheet.{Sheet, all, isBit, isCount, itemCount, saveOk}
 use Rattle.model.specs.Requirement.{Requirement, haveItem, missingItem, haveAtc, missingAtc, haveFlag, missingFlag, member}
 use Rattle.model.specs.Shop.{Slot, itemKnown, limitOf, reqKnown, slotOk}
 use Rattle.model.specs.Meaning.{allHold, filledMeaning, held, holds, meaningOf}
 use Rattle.model.specs.Normal.{normal}
 use Rattle.model.specs.Laws.Checks.{and-left, and-right}
 use Rattle.faithful_model.specs.Faithful.{isFaithful}
-use Rattle.faithful_model.specs.Saves.{Faithful, canHold, flagInside, flagOk, witnessFor}
+use Rattle.signed_model.specs.Saves.{Faithful, canHold, witnessFor}
 use Rattle.faithful_model.specs.Lists.{all-member, all-of}
-use Rattle.faithful_model.specs.Holds.{find, hold-fails}
-use Rattle.faithful_model.specs.Rule.{left-was, leftOf, normal-left, normal-meaning, rule-faithful, slot-meaning}
-use Rattle.faithful_model.specs.Witness.{tells-apart, witness-tells}
+use Rattle.signed_model.specs.Holds.{find, hold-fails}
+use Rattle.signed_model.specs.Rule.{left-was, leftOf, normal-left, normal-meaning, rule-faithful, slot-meaning}
+use Rattle.signed_model.specs.Witness.{tells-apart, witness-tells}
 
 -- the rule without a premise: the clause on the right says that the normal form too asks for what no save that fits has
 unfoldable pub isSame : Sheet → Slot → Bool
@@ -102,7 +103,7 @@ faithful-same h x f = by (isFaithful h x) (all (canHold h) (normal h x .requirem
 
 -- ---- ids on the sheet and flags within the save
 
-known-can : (h : Sheet) (r : Requirement) → reqKnown h r ≡ true → flagOk r ≡ true → canHold h r ≡ true
+known-can : (h : Sheet) (r : Requirement) → reqKnown h r ≡ true → reqInside r ≡ true → canHold h r ≡ true
 known-can h (haveItem i) k f = k
 known-can h (missingItem i) k f = refl
 known-can h (haveAtc a) k f = k
@@ -110,7 +111,7 @@ known-can h (missingAtc a) k f = refl
 known-can h (haveFlag z) k f = f
 known-can h (missingFlag z) k f = refl
 
-pub slot-can : (h : Sheet) (x : Slot) → slotOk h x ≡ true → all flagOk (x .requirements) ≡ true → all (canHold h) (normal h x .requirements) ≡ true
+pub slot-can : (h : Sheet) (x : Slot) → slotOk h x ≡ true → slotInside x ≡ true → all (canHold h) (normal h x .requirements) ≡ true
 slot-can h x ok fs = by (x .item) refl
   where
     known : all (reqKnown h) (x .requirements) ≡ true
@@ -118,10 +119,14 @@ slot-can h x ok fs = by (x .item) refl
 
     by : (o : Option ℕ) → x .item ≡ o → all (canHold h) (normal h x .requirements) ≡ true
     by none e = unfold normal in rw e
-    by (some w) e = rw (normal-left h x w e) (all-of (canHold h) (leftOf h w (limitOf h w (x .limit)) (x .requirements))
-        (λ r m. let n = left-was h w (limitOf h w (x .limit)) r (x .requirements) m .0 in known-can h r (all-member (reqKnown h) r (x .requirements) known n) (all-member flagOk r (x .requirements) fs n)))
+    by (some w) e =
+        let rs = x .requirements in
+        let f : all reqInside rs ≡ true = unfold slotInside in rw e at fs in
+        rw (normal-left h x w e) (all-of (canHold h) (leftOf h w (limitOf h w (x .limit)) rs)
+        (λ r m. let n = left-was h w (limitOf h w (x .limit)) r rs m .0 in known-can h r (all-member (reqKnown h) r rs known n) (all-member reqInside r rs f n)))
 
-pub faithful-rule : (h : Sheet) (x : Slot) → slotOk h x ≡ true → all flagOk (x .requirements) ≡ true → Faithful h x → isFaithful h x ≡ true
+-- a slot that passed 8 and whose flags lie in the save is faithful only where the rule says so
+pub faithful-rule : (h : Sheet) (x : Slot) → slotOk h x ≡ true → slotInside x ≡ true → Faithful h x → isFaithful h x ≡ true
 faithful-rule h x ok fs f = by (isFaithful h x) refl
   where
     by : (b : Bool) → isFaithful h x ≡ b → b ≡ true

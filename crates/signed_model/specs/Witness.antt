@@ -20,11 +20,11 @@ use Rattle.model.specs.Compile.{rateOf, acquiredReq}
 use Rattle.model.specs.Meaning.{Meaning, acquired, allHold, atRate, filledMeaning, held, hidden, holds, limitMeaning, meaningOf, uniqueMeaning}
 use Rattle.model.specs.Normal.{acquiredOf, normal}
 use Rattle.model.specs.Laws.Checks.{and-left, and-right}
 use Rattle.faithful_model.specs.Faithful.{isFaithful, noPair}
-use Rattle.faithful_model.specs.Saves.{bit, canHold, table, witness, witnessFor}
-use Rattle.faithful_model.specs.Lists.{all-member, neg-neg}
-use Rattle.faithful_model.specs.Holds.{Without, find, hold-fails, hold-of, holds-neg, table-all, table-at, table-default, table-length}
-use Rattle.faithful_model.specs.Rule.{leftOf, left-own, left-was, normal-left, normal-meaning, slot-meaning}
+use Rattle.signed_model.specs.Saves.{bit, canHold, table, witness, witnessFor}
+use Rattle.faithful_model.specs.Lists.{all-member, is-false}
+use Rattle.signed_model.specs.Holds.{Without, find, hold-fails, hold-of, holds-neg, table-all, table-at, table-default, table-length}
+use Rattle.signed_model.specs.Rule.{leftOf, left-own, left-was, normal-left, normal-meaning, slot-meaning}
 
 -- ---- it fits the sheet
 
@@ -118,11 +118,7 @@ pub record Tells (h : Sheet) (x : Slot) (s : Save) : Type 0 where
   pub reads : (w : ℕ) → x .item ≡ some w → meaningOf h s (normal h x) .item ≡ pos w
   pub filled : x .item ≡ none → ⊥
 
-is-false : (b : Bool) → (b ≡ true → ⊥) → b ≡ false
-is-false true f = absurd (f refl)
-is-false false f = refl
-
-and-false : (a b : Bool) → a && b ≡ false → a ≡ true → b ≡ false
+pub and-false : (a b : Bool) → a && b ≡ false → a ≡ true → b ≡ false
 and-false true b e p = e
 and-false false b e p = absurd (true≢false (sym p))
 
