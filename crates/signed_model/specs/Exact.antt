@@ -7,7 +7,7 @@ use Prim.Native.Nat.{ℕ, zero, suc, _<_, _≤_}
 use native.Mathlib.Omega.{arith}
 use lib.Dec.{ltb, leb, eqb}
 use borrow.Author.Tests.{ltb-false, eqb-true, not-false}
-use lib.ListN.{getD, length}
+use lib.ListN.{length, List·getD-eq-default}
 use lib.IntN.{ℤ, pos, negsuc}
 use mir.Syntax.{w16, w32}
 use Rattle.model.specs.Limits.{entryLimit, flagCount, timeCount, variableCount}
@@ -33,11 +33,6 @@ isSame h x = isFaithful h x || not (all (canHold h) (normal h x .requirements))
 
 -- ---- what no save that fits has never holds
 
-past-end : {A : Type 0} (xs : List A) (i : ℕ) (d : A) → length xs ≤ i → getD xs i d ≡ d
-past-end [] i d l = refl
-past-end (x ∷ xs) zero d l = absurd (omega arith)
-past-end (x ∷ xs) (suc i) d l = past-end xs i d (omega arith)
-
 record Lengths (h : Sheet) (s : Save) : Type 0 where
   items : length (s .items) ≡ itemCount h
   atcs : length (s .atcs) ≡ h .atcCount
@@ -57,11 +52,11 @@ lengths h s ok =
 
 cannot : (h : Sheet) (s : Save) → Lengths h s → (r : Requirement) → canHold h r ≡ false → holds s r ≡ false
 unfolding holds
-cannot h s l (haveItem i) c = ap (λ z. not (isZero z)) (past-end (s .items) i (pos 0) (omega (arith, l .items, ltb-false i (itemCount h) c)))
+cannot h s l (haveItem i) c = ap (λ z. not (isZero z)) (List·getD-eq-default (s .items) (pos 0) (omega (arith, l .items, ltb-false i (itemCount h) c)))
 cannot h s l (missingItem i) c = absurd (true≢false c)
-cannot h s l (haveAtc a) c = ap (λ z. not (isZero (pos z))) (past-end (s .atcs) a 0 (omega (arith, l .atcs, ltb-false a (h .atcCount) c)))
+cannot h s l (haveAtc a) c = ap (λ z. not (isZero (pos z))) (List·getD-eq-default (s .atcs) 0 (omega (arith, l .atcs, ltb-false a (h .atcCount) c)))
 cannot h s l (missingAtc a) c = absurd (true≢false c)
-cannot h s l (haveFlag (pos f)) c = ap (λ z. not (isZero (pos z))) (past-end (s .flags) f 0 (omega (arith, l .flags, ltb-false f flagCount c)))
+cannot h s l (haveFlag (pos f)) c = ap (λ z. not (isZero (pos z))) (List·getD-eq-default (s .flags) 0 (omega (arith, l .flags, ltb-false f flagCount c)))
 cannot h s l (haveFlag (negsuc f)) c = refl
 cannot h s l (missingFlag f) c = absurd (true≢false c)
 

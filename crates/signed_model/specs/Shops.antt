@@ -101,7 +101,7 @@ module _ (h : Sheet) (s : Save) where
   temp-same (x ∷ xs) z f =
       temp-same xs (orOld (meaningOf h s (normal h x) .temp) z) (and-right (isFaithful h x) _ f) ∙ ap (λ m. tempAfter h s xs (orOld (m .temp) z)) (sym (rule-same h x (and-left (isFaithful h x) _ f) s))
 
-padded-all : (n : ℕ) (xs : List Slot) → length xs ≡ n → padded n xs ≡ xs
+pub padded-all : (n : ℕ) (xs : List Slot) → length xs ≡ n → padded n xs ≡ xs
 unfolding padded
 padded-all zero [] e = refl
 padded-all zero (x ∷ xs) e = absurd (omega arith)

@@ -154,9 +154,11 @@ table-same f g (suc n) e = rw (e 0) (ap (λ l. g 0 ∷ l) (table-same (λ i. f (
 pub witness-haves : (h : Sheet) (qs : List Requirement) → witness h (keep isHave qs) ≡ witness h qs
 unfolding witness
 witness-haves h qs =
-    rw (table-same (λ i. pos (bit (member (haveItem i) (keep isHave qs)))) (λ i. pos (bit (member (haveItem i) qs))) (itemCount h) (λ i. ap (λ b. pos (bit b)) (member-keep isHave (haveItem i) qs)),
+    rw (
+      table-same (λ i. pos (bit (member (haveItem i) (keep isHave qs)))) (λ i. pos (bit (member (haveItem i) qs))) (itemCount h) (λ i. ap (λ b. pos (bit b)) (member-keep isHave (haveItem i) qs)),
       table-same (λ a. bit (member (haveAtc a) (keep isHave qs))) (λ a. bit (member (haveAtc a) qs)) (h .atcCount) (λ a. ap bit (member-keep isHave (haveAtc a) qs)),
-      table-same (λ f. bit (member (haveFlag (pos f)) (keep isHave qs))) (λ f. bit (member (haveFlag (pos f)) qs)) flagCount (λ f. ap bit (member-keep isHave (haveFlag (pos f)) qs)))
+      table-same (λ f. bit (member (haveFlag (pos f)) (keep isHave qs))) (λ f. bit (member (haveFlag (pos f)) qs)) flagCount (λ f. ap bit (member-keep isHave (haveFlag (pos f)) qs)),
+    )
 
 -- ---- a slot that passed 8
 
