@@ -49,7 +49,7 @@ unfolding slotsOf
 shop-long a = length-map (shopFrom a .slots) slotOf ∙ slots-long a
 
 module _ (h : Sheet) (a : Arrays) where
-  with-shop : withSlots (slotsOf (shopFrom a)) ≡ slotsOf (shopFrom a)
+  pub with-shop : withSlots (slotsOf (shopFrom a)) ≡ slotsOf (shopFrom a)
   with-shop = padded-all slotCount (slotsOf (shopFrom a)) (shop-long a)
 
   -- check 8 of the shop is check 8 of each slot

@@ -80,11 +80,11 @@ normal-inside h x i = by (x .item) refl
         rw (normal-left h x w e, normal-item h x ∙ e)
         (all-of reqInside (leftOf h w (limitOf h w (x .limit)) (x .requirements)) (λ r m. all-member reqInside r (x .requirements) (rw e at i) (left-was h w (limitOf h w (x .limit)) r (x .requirements) m .0)))
 
-shop-inside : (h : Sheet) (xs : List Slot) → shopInside xs ≡ true → shopInside (normalShop h xs) ≡ true
+pub shop-inside : (h : Sheet) (xs : List Slot) → shopInside xs ≡ true → shopInside (normalShop h xs) ≡ true
 shop-inside h [] a = refl
 shop-inside h (x ∷ xs) a = rw (normal-inside h x (and-left (slotInside x) _ a)) (shop-inside h xs (and-right (slotInside x) _ a))
 
-shop-ok : (h : Sheet) (xs : List Slot) → all (slotOk h) xs ≡ true → all (slotOk h) (normalShop h xs) ≡ true
+pub shop-ok : (h : Sheet) (xs : List Slot) → all (slotOk h) xs ≡ true → all (slotOk h) (normalShop h xs) ≡ true
 shop-ok h [] a = refl
 shop-ok h (x ∷ xs) a = rw (normal-ok h x (and-left (slotOk h x) _ a)) (shop-ok h xs (and-right (slotOk h x) _ a))
 

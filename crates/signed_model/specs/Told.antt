@@ -206,9 +206,13 @@ left-tells : (h : Sheet) (x : Slot) → isFaithful h x ≡ false → all (canHol
 unfolding witnessFor
 left-tells h x r can = witness-tells h x r can
 
+-- faithful is said by the rule
+pub told-rule : (h : Sheet) (x : Slot) → verdict h x ≡ faithful → (slotInside x ≡ true) × (isFaithful h x ≡ true)
+told-rule h x e = let b = sym (verdict-is h x) ∙ ap isFaithfulV e in (and-left (slotInside x) _ b, and-right (slotInside x) _ b)
+
 pub told-right : (h : Sheet) (x : Slot) → slotOk h x ≡ true → Right h x
 told-right h x ok = record {
-  faithful-so = λ e. let b = sym (verdict-is h x) ∙ ap isFaithfulV e in (rule-faithful h x (and-right (slotInside x) _ b), and-left (slotInside x) _ b);
+  faithful-so = λ e. let b = told-rule h x e in (rule-faithful h x (b .1), b .0);
   so-faithful = λ i f. is-faithful (verdict h x) (verdict-is h x ∙ rw (i, faithful-rule h x ok i f));
   outside-so = outside-is h x;
   apart = shows;
