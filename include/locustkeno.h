@@ -7,6 +7,8 @@
  * lk_write, lk_run and lk_compile, 512 for lk_parse, 768 for lk_reclaim (rust/locustkeno/tests/stack.rs).
  * On the largest and nastiest scripts 32 kilobytes of stack were enough for lk_read, lk_preview and lk_bill, 160 for lk_write,
  * lk_run and lk_compile, 512 for lk_parse, 768 for lk_reclaim (rust/locustkeno/tests/stack.rs).
+ * On the largest and nastiest scripts 32 kilobytes of stack were enough for lk_read and lk_preview, 160 for lk_write, lk_run
+ * and lk_compile, 512 for lk_parse and lk_run_all, 768 for lk_reclaim (rust/locustkeno/tests/stack.rs).
  *
  * A script is four arrays and three kept counts:
  *   ws   nodes: code, left operand, right operand at 3n, 3n + 1, 3n + 2
@@ -82,6 +84,27 @@ lk_ran lk_run(const uint8_t *attached, size_t attached_len, uint16_t atcs, uint1
               uint16_t blocks, uint32_t start, const int16_t *items, size_t items_len, const uint8_t *held,
               size_t held_len, const uint8_t *flags, size_t flags_len, const int16_t *times, size_t times_len,
               int32_t *vars, size_t vars_len, uint32_t budget);
+
+/* Runs the blocks from setup on for 1 to LK_LANES saves, each with a budget of 4,096, and reads each block once that at least
+ * one of the runs enters: read says how many those are. The parts of the saves lie one behind another: items has saves times the
+ * sheet's items, held saves times its atcs, flags saves times 2,048, times saves times 8 and vars saves times 1,024 numbers. Of
+ * save j the refusal and the count go to refusals[j] and entered[j]; places from saves on are left alone. Refused, nothing is
+ * written and read is 0. 12: a slice of another length, or a value that some save may not have, also past the 64th. 22, after
+ * 12: no saves or over LK_LANES, or a block that links lead to from setup has a link that does not go to a lower number. */
+#define LK_LANES 64
+
+typedef struct {
+    uint8_t refusal;
+    uint32_t read;
+} lk_walked;
+
+lk_walked lk_run_all(const uint8_t *attached, size_t attached_len, uint16_t atcs, uint16_t timer5, uint16_t timer10,
+                     uint16_t timer15, const uint16_t ws[LK_NODE_WORDS], const int32_t val[LK_VALUES],
+                     const uint16_t cw[LK_COMMAND_WORDS], const uint16_t bw[LK_BLOCK_WORDS], uint16_t nodes,
+                     uint16_t commands, uint16_t blocks, uint32_t setup, uint32_t saves, const int16_t *items,
+                     size_t items_len, const uint8_t *held, size_t held_len, const uint8_t *flags, size_t flags_len,
+                     const int16_t *times, size_t times_len, int32_t *vars, size_t vars_len, uint8_t refusals[LK_LANES],
+                     uint32_t entered[LK_LANES]);
 
 /* Drops every block that is no root and that no root reaches by next, else or command targets. Survivors keep their order and
  * birth marks, and links follow. The counts are what the survivors hold, so that the freed places serve the next lk_compile;

@@ -81,7 +81,7 @@ static inline const char *lk_message(unsigned refusal) {
         "there is no such user",
         "there is no such slot, or the user may not change that field of it",
         "there are no saves or over 64, or a block that is led to has a link that does not go to a lower number",
-        "the run reads a flag that is not in the save",
+        "the run would read a flag outside 0 to 2,047",
         "a price or the discount is out of range, or there is not exactly one price for each item",
         "a number of the basket is below 0, above its count, or above 0 where the item is not on the sheet",
         "over 1,000 wishes are given",

@@ -124,9 +124,6 @@ module _ (ls : List ℕ) (f : ℕ → ℕ) (xs : List ℕ) where
       by i g (yes q) = let w : i ≡ j = omega arith in rw w (getD-set-same xs′ (getD ls j 0) x 0 (omega (arith, r .low j h, p .kept .long)) ∙ e)
       by i g (no q) = getD-set-other xs′ (getD ls j 0) (getD ls i 0) x 0 (before-absent r j h i (omega arith)) ∙ p .each i (omega arith)
 
-  pub written-all : (s j : ℕ) (xs′ : List ℕ) → Written ls f j xs xs′ → j ≤ s → s ≤ j → Written ls f s xs xs′
-  written-all s j xs′ p a b = let w : s ≡ j = omega arith in rw w p
-
 module _ (ls : List ℕ) (e : Exit) (xs : List ℤ) (rs ps qs es : List ℕ) where
   pub settled-none : Settled ls e xs rs 0 ps qs es ps qs es
   settled-none = record { blocks = written-none ls _ ps; answers = written-none ls _ qs; counts = written-none ls _ es }

@@ -1,9 +1,11 @@
 //! Times the proved library beside the Rust sides, on the same inputs: microseconds a call, the
-//! best and the median of 31 rounds. With the word `worst` only the slowest inputs that were found.
+//! best and the median of 31 rounds. With the word `worst` only the slowest inputs that were found, with `lanes` only walks for
+//! many saves.
 
 mod by_hand;
 mod cases;
 mod clock;
+mod lanes;
 mod place;
 mod program;
 mod reclaim;
@@ -26,7 +28,12 @@ fn main() {
         "{:8} {:12} {:28} {:>10} {:>10}",
         "call", "script", "side", "best us", "median us"
     );
-    if std::env::args().nth(1).is_none_or(|word| word != "worst") {
+    let word = std::env::args().nth(1);
+    if word.as_deref() == Some("lanes") {
+        cases::all().iter().for_each(lanes::case);
+        return;
+    }
+    if word.is_none_or(|word| word != "worst") {
         ordinary();
     }
     println!("-- hiding blocks under one large condition");
@@ -51,6 +58,7 @@ fn ordinary() {
         run(&case);
         shops::all(&case);
         reclaim::case(&case);
+        lanes::case(&case);
         program::case(&case);
     }
     reclaim::after();

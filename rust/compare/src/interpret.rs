@@ -66,7 +66,7 @@ pub fn run_blocks(a: &Arrays, start: u32, save: &mut Save, budget: u32) -> Answe
 }
 
 /// Where a block leads; to nowhere after a Return.
-fn step(a: &Arrays, block: usize, save: &mut Save) -> Result<Option<u16>, u8> {
+pub(crate) fn step(a: &Arrays, block: usize, save: &mut Save) -> Result<Option<u16>, u8> {
     let words = &a.bw[5 * block..][..5];
     if words[0] != 1 {
         return Err(13);

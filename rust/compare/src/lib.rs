@@ -6,6 +6,7 @@ pub mod convert;
 pub mod images;
 pub mod interpret;
 pub mod judge;
+pub mod lanes;
 pub mod meaning;
 pub mod mixed;
 pub mod moves;
@@ -50,6 +51,7 @@ pub fn all(seed: u64, count: usize, longest: usize, small: bool) -> Tally {
     billed(&mut tally, &mut random, count);
     settings::random(&mut tally, &mut random, count);
     moves::random(&mut tally, &mut random, count);
+    lanes::random(&mut tally, &mut random, count);
     tally
 }
 
@@ -57,6 +59,13 @@ pub fn all(seed: u64, count: usize, longest: usize, small: bool) -> Tally {
 pub fn settings(seed: u64, count: usize) -> Tally {
     let mut tally = Tally::default();
     settings::random(&mut tally, &mut Random::new(seed), count);
+    tally
+}
+
+/// Walks for many saves alone.
+pub fn walks(seed: u64, count: usize) -> Tally {
+    let mut tally = Tally::default();
+    lanes::random(&mut tally, &mut Random::new(seed), count);
     tally
 }
 

@@ -7,8 +7,9 @@
 //!
 //! - `shops`: COUNT lists of compiles and ten times as many parses
 //! - `edits`: COUNT lists of edits by users with rights
-//! - `reclaims`: COUNT reclaims of each kind and COUNT lists that mix them with compiles
 //! - `settings`: COUNT slots with all their settings
+//! - `walks`: COUNT walks of many saves
+//! - `reclaims`: COUNT reclaims of each kind and COUNT lists that mix them with compiles
 //! - `bills`: COUNT bills of saves that were not run and COUNT after runs of compiled shops
 //! - `moves`: COUNT shops under two saves, and compiled again
 
@@ -18,7 +19,7 @@ use oracle::calls;
 use std::process::ExitCode;
 use std::{env, error::Error};
 
-const USAGE: &str = "usage: compare SEED COUNT [LONGEST [small]], or compare SEED COUNT KIND, KIND being shops, edits, settings, reclaims, bills or moves";
+const USAGE: &str = "usage: compare SEED COUNT [LONGEST [small]], or compare SEED COUNT KIND, KIND being shops, edits, settings, walks, reclaims, bills or moves";
 
 fn main() -> Result<ExitCode, Box<dyn Error>> {
     let arguments: Vec<String> = env::args().skip(1).collect();
@@ -38,6 +39,7 @@ fn main() -> Result<ExitCode, Box<dyn Error>> {
             );
             return said(seed, || compare::settings(seed, count));
         }
+        ["walks"] => return said(seed, || compare::walks(seed, count)),
         ["reclaims"] => return said(seed, || compare::reclaims(seed, count)),
         ["bills"] => return said(seed, || compare::bills(seed, count)),
         ["moves"] => return said(seed, || compare::moves(seed, count)),

@@ -2,7 +2,6 @@
 
 use locustkeno::{NUM_SLOTS, Save};
 use oracle::plain::{Requirement, Sheet, Slot};
-use record::random::Random;
 use std::iter;
 
 /// The rates of Timer5, Timer10 and Timer15.
@@ -37,18 +36,6 @@ fn met(save: &Save, requirement: &Requirement) -> bool {
         Requirement::MissingAtc(n) => !atc(n),
         Requirement::HaveFlag(n) => flag(n),
         Requirement::MissingFlag(n) => !flag(n),
-    }
-}
-
-/// Two shops in three get flags that a save has, or most runs would be stopped.
-pub fn settle(random: &mut Random, slots: &mut [Slot]) {
-    if random.once_in(3) {
-        return;
-    }
-    for requirement in slots.iter_mut().flat_map(|slot| &mut slot.requirements) {
-        if let Requirement::HaveFlag(n) | Requirement::MissingFlag(n) = requirement {
-            *n = n.rem_euclid(2_048);
-        }
     }
 }
 

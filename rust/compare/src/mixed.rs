@@ -1,7 +1,6 @@
 //! Lists that mix compiles and reclaims at any blocks: setup blocks that are left run and read as their last shop, other blocks of
 //! the start are as they were.
 
-use crate::meaning::settle;
 use crate::shops::{self, Both};
 use crate::survivors::{self, Numbers};
 use crate::tally::Tally;
@@ -67,12 +66,11 @@ impl List {
             sheet: self.sheet.clone(),
             blocks: 1,
         };
-        let mut slots = if maker.random.once_in(10) {
+        let slots = if maker.random.once_in(10) {
             maker.doubtful_shop()
         } else {
             maker.shop()
         };
-        settle(maker.random, &mut slots);
         let loader = maker.random.pick(&[Loader::Disc, Loader::Demo]);
         let (ours, theirs) = &mut self.both;
         if !shops::check_compile(tally, &self.sheet, ours, theirs, loader, setup, &slots) {

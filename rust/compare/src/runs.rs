@@ -1,6 +1,6 @@
 //! Runs: the library's against the hand-written interpreter and against the meaning of a shop.
 
-use crate::meaning::{meaning, settle};
+use crate::meaning::meaning;
 use crate::tally::Tally;
 use crate::{convert, interpret, saves, small};
 use locustkeno::{Arrays, Save, Script};
@@ -190,8 +190,7 @@ pub fn compiled(tally: &mut Tally, random: &mut Random, count: usize) {
             sheet: sheet.clone(),
             blocks: 1,
         };
-        let mut shop = maker.shop();
-        settle(maker.random, &mut shop);
+        let shop = maker.shop();
         let code = plain::Block::Code(plain::Code::default());
         let mut in_use = InUse::new(plain::Script { blocks: vec![code] });
         in_use

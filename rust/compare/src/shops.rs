@@ -1,6 +1,6 @@
 //! Parses, compiles, lists of compiles and previews: the library's against the original's.
 
-use crate::meaning::{meaning, settle};
+use crate::meaning::meaning;
 use crate::tally::Tally;
 use crate::{convert, runs, saves, small, tree};
 use locustkeno::{Loader, NUM_SLOTS, Preview, Script, Shop};
@@ -268,9 +268,6 @@ pub fn check_last(
 pub fn lists(tally: &mut Tally, random: &mut Random, count: usize) {
     for _ in 0..count {
         let mut case = compile_cases::case(random);
-        for step in &mut case.steps {
-            settle(random, &mut step.shop);
-        }
         let near = if random.once_in(2) {
             Some(random.below(3))
         } else {

@@ -2,6 +2,7 @@
 //!
 //! A slice is a pointer and a length; a reference to an array is a pointer.
 
+use crate::LANES;
 use crate::arrays::{Births, BlockWords, CommandWords, MovedWords, NodeWords, Values};
 
 /// The refusal or 0, the kept counts of a script and the count of its accepted compiles.
@@ -13,6 +14,14 @@ pub struct Kept {
     pub commands: u16,
     pub blocks: u16,
     pub compiles: u32,
+}
+
+/// The refusal or 0, and how many blocks a walk read.
+#[repr(C)]
+#[derive(Debug, Copy, Clone)]
+pub struct Walked {
+    pub refusal: u8,
+    pub read: u32,
 }
 
 /// The refusal or 0, and the length of an image.
@@ -81,6 +90,36 @@ unsafe extern "C" {
         vars_len: usize,
         budget: u32,
     ) -> Ran;
+
+    pub fn lk_run_all(
+        attached: *const u8,
+        attached_len: usize,
+        atcs: u16,
+        timer5: u16,
+        timer10: u16,
+        timer15: u16,
+        ws: *const NodeWords,
+        val: *const Values,
+        cw: *const CommandWords,
+        bw: *const BlockWords,
+        nodes: u16,
+        commands: u16,
+        blocks: u16,
+        setup: u32,
+        saves: u32,
+        items: *const i16,
+        items_len: usize,
+        held: *const u8,
+        held_len: usize,
+        flags: *const u8,
+        flags_len: usize,
+        times: *const i16,
+        times_len: usize,
+        vars: *mut i32,
+        vars_len: usize,
+        refusals: *mut [u8; LANES],
+        entered: *mut [u32; LANES],
+    ) -> Walked;
 
     pub fn lk_reclaim(
         ws: *mut NodeWords,

@@ -17,6 +17,7 @@
 mod arrays;
 mod bill;
 mod ffi;
+mod lanes;
 mod moves;
 mod reclaim;
 mod refused;
@@ -32,6 +33,7 @@ mod view;
 
 pub use arrays::{Arrays, Births, BlockWords, CommandWords, NodeWords, Values};
 pub use bill::{Basket, Bill, Line, Tariff};
+pub use lanes::{LANES, Saves, Walk};
 pub use reclaim::Moved;
 pub use refused::Refused;
 pub use rights::{Content, Edit, Right, Rights, USERS};

@@ -52,7 +52,7 @@ impl Refused {
             22 => {
                 "there are no saves or over 64, or a block that is led to has a link that does not go to a lower number"
             }
-            23 => "the run reads a flag that is not in the save",
+            23 => "the run would read a flag outside 0 to 2,047",
             24 => {
                 "a price or the discount is out of range, or there is not exactly one price for each item"
             }

@@ -15,6 +15,7 @@ const WRITE: usize = 160 * KILOBYTE;
 const RUN: usize = 160 * KILOBYTE;
 const COMPILE: usize = 160 * KILOBYTE;
 const PARSE: usize = 512 * KILOBYTE;
+const RUN_ALL: usize = 512 * KILOBYTE;
 const RECLAIM: usize = 768 * KILOBYTE;
 
 fn sheet() -> Sheet {
@@ -165,6 +166,14 @@ fn run() {
     for script in scripts() {
         let mut save = Save::new(&sheet());
         on_stack(RUN, || done(script.run(&sheet(), 0, &mut save, 5_000)));
+    }
+}
+
+#[test]
+fn run_all() {
+    for script in scripts() {
+        let mut saves = vec![Save::new(&sheet()); 64];
+        on_stack(RUN_ALL, || done(script.run_all(&sheet(), 0, &mut saves)));
     }
 }
 

@@ -58,7 +58,15 @@ element-copy-out-entered : tie.Need-element-copy-out-entered Inv-loop μ-loop
 element-copy-out-entered c = omega (arith, c .before .before .before .lane-of .ensures, c .before .before .before .before .before .before .before .before .before .before .before .pre .0 .low (c .before .before .before .before .before .before .loop .j) (c .before .before .before .before .before .loop-test .taken))
 
 add-entered : tie.Need-add-entered Inv-loop μ-loop
-add-entered c = omega (arith, count-room (c .before .before .before .before .before .before .before .before .before .before .before .before .args .lanes .now) (c .before .before .before .before .before .before .before .before .before .before .before .before .args .exit) (c .before .before .before .before .before .before .before .before .before .before .before .before .args .out .now) (c .before .before .before .before .before .before .before .before .before .before .before .before .args .stops .now) (c .before .before .before .before .before .before .before .before .before .before .before .before .args .at .now) (c .before .before .before .before .before .before .before .before .before .before .before .before .args .answers .now) (c .before .before .before .before .before .before .before .before .before .before .before .before .args .entered .now) (c .before .before .before .before .before .before .before .before .before .before .before .before .args .s) (c .before .before .before .before .before .before .before .loop .j) (c .before .before .before .before .before .before .before .loop .at) (c .before .before .before .before .before .before .before .loop .answers) (c .before .before .before .before .before .before .before .loop .entered) (c .before .before .before .before .before .before .before .before .before .before .before .before .pre .0) (c .before .before .before .before .before .before .loop-test .taken) (c .before .before .before .before .before .before .before .loop .inv .1) (c .before .before .before .before .before .before .before .before .before .before .before .before .pre .1) (c .before .before .before .before .lane-of .result) (c .before .before .before .before .lane-of .ensures))
+add-entered c =
+    let l = c .before .before .before .before .before .before .before in
+    let a = l .before .before .before .before .before in
+    omega (
+      arith,
+      count-room (a .args .lanes .now) (a .args .exit) (a .args .out .now) (a .args .stops .now)
+          (a .args .at .now) (a .args .answers .now) (a .args .entered .now) (a .args .s) (l .loop .j) (l .loop .at) (l .loop .answers) (l .loop .entered)
+          (a .pre .0) (c .before .before .before .before .before .before .loop-test .taken) (l .loop .inv .1) (a .pre .1) (c .before .before .before .before .lane-of .result) (c .before .before .before .before .lane-of .ensures),
+    )
 
 mul-entered-2 : tie.Need-mul-entered-2 Inv-loop μ-loop
 mul-entered-2 c = omega (arith, c .before .before .before .before .lane-of .ensures, c .before .before .before .before .before .before .before .before .before .before .before .before .pre .0 .low (c .before .before .before .before .before .before .before .loop .j) (c .before .before .before .before .before .before .loop-test .taken))
@@ -74,9 +82,14 @@ loop-less c = omega arith
 
 loop-again : tie.Need-loop-again Inv-loop μ-loop
 loop-again c =
-    let a = c .before .before .before .before .before .before .before .before .before .before .before .before in
-    let f : SFits w32 (getD (a .args .out .now) (c .before .before .before .before .before .before .before .loop .j) (pos 0)) = record { sfits = c .before .before .before .choose-arg .given } in
-    (omega arith, settled-more (a .args .lanes .now) (a .args .exit) (a .args .out .now) (a .args .stops .now) (a .args .at .now) (a .args .answers .now) (a .args .entered .now) (a .args .s) (c .before .before .before .before .before .before .before .loop .j) (c .before .before .before .before .before .before .before .loop .at) (c .before .before .before .before .before .before .before .loop .answers) (c .before .before .before .before .before .before .before .loop .entered) (a .pre .0) (c .before .before .before .before .before .before .loop-test .taken) (c .before .before .before .before .before .before .before .loop .inv .1) (c .before .before .before .before .before .before .before .before .known .ensures .0) (c .before .before .before .before .before .before .before .before .known .ensures .1) (c .before .before .before .before .before .before .before .before .known .ensures .2) (c .before .before .before .before .lane-of .result) (c .before .before .before .before .lane-of .ensures) (c .before .choose .result) (rw (toZ-ofZ f) at (c .before .choose .ensures)))
+    let l = c .before .before .before .before .before .before .before in
+    let a = l .before .before .before .before .before in
+    let f : SFits w32 (getD (a .args .out .now) (l .loop .j) (pos 0)) = record { sfits = c .before .before .before .choose-arg .given } in (
+      omega arith,
+      settled-more (a .args .lanes .now) (a .args .exit) (a .args .out .now) (a .args .stops .now) (a .args .at .now) (a .args .answers .now) (a .args .entered .now) (a .args .s)
+          (l .loop .j) (l .loop .at) (l .loop .answers) (l .loop .entered) (a .pre .0) (c .before .before .before .before .before .before .loop-test .taken) (l .loop .inv .1)
+          (l .before .known .ensures .0) (l .before .known .ensures .1) (l .before .known .ensures .2) (c .before .before .before .before .lane-of .result) (c .before .before .before .before .lane-of .ensures) (c .before .choose .result) (rw (toZ-ofZ f) at (c .before .choose .ensures)),
+    )
 
 returns : tie.Need-returns Inv-loop μ-loop
 returns c = let a = c .before .before .before .before .before .before in settled-all (a .args .lanes .now) (a .args .exit) (a .args .out .now) (a .args .stops .now) (a .args .at .now) (a .args .answers .now) (a .args .entered .now) (a .args .s) (c .before .loop .j) (c .before .loop .at) (c .before .loop .answers) (c .before .loop .entered) (c .before .loop .inv .1) (c .before .loop .inv .0) (c .loop-test .left)

@@ -1,0 +1,52 @@
+-- `run_all` meets its contract: the checks, and then the walk of the lanes. Assumes nothing.
+use mathlib.Core.Path.{sym, _∙_}
+use Rattle.memory.specs.View.{memoryOf}
+use Rattle.checks.specs.Calls.{saveOf}
+use Rattle.shop.specs.Shapes.{sheetOf}
+use Rattle.runner.proofs.Checks.{call-ready}
+use Rattle.lanes_model.specs.Laws.Walks.{walk-passed-in}
+use Rattle.lanes.proofs.Saves.{call-safe, saves-lie, saves-long}
+use Rattle.lanes.proofs.Left.{left-refused, left-walked}
+use borrow.Author.Needs.{needs}
+use Rattle.lanes.proofs.run_all.Statement.{statement}
+use Rattle.lanes.proofs.run_all.Tie as tie
+
+check-all-requires : tie.Need-check-all-requires
+check-all-requires c κs = search needs
+
+same-length : tie.Need-same-length
+same-length c = search needs
+
+returns : tie.Need-returns
+returns c = let a = c .before .before .before .before .before .before in left-refused (sheetOf (a .args .attached .now) (a .args .sheet)) (memoryOf (a .args .ws .now) (a .args .val .now) (a .args .cw .now) (a .args .bw .now) (a .args .counts)) (a .args .start .0) (a .args .k) (saveOf (a .args .items .now) (a .args .atcs .now) (a .args .flags .now) (a .args .times .now) (a .args .vars .now)) (a .args .answers .now) (a .args .entered .now) (a .args .vars .now) _ (c .before .check-all .ensures) (c .if1 .taken)
+
+cast-m : tie.Need-cast-m
+cast-m c = search needs
+
+walk-all-requires : tie.Need-walk-all-requires
+walk-all-requires c κs =
+    let a = c .before .before .before .before .before .before .before .before .before .before in
+    let p = walk-passed-in (sheetOf (a .args .attached .now) (a .args .sheet)) (memoryOf (a .args .ws .now) (a .args .val .now) (a .args .cw .now) (a .args .bw .now) (a .args .counts)) (a .args .start .0) (a .args .k) (saveOf (a .args .items .now) (a .args .atcs .now) (a .args .flags .now) (a .args .times .now) (a .args .vars .now)) (sym (c .before .before .before .before .before .check-all .ensures) ∙ c .before .before .before .before .if1 .left) in
+    (call-ready (memoryOf (a .args .ws .now) (a .args .val .now) (a .args .cw .now) (a .args .bw .now) (a .args .counts)) (sheetOf (a .args .attached .now) (a .args .sheet)) (a .args .start .0) (p .call), saves-lie (a .args .attached .now) (a .args .sheet) (a .args .items .now) (a .args .atcs .now) (a .args .flags .now) (a .args .times .now) (a .args .vars .now) (a .args .k) (p .lengths) (p .few-saves), call-safe (sheetOf (a .args .attached .now) (a .args .sheet)) (memoryOf (a .args .ws .now) (a .args .val .now) (a .args .cw .now) (a .args .bw .now) (a .args .counts)) (a .args .start .0) (a .args .k) (saveOf (a .args .items .now) (a .args .atcs .now) (a .args .flags .now) (a .args .times .now) (a .args .vars .now)) (p .call) .1)
+
+same-length-2 : tie.Need-same-length-2
+same-length-2 c = search needs
+
+returns-2 : tie.Need-returns-2
+returns-2 c =
+    let a = c .before .before .before .before .before .before .before .before .before .before .before .before in
+    let e = sym (c .before .before .before .before .before .before .before .check-all .ensures) ∙ c .before .before .before .before .before .before .if1 .left in
+    left-walked (a .args .attached .now) (a .args .sheet) (memoryOf (a .args .ws .now) (a .args .val .now) (a .args .cw .now) (a .args .bw .now) (a .args .counts)) (a .args .start .0) (a .args .k) (saveOf (a .args .items .now) (a .args .atcs .now) (a .args .flags .now) (a .args .times .now) (a .args .vars .now)) (a .args .answers .now) (a .args .entered .now) (c .before .walk-all .result) _ _ _ e
+    (saves-long (a .args .attached .now) (a .args .sheet) (saveOf (a .args .items .now) (a .args .atcs .now) (a .args .flags .now) (a .args .times .now) (a .args .vars .now)) (a .args .k) (walk-passed-in (sheetOf (a .args .attached .now) (a .args .sheet)) (memoryOf (a .args .ws .now) (a .args .val .now) (a .args .cw .now) (a .args .bw .now) (a .args .counts)) (a .args .start .0) (a .args .k) (saveOf (a .args .items .now) (a .args .atcs .now) (a .args .flags .now) (a .args .times .now) (a .args .vars .now)) e .lengths)) (c .before .walk-all .ensures)
+
+pub run-all-spec : {M : Type 1} → statement M
+run-all-spec =
+    tie.close
+    (tie.spec
+    check-all-requires
+    same-length
+    returns
+    cast-m
+    walk-all-requires
+    same-length-2
+    returns-2)

@@ -1,0 +1,35 @@
+-- `visit_standing` meets its contract: the lanes that stand at the word step, and what a save had in its variables at first has no part in a step. Assumes nothing.
+use mathlib.Core.Path.{sym, _∙_}
+use Prim.Native.Nat.{_-_}
+use Rattle.model.specs.Memory.{scriptOf}
+use Rattle.memory.specs.View.{memoryOf}
+use Rattle.checks.specs.Calls.{saveOf}
+use Rattle.expr.specs.Value.{reads}
+use Rattle.runner.proofs.Rest.{step-rest}
+use Rattle.lanes_model.specs.Flat.{saveIn}
+use Rattle.lanes.specs.Standing.{gathered-rising, gathered-word}
+use Rattle.lanes.specs.Walks.{lying-stand, countable, stepped}
+use borrow.Author.Needs.{needs}
+use Rattle.lanes.proofs.visit_standing.Statement.{statement}
+use Rattle.lanes.proofs.visit_standing.Tie as tie
+
+gather-requires : tie.Need-gather-requires
+gather-requires c κs = search needs
+
+sub-visit-block : tie.Need-sub-visit-block
+sub-visit-block c = search needs
+
+visit-block-requires : tie.Need-visit-block-requires
+visit-block-requires c κs = (c .before .before .before .before .before .before .before .before .before .before .pre .0, lying-stand (c .before .before .before .before .before .before .before .before .before .before .pre .1) (c .before .before .before .before .before .gather .ensures), gathered-rising (c .before .before .before .before .before .gather .ensures) (c .before .before .before .before .before .before .before .before .before .before .pre .1 .few), countable (c .before .before .before .before .before .before .before .before .before .before .args .entered .now) (c .before .before .before .before .before .gather .ensures) (c .before .before .before .before .before .before .before .before .before .before .pre .3))
+
+same-length : tie.Need-same-length
+same-length c = search needs
+
+returns : tie.Need-returns
+returns c =
+    let a = c .before .before .before .before .before .before .before .before .before .before .before .before in
+    λ w. stepped (λ l v. step-rest (saveIn (a .args .n) (a .args .m) (saveOf (a .args .items .now) (a .args .atcs .now) (a .args .flags .now) (a .args .times .now) w) l) (scriptOf (memoryOf (a .args .ws .now) (a .args .val .now) (a .args .cw .now) (a .args .bw .now) (a .args .counts)) .blocks) (a .args .word - 1) v ∙ sym (step-rest (saveIn (a .args .n) (a .args .m) (reads (a .args .items .now) (a .args .atcs .now) (a .args .flags .now) (a .args .times .now)) l) (scriptOf (memoryOf (a .args .ws .now) (a .args .val .now) (a .args .cw .now) (a .args .bw .now) (a .args .counts)) .blocks) (a .args .word - 1) v)) (gathered-word (c .before .before .before .before .before .before .before .gather .ensures) (a .pre .2)) (c .before .visit-block .ensures)
+
+pub visit-standing-spec : {M : Type 1} → statement M
+visit-standing-spec =
+    tie.close (tie.spec gather-requires sub-visit-block visit-block-requires same-length returns)

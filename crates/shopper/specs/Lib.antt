@@ -1,0 +1,5 @@
+pub mod Answer
+pub mod Checks
+pub mod Compiled
+pub mod Takes
+pub mod Going
