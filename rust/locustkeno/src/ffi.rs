@@ -138,11 +138,13 @@ unsafe extern "C" {
 }
 
 pub use bill::*;
+pub use check::*;
 pub use rights::*;
 pub use settings::*;
 pub use shops::*;
 
 mod bill;
+mod check;
 mod rights;
 mod settings;
 
