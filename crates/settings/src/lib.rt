@@ -115,7 +115,7 @@ fn is_faithful(row: &Row, n: u8, one: bool, own: u64) -> bool
 // ---- subjects
 
 // About the acquired subject, at limit 1.
-pub fn is_own(one: bool, own: u64, c: u64) -> bool
+fn is_own(one: bool, own: u64, c: u64) -> bool
     ensures { λ r. ⌜ r ≡ ownCode one own c ⌝ }
 {
     if !one {

@@ -36,6 +36,7 @@ use Rattle.settings.specs.Answer.{settingsOf}
 use Rattle.settings.specs.declared.Settings.{Settings}
 use Rattle.signed_model.specs.Findings as Told
 use Rattle.signed_model.specs.Findings.{faithful, pair, own, outside, doubled, finding, firstPlace, isHave, limitFor, listedAs, lostFor, settingsFor, verdict, verdictFilled}
+use Rattle.signed_model.specs.Holds.{not-not}
 use Rattle.signed_model.specs.Rule.{leftOf, normal-left}
 use Rattle.signed_check.specs.Codes.{concernsCode, leftCode, pick, placeCode, shownCode, verdictCode}
 use Rattle.signed_check.specs.Answer.{findingOf, verdictOf}
@@ -65,10 +66,6 @@ keep-keep p q (r ∷ rs) = by (q r) (keep-keep p q rs)
     by : (b : Bool) → keep p (keep q rs) ≡ keep (λ x. q x && p x) rs → keep p (cond b (r ∷ keep q rs) (keep q rs)) ≡ cond (b && p r) (r ∷ keep (λ x. q x && p x) rs) (keep (λ x. q x && p x) rs)
     by true e = rw e
     by false e = e
-
-not-not : (b : Bool) → not (not b) ≡ b
-not-not true = refl
-not-not false = refl
 
 have-is : (r : Requirement) → not (isMissing r) ≡ isHave r
 have-is (haveItem i) = refl

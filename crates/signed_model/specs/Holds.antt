@@ -15,16 +15,11 @@ use Rattle.model.specs.Laws.Sets.{member-insert, same-refl}
 use Rattle.faithful_model.specs.Lists.{all-member, all-of}
 use Rattle.signed_model.specs.Saves.{table}
 
-not-not : (b : Bool) → not (not b) ≡ b
+pub not-not : (b : Bool) → not (not b) ≡ b
 not-not true = refl
 not-not false = refl
 
-pub sorted-member : (q : Requirement) (xs : List Requirement) → member q (sorted xs) ≡ member q xs
-unfolding sorted member
-sorted-member q [] = refl
-sorted-member q (x ∷ xs) = member-insert q x (sorted xs) ∙ ap (λ b. sameReq q x || b) (sorted-member q xs)
-
--- and if not of all, then there is one of which it does not hold
+-- if not of all, then there is one of which it does not hold
 pub record Without (p : Requirement → Bool) (xs : List Requirement) : Type 0 where
   pub which : Requirement
   pub inside : member which xs ≡ true

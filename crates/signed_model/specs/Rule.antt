@@ -20,41 +20,9 @@ use Rattle.model.specs.Laws.Sets.{member-keep, same-refl}
 use Rattle.faithful_model.specs.Faithful.{isFaithful, noPair}
 use Rattle.signed_model.specs.Saves.{Faithful}
 use Rattle.faithful_model.specs.Lists.{all-member}
-use Rattle.signed_model.specs.Holds.{sorted-member, holds-neg, hold-member, hold-of}
+use Rattle.moves_model.specs.Settles.{limit-again, limit-one, sorted-member}
+use Rattle.signed_model.specs.Holds.{holds-neg, hold-member, hold-of}
 use Rattle.model.specs.Laws.Normal.{both-ways}
-
--- ---- limits
-
-between-again : (z : ℤ) → between (pos (between z)) ≡ between z
-between-again (negsuc n) = refl
-between-again (pos n) = by (ltb n 1) (ltb 10 n) refl refl
-  where
-    by : (a b : Bool) → ltb n 1 ≡ a → ltb 10 n ≡ b → between (pos (cond a 1 (cond b 10 n))) ≡ cond a 1 (cond b 10 n)
-    by true b p q = refl
-    by false true p q = refl
-    by false false p q = rw (p, q)
-
-pub limit-again : (h : Sheet) (w : ℕ) (z : ℤ) → limitOf h w (pos (limitOf h w z)) ≡ limitOf h w z
-unfolding limitOf
-limit-again h w z = by (atcFor h w) (timerOf h w)
-  where
-    by : (o : Option ℕ) (t : Timer) → atcLimit o t (pos (atcLimit o t z)) ≡ atcLimit o t z
-    by (some a) t = refl
-    by none plain = between-again z
-    by none five = refl
-    by none ten = refl
-    by none fifteen = refl
-
-pub limit-one : (h : Sheet) (w : ℕ) → limitOf h w (pos 1) ≡ 1
-unfolding limitOf
-limit-one h w = by (atcFor h w) (timerOf h w)
-  where
-    by : (o : Option ℕ) (t : Timer) → atcLimit o t (pos 1) ≡ 1
-    by (some a) t = refl
-    by none plain = refl
-    by none five = refl
-    by none ten = refl
-    by none fifteen = refl
 
 -- ---- what the normal form requires
 

@@ -124,9 +124,7 @@ fn refusals() {
 /// With just the stack that the header promises to be enough: too little ends the whole test program.
 #[test]
 fn stack() {
-    let flags: Vec<Requirement> = (0..7)
-        .flat_map(|n| [HaveFlag(n), MissingFlag(n)])
-        .collect();
+    let flags: Vec<Requirement> = (0..7).flat_map(|n| [HaveFlag(n), MissingFlag(n)]).collect();
     let (sheet, shop) = (sheet(), Shop::with_slots(vec![slot(0, 1, &flags); 20]));
     thread::scope(|scope| {
         let builder = thread::Builder::new().stack_size(64 << 10);
