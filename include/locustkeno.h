@@ -252,6 +252,44 @@ lk_shopped lk_shopper(const uint8_t *attached, size_t attached_len, uint16_t atc
                       size_t prices_len, uint16_t discount, uint32_t money, const uint8_t *wishes, size_t wishes_len,
                       uint8_t answers[LK_WISHES], uint32_t coins[LK_WISHES]);
 
+/* The check of a shop before it is signed. */
+
+/* The verdict on a slot. */
+#define LK_FAITHFUL 0
+#define LK_PAIR 1
+#define LK_OWN 2
+#define LK_OUTSIDE 3
+
+/* How often a slot is listed. */
+#define LK_SOMETIMES 0
+#define LK_NEVER 1
+#define LK_ALWAYS 2
+
+/* What is told of a slot. verdict: LK_FAITHFUL, what is printed (the slot read back, in normal form) means under every save that
+ * fits the sheet what runs; LK_PAIR, a requirement stands beside its negation; LK_OWN, at limit 1 the Have of what the slot
+ * sells, its attachment or else the item, is required; LK_OUTSIDE, asked first, a flag is in no save, and every run stops there
+ * (23). entry: the place of the first entry concerned. limit: the one that will be used, 0 without an item. doubled: how many
+ * entries were given before. lost: how many requirements a slot without an item loses. listed: by the settings of lk_settings.
+ * With LK_PAIR and LK_OWN, a save that has what the first settings codes name, and is 0 everywhere else, lists the item by what is
+ * printed and hides it by what runs; all other codes are 0. */
+typedef struct {
+    uint8_t verdict, entry, limit, doubled, lost, listed, settings;
+    uint64_t codes[LK_ENTRIES];
+} lk_finding;
+
+/* The refusal or 0, and what is told of each slot. */
+typedef struct {
+    uint8_t refusal;
+    lk_finding slots[LK_SLOTS];
+} lk_checked;
+
+/* Where every slot is LK_FAITHFUL, what is printed is what runs: after lk_compile of that shop, lk_preview of what lk_parse reads
+ * there answers what lk_run leaves. Refused (1, 8), every number is 0. 64 kilobytes of stack are enough
+ * (rust/locustkeno/tests/checks.rs). */
+lk_checked lk_check(const uint8_t *attached, size_t attached_len, uint16_t atcs, uint16_t timer5, uint16_t timer10,
+                    uint16_t timer15, const int32_t items[LK_SLOTS], const int16_t limits[LK_SLOTS],
+                    const uint64_t codes[LK_SLOTS * LK_ENTRIES], const uint8_t lens[LK_SLOTS]);
+
 #ifdef __cplusplus
 }
 #endif

@@ -2,6 +2,7 @@
 //! document 01's meaning of a shop, on the same inputs.
 
 pub mod bill;
+pub mod checks;
 pub mod convert;
 pub mod images;
 pub mod interpret;
@@ -54,6 +55,7 @@ pub fn all(seed: u64, count: usize, longest: usize, small: bool) -> Tally {
     moves::random(&mut tally, &mut random, count);
     lanes::random(&mut tally, &mut random, count);
     shopper::random(&mut tally, &mut random, count);
+    checks::random(&mut tally, &mut random, count);
     tally
 }
 
@@ -61,6 +63,13 @@ pub fn all(seed: u64, count: usize, longest: usize, small: bool) -> Tally {
 pub fn settings(seed: u64, count: usize) -> Tally {
     let mut tally = Tally::default();
     settings::random(&mut tally, &mut Random::new(seed), count);
+    tally
+}
+
+/// Checks of shops alone.
+pub fn checks(seed: u64, count: usize) -> Tally {
+    let mut tally = Tally::default();
+    checks::random(&mut tally, &mut Random::new(seed), count);
     tally
 }
 

@@ -138,12 +138,14 @@ unsafe extern "C" {
 }
 
 pub use bill::*;
+pub use check::*;
 pub use rights::*;
 pub use settings::*;
 pub use shopper::*;
 pub use shops::*;
 
 mod bill;
+mod check;
 mod rights;
 mod settings;
 mod shopper;

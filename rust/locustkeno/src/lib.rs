@@ -16,6 +16,7 @@
 
 mod arrays;
 mod bill;
+mod check;
 mod ffi;
 mod lanes;
 mod moves;
@@ -34,6 +35,7 @@ mod view;
 
 pub use arrays::{Arrays, Births, BlockWords, CommandWords, NodeWords, Values};
 pub use bill::{Basket, Bill, Line, Tariff};
+pub use check::{Finding, Found};
 pub use lanes::{LANES, Saves, Walk};
 pub use reclaim::Moved;
 pub use refused::Refused;

@@ -27,7 +27,7 @@ pub enum Requirement {
 
 impl Requirement {
     /// The flag that it asks about.
-    fn flag(self) -> Option<i32> {
+    pub(crate) fn flag(self) -> Option<i32> {
         match self {
             Self::HaveFlag(flag) | Self::MissingFlag(flag) => Some(flag),
             _ => None,
@@ -133,7 +133,7 @@ impl fmt::Debug for Shop {
 }
 
 use crossing::Given;
-pub(crate) use crossing::{Codes, Row, ShopArrays, item_number, row};
+pub(crate) use crossing::{Codes, Row, ShopArrays, item_number, requirement, row};
 
 /// Slots as the library takes them, there and back.
 mod crossing {
@@ -189,7 +189,8 @@ mod crossing {
         (row, u8::try_from(requirements.len()).unwrap_or(u8::MAX))
     }
 
-    fn requirement(code: u64) -> Requirement {
+    /// The requirement that a code stands for.
+    pub fn requirement(code: u64) -> Requirement {
         let number = ((code & 0xFFFF_FFFF) as i64 - (1 << 31)) as i32;
         let id = number as u16;
         match code >> 32 {
