@@ -222,6 +222,36 @@ typedef struct {
 lk_settings_of lk_settings(const uint8_t *attached, size_t attached_len, uint16_t atcs, uint16_t timer5, uint16_t timer10,
                            uint16_t timer15, int32_t item, int16_t limit, const uint64_t codes[LK_ENTRIES], uint8_t len);
 
+/* The shopper (document 02, A.13). */
+
+#define LK_WISHES 1000
+
+/* What a step answers; any other answer is the refusal that stopped its run, 23. */
+#define LK_BOUGHT 0
+#define LK_SOLD_OUT 1
+#define LK_TOO_DEAR 2
+
+/* The refusal or 0, how many steps were made, and the money left. */
+typedef struct {
+    uint8_t refusal;
+    uint16_t steps;
+    uint32_t money;
+} lk_shopped;
+
+/* A step for each wished slot, in the shop of the four arrays, which is compiled into a script of one block: the step runs it with
+ * a budget of 82 and takes one piece of the wished slot if its count is above 0 and one piece's line, as in lk_bill, fits the
+ * money. The item's count rises by 1, or its atc becomes 1 where it has one. A step whose run is stopped by 23 is the last. Each
+ * step's answer and the coins paid are told from the first place on; places past the last step stay as they were. Refused (1, 8,
+ * 12, 24, 26, 27, 28 in this order, before the first step), nothing is written. 26: over LK_WISHES wishes. 27: a wished slot past
+ * the last. 28: money above 1,000,000. 768 kilobytes of stack were enough. */
+lk_shopped lk_shopper(const uint8_t *attached, size_t attached_len, uint16_t atcs, uint16_t timer5, uint16_t timer10,
+                      uint16_t timer15, const int32_t wares[LK_SLOTS], const int16_t limits[LK_SLOTS],
+                      const uint64_t codes[LK_SLOTS * LK_ENTRIES], const uint8_t lens[LK_SLOTS], int16_t *items,
+                      size_t items_len, uint8_t *held, size_t held_len, const uint8_t *flags, size_t flags_len,
+                      const int16_t *times, size_t times_len, int32_t *vars, size_t vars_len, const uint16_t *prices,
+                      size_t prices_len, uint16_t discount, uint32_t money, const uint8_t *wishes, size_t wishes_len,
+                      uint8_t answers[LK_WISHES], uint32_t coins[LK_WISHES]);
+
 /* The check of a shop before it is signed. */
 
 /* The verdict on a slot. */

@@ -1,6 +1,6 @@
 //! Times the proved library beside the Rust sides, on the same inputs: microseconds a call, the
 //! best and the median of 31 rounds. With the word `worst` only the slowest inputs that were found, with `lanes` only walks for
-//! many saves.
+//! many saves, with `shopper` only shoppers.
 
 mod by_hand;
 mod cases;
@@ -9,6 +9,7 @@ mod lanes;
 mod place;
 mod program;
 mod reclaim;
+mod shopper;
 mod shops;
 mod worst;
 
@@ -32,6 +33,9 @@ fn main() {
     if word.as_deref() == Some("lanes") {
         cases::all().iter().for_each(lanes::case);
         return;
+    }
+    if word.as_deref() == Some("shopper") {
+        return shopper::all();
     }
     if word.is_none_or(|word| word != "worst") {
         ordinary();
@@ -64,6 +68,8 @@ fn ordinary() {
     reclaim::after();
     println!("-- a loop of two blocks, entered 100,000 times in all");
     long_run();
+    println!("-- a thousand steps in one call");
+    shopper::all();
 }
 
 fn read(case: &Case) {

@@ -18,6 +18,7 @@ pub mod runs;
 pub mod saves;
 pub mod settings;
 pub mod shared;
+pub mod shopper;
 pub mod shops;
 pub mod small;
 pub mod survivors;
@@ -53,6 +54,7 @@ pub fn all(seed: u64, count: usize, longest: usize, small: bool) -> Tally {
     settings::random(&mut tally, &mut random, count);
     moves::random(&mut tally, &mut random, count);
     lanes::random(&mut tally, &mut random, count);
+    shopper::random(&mut tally, &mut random, count);
     checks::random(&mut tally, &mut random, count);
     tally
 }
@@ -105,6 +107,13 @@ pub fn edits(seed: u64, count: usize) -> Tally {
 pub fn bills(seed: u64, count: usize) -> Tally {
     let mut tally = Tally::default();
     billed(&mut tally, &mut Random::new(seed), count);
+    tally
+}
+
+/// Shoppers alone.
+pub fn shoppers(seed: u64, count: usize) -> Tally {
+    let mut tally = Tally::default();
+    shopper::random(&mut tally, &mut Random::new(seed), count);
     tally
 }
 

@@ -8,9 +8,10 @@
 //! - `shops`: COUNT lists of compiles and ten times as many parses
 //! - `edits`: COUNT lists of edits by users with rights
 //! - `settings`: COUNT slots with all their settings
-//! - `checks`: COUNT shops of three slots with what is told of them before they are signed
+//! - `checks`: COUNT cases
 //! - `walks`: COUNT walks of many saves
 //! - `reclaims`: COUNT reclaims of each kind and COUNT lists that mix them with compiles
+//! - `shoppers`: COUNT shoppers
 //! - `bills`: COUNT bills of saves that were not run and COUNT after runs of compiled shops
 //! - `moves`: COUNT shops under two saves, and compiled again
 
@@ -20,7 +21,7 @@ use oracle::calls;
 use std::process::ExitCode;
 use std::{env, error::Error};
 
-const USAGE: &str = "usage: compare SEED COUNT [LONGEST [small]], or compare SEED COUNT KIND, KIND being shops, edits, settings, checks, walks, reclaims, bills or moves";
+const USAGE: &str = "usage: compare SEED COUNT [LONGEST [small]], or compare SEED COUNT KIND, KIND being shops, edits, settings, checks, walks, reclaims, shoppers, bills or moves";
 
 fn main() -> Result<ExitCode, Box<dyn Error>> {
     let arguments: Vec<String> = env::args().skip(1).collect();
@@ -43,6 +44,7 @@ fn main() -> Result<ExitCode, Box<dyn Error>> {
         ["checks"] => return said(seed, || compare::checks(seed, count)),
         ["walks"] => return said(seed, || compare::walks(seed, count)),
         ["reclaims"] => return said(seed, || compare::reclaims(seed, count)),
+        ["shoppers"] => return said(seed, || compare::shoppers(seed, count)),
         ["bills"] => return said(seed, || compare::bills(seed, count)),
         ["moves"] => return said(seed, || compare::moves(seed, count)),
         [longest] => (longest.parse()?, false),

@@ -141,12 +141,14 @@ pub use bill::*;
 pub use check::*;
 pub use rights::*;
 pub use settings::*;
+pub use shopper::*;
 pub use shops::*;
 
 mod bill;
 mod check;
 mod rights;
 mod settings;
+mod shopper;
 
 mod shops {
     use super::Kept;

@@ -29,6 +29,7 @@ mod script;
 mod settings;
 mod sheet;
 mod shop;
+mod shopper;
 mod text;
 mod view;
 
@@ -46,5 +47,6 @@ pub use script::{Loader, Ran, Script};
 pub use settings::Settings;
 pub use sheet::{Atc, Item, Sheet};
 pub use shop::{ENTRIES, NUM_SLOTS, Requirement, Shop, Slot};
+pub use shopper::{Shopper, Step, WISHES};
 pub use text::BadText;
 pub use view::{Block, Command, Expr, Op1, Op2};

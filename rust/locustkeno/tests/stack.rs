@@ -2,7 +2,7 @@
 
 use locustkeno::{
     Basket, Content, Edit, Item, Loader, Refused, Requirement, Rights, Save, Script, Sheet, Shop,
-    Slot, Tariff, USERS,
+    Shopper, Slot, Tariff, USERS,
 };
 use std::thread;
 
@@ -17,6 +17,7 @@ const COMPILE: usize = 160 * KILOBYTE;
 const PARSE: usize = 512 * KILOBYTE;
 const RUN_ALL: usize = 512 * KILOBYTE;
 const RECLAIM: usize = 768 * KILOBYTE;
+const SHOPPER: usize = 768 * KILOBYTE;
 
 fn sheet() -> Sheet {
     Sheet::new(&[None; 3], 0, [Item(0), Item(1), Item(2)])
@@ -242,4 +243,22 @@ fn bill() {
     let save = Save::new(&sheet());
     let (tariff, basket) = (Tariff::new([30_000; 3], 0), Basket::counts(&save));
     on_stack(BILL, || done(save.bill(&sheet(), &tariff, &basket)));
+}
+
+#[test]
+fn shopper() {
+    let slot = Slot {
+        item: Some(Item(0)),
+        limit: 1,
+        requirements: vec![Requirement::MissingItem(Item(1)); 14],
+    };
+    let shop = Shop::with_slots(vec![slot; 20]);
+    let tariff = Tariff::new([1; 3], 0);
+    let mut shopper = Shopper {
+        save: Save::new(&sheet()),
+        money: 1_000_000,
+    };
+    on_stack(SHOPPER, || {
+        done(shopper.shop(&sheet(), &shop, &tariff, &[19; 1_000]))
+    });
 }
