@@ -155,33 +155,35 @@ impl fmt::Display for Finding {
     }
 }
 
-/// The findings of one slot, the verdict first.
-fn findings(told: &ffi::Told, slot: &Slot) -> Vec<Found> {
+/// What the verdict says of the slot, if it is not faithful.
+fn reason(told: &ffi::Told, slot: &Slot) -> Option<Found> {
     let entry = usize::from(told.entry);
     let settings = || {
         let codes = &told.codes[..told.settings.into()];
         codes.iter().map(|code| requirement(*code)).collect()
     };
-    let mut found = Vec::new();
     match told.verdict {
-        1 => found.push(Found::Contradiction {
+        1 => Some(Found::Contradiction {
             entry,
             requirement: slot.requirements[entry],
             acquired: told.limit == 1,
             settings: settings(),
         }),
-        2 => found.push(Found::RequiresItself {
+        2 => Some(Found::RequiresItself {
             entry,
             requirement: slot.requirements[entry],
             settings: settings(),
         }),
-        3 => found.extend(
-            slot.requirements[entry]
-                .flag()
-                .map(|flag| Found::FlagOutside { entry, flag }),
-        ),
-        _ => {}
+        3 => slot.requirements[entry]
+            .flag()
+            .map(|flag| Found::FlagOutside { entry, flag }),
+        _ => None,
     }
+}
+
+/// The findings of one slot, the verdict first.
+fn findings(told: &ffi::Told, slot: &Slot) -> Vec<Found> {
+    let mut found: Vec<Found> = reason(told, slot).into_iter().collect();
     if told.lost > 0 {
         found.push(Found::Lost(told.lost.into()));
     }
