@@ -5,10 +5,10 @@
  * No call keeps a pointer, allocates, or has any state of its own: threads may call at the same time on different memory.
  * On the largest and nastiest scripts 32 kilobytes of stack were enough for lk_read, lk_preview, lk_edit and lk_show, 160 for
  * lk_write, lk_run and lk_compile, 512 for lk_parse, 768 for lk_reclaim (rust/locustkeno/tests/stack.rs).
- * On the largest and nastiest scripts 32 kilobytes of stack were enough for lk_read and lk_preview, 160 for lk_write, lk_run
- * and lk_compile, 512 for lk_parse and lk_run_all, 768 for lk_reclaim (rust/locustkeno/tests/stack.rs).
  * On the largest and nastiest scripts 32 kilobytes of stack were enough for lk_read, lk_preview and lk_bill, 160 for lk_write,
  * lk_run and lk_compile, 512 for lk_parse, 768 for lk_reclaim (rust/locustkeno/tests/stack.rs).
+ * On the largest and nastiest scripts 32 kilobytes of stack were enough for lk_read and lk_preview, 160 for lk_write, lk_run
+ * and lk_compile, 512 for lk_parse and lk_run_all, 768 for lk_reclaim (rust/locustkeno/tests/stack.rs).
  *
  * A script is four arrays and three kept counts:
  *   ws   nodes: code, left operand, right operand at 3n, 3n + 1, 3n + 2
@@ -187,20 +187,6 @@ uint8_t lk_edit(const uint8_t *attached, size_t attached_len, uint16_t atcs, uin
 uint8_t lk_show(const uint8_t rights[LK_USERS * LK_SLOTS], int32_t items[LK_SLOTS], int16_t limits[LK_SLOTS],
                 uint64_t codes[LK_SLOTS * LK_ENTRIES], uint8_t lens[LK_SLOTS], uint32_t user);
 
-/* The refusal or 0, the subjects of a slot, and in how many combinations of their answers it is listed and hidden. */
-typedef struct {
-    uint8_t refusal, subjects;
-    uint32_t listed, hidden;
-} lk_settings_of;
-
-/* How many settings list a slot, which is given by its item (as in the arrays of a shop), limit, codes and how many of them
- * are given. Each subject of its requirements (an item held, an atc held, a flag) is a yes or no, at coerced limit 1 also
- * the acquired one, and for a timer whether time[2] is its rate; the slot is listed where its item variable gets the item.
- * listed + hidden is 2 to the subjects, which are at most 16. No item: no subjects, 0 and 1. Refused (1, 8), every number
- * is 0. 32 kilobytes of stack are enough (rust/locustkeno/tests/settings.rs). */
-lk_settings_of lk_settings(const uint8_t *attached, size_t attached_len, uint16_t atcs, uint16_t timer5, uint16_t timer10,
-                           uint16_t timer15, int32_t item, int16_t limit, const uint64_t codes[LK_ENTRIES], uint8_t len);
-
 /* The bill (document 02, A.11 and A.12). */
 
 /* The refusal or 0, and the total in coins, 0 where the bill is refused. */
@@ -221,6 +207,20 @@ lk_billed lk_bill(const uint8_t *attached, size_t attached_len, uint16_t atcs, u
                   size_t vars_len, const uint16_t *prices, size_t prices_len, uint16_t discount,
                   const int32_t basket[LK_SLOTS], int32_t to_items[LK_SLOTS], uint8_t to_slots[LK_SLOTS],
                   uint64_t to_coins[LK_SLOTS]);
+
+/* The refusal or 0, the subjects of a slot, and in how many combinations of their answers it is listed and hidden. */
+typedef struct {
+    uint8_t refusal, subjects;
+    uint32_t listed, hidden;
+} lk_settings_of;
+
+/* How many settings list a slot, which is given by its item (as in the arrays of a shop), limit, codes and how many of them
+ * are given. Each subject of its requirements (an item held, an atc held, a flag) is a yes or no, at coerced limit 1 also
+ * the acquired one, and for a timer whether time[2] is its rate; the slot is listed where its item variable gets the item.
+ * listed + hidden is 2 to the subjects, which are at most 16. No item: no subjects, 0 and 1. Refused (1, 8), every number
+ * is 0. 32 kilobytes of stack are enough (rust/locustkeno/tests/settings.rs). */
+lk_settings_of lk_settings(const uint8_t *attached, size_t attached_len, uint16_t atcs, uint16_t timer5, uint16_t timer10,
+                           uint16_t timer15, int32_t item, int16_t limit, const uint64_t codes[LK_ENTRIES], uint8_t len);
 
 /* The shopper (document 02, A.13). */
 
@@ -251,6 +251,44 @@ lk_shopped lk_shopper(const uint8_t *attached, size_t attached_len, uint16_t atc
                       const int16_t *times, size_t times_len, int32_t *vars, size_t vars_len, const uint16_t *prices,
                       size_t prices_len, uint16_t discount, uint32_t money, const uint8_t *wishes, size_t wishes_len,
                       uint8_t answers[LK_WISHES], uint32_t coins[LK_WISHES]);
+
+/* The check of a shop before it is signed. */
+
+/* The verdict on a slot. */
+#define LK_FAITHFUL 0
+#define LK_PAIR 1
+#define LK_OWN 2
+#define LK_OUTSIDE 3
+
+/* How often a slot is listed. */
+#define LK_SOMETIMES 0
+#define LK_NEVER 1
+#define LK_ALWAYS 2
+
+/* What is told of a slot. verdict: LK_FAITHFUL, what is printed (the slot read back, in normal form) means under every save that
+ * fits the sheet what runs; LK_PAIR, a requirement stands beside its negation; LK_OWN, at limit 1 the Have of what the slot
+ * sells, its attachment or else the item, is required; LK_OUTSIDE, asked first, a flag is in no save, and every run stops there
+ * (23). entry: the place of the first entry concerned. limit: the one that will be used, 0 without an item. doubled: how many
+ * entries were given before. lost: how many requirements a slot without an item loses. listed: by the settings of lk_settings.
+ * With LK_PAIR and LK_OWN, a save that has what the first settings codes name, and is 0 everywhere else, lists the item by what is
+ * printed and hides it by what runs; all other codes are 0. */
+typedef struct {
+    uint8_t verdict, entry, limit, doubled, lost, listed, settings;
+    uint64_t codes[LK_ENTRIES];
+} lk_finding;
+
+/* The refusal or 0, and what is told of each slot. */
+typedef struct {
+    uint8_t refusal;
+    lk_finding slots[LK_SLOTS];
+} lk_checked;
+
+/* Where every slot is LK_FAITHFUL, what is printed is what runs: after lk_compile of that shop, lk_preview of what lk_parse reads
+ * there answers what lk_run leaves. Refused (1, 8), every number is 0. 64 kilobytes of stack are enough
+ * (rust/locustkeno/tests/checks.rs). */
+lk_checked lk_check(const uint8_t *attached, size_t attached_len, uint16_t atcs, uint16_t timer5, uint16_t timer10,
+                    uint16_t timer15, const int32_t items[LK_SLOTS], const int16_t limits[LK_SLOTS],
+                    const uint64_t codes[LK_SLOTS * LK_ENTRIES], const uint8_t lens[LK_SLOTS]);
 
 #ifdef __cplusplus
 }

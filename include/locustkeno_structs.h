@@ -266,6 +266,12 @@ static inline uint8_t lk_shop_show(const lk_rights *rights, lk_shop *shop, uint3
     return lk_show(rights->bytes, shop->items, shop->limits, shop->codes, shop->lens, user);
 }
 
+/* What to know of the shop before it is signed. */
+static inline lk_checked lk_shop_check(const lk_sheet *sheet, const lk_shop *shop) {
+    return lk_check(sheet->attached, sheet->items, sheet->atcs, sheet->timer5, sheet->timer10, sheet->timer15, shop->items,
+                    shop->limits, shop->codes, shop->lens);
+}
+
 /* The bill of a basket by its lines, and their sum. */
 typedef struct {
     int32_t items[LK_SLOTS];

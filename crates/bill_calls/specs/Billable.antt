@@ -26,7 +26,7 @@ use Rattle.reclaim_record.specs.Demand.{Given}
 use Rattle.reclaim_record.specs.Stands.{LongBorn}
 use Rattle.capi.specs.declared.Ran.{Ran}
 use Rattle.capi.specs.Answers.{loaderBy, ranAs}
-use Rattle.library.specs.Delivered.{Asked, AsPromised, Made, compile, delivered, givenBy, made, reclaim, shopOf}
+use Rattle.library.specs.Delivered.{Asked, AsPromised, Made, compile, means-of, givenBy, made, reclaim, shopOf}
 use Rattle.bill_model.specs.Tariff.{Tariff, tariffRefusal}
 use Rattle.bill_model.specs.Bill.{leaves}
 use Rattle.bill_model.specs.Sorting.{billByItem}
@@ -85,7 +85,7 @@ module _ (h : Sheet) (k : Born) (xs : List Made) (long : LongBorn k) (promised :
       → ranAs r v ≡ runIn h (afterAll made k xs .memory) b′ s budget → r .refusal ≡ 0 → Billable h s v
   billable b b′ ys n e s f budget r v p z =
       let g = given b b′ ys n e in
-      let m = delivered h k xs long promised .runs b b′ ys n e s f budget r v p .means z in
+      let m = means-of h k xs long promised b b′ ys n e s f budget r v p z in
       let l : LeftBy h s v = left-by h (g .sheet) ys (g .twenty) (g .ok) s f v m in
       record {
         counts = λ t n total is is′ ss ss′ cs cs′ q. q .answer ∙ by-item-answer h (leaves s v) t (countsFrom v 0 slotCount) ∙ l .counts t;

@@ -12,16 +12,20 @@ use lib.IntN.{ℤ}
 use Rattle.model.specs.Limits.{variableCount, mostSaves, laneBudget}
 use Rattle.model.specs.Save.{Save}
 use Rattle.model.specs.Sheet.{Sheet, itemCount}
-use Rattle.model.specs.Run.{Ran}
+use Rattle.model.specs.Run.{Ran, run}
 use Rattle.model.specs.Memory.{Memory, scriptOf}
 use Rattle.model.specs.RecordCalls.{callIn, runIn}
+use Rattle.expr.specs.Value.{reads}
+use Rattle.runner.proofs.Rest.{run-rest}
 use Rattle.shop.specs.Shapes.{sheetOf}
 use Rattle.shop.specs.declared.Sheet as code
 use Rattle.lanes_model.specs.Walk.{Walked, unlessRefused, blocksEntered}
 use Rattle.lanes_model.specs.Flat.{part, savesFrom, savesIn, Left, joined, leftBy, walkIn, walkRefusalIn}
-use Rattle.lanes_model.specs.Laws.Walks.{byLanes, walk-in}
+use Rattle.lanes_model.specs.Laws.Walks.{byLanes, PassedIn, walk-passed-in, walk-in}
+use Rattle.lanes.specs.Alone.{Alone, one-walked}
 use Rattle.lanes.specs.Calls.{leftOf}
 use Rattle.lanes.specs.Walks.{ransFrom, LanesWalked}
+use Rattle.lanes.proofs.Saves.{save-whole}
 
 -- ---- the first k elements of another list
 
@@ -117,3 +121,34 @@ left-walked ks s m b k f qs es r qs′ es′ vs′ e l w =
       counts = (sets-first es es′ k (w .long-counts) (w .rest-counts) ∙ ap (sets es 0) (counts-first qs′ es′ vs′ 0 k)) i;
       variables = variables i;
     }
+
+left-alone : (ks : List ℕ) (s : code.Sheet) (m : Memory) (b : ℕ) (f : Save) (qs es : List ℕ) (r : ℕ) (qs′ es′ : List ℕ) (vs′ : List ℤ) → walkRefusalIn (sheetOf ks s) m b 1 f ≡ 0
+    → Alone (run (scriptOf m .blocks) (reads (f .items) (f .atcs) (f .flags) (f .times)) laneBudget b (f .variables)) qs es (f .variables) r qs′ es′ vs′
+    → leftOf (record { refusal = 0; read = r }) qs′ es′ vs′ ≡ leftBy (walkIn (sheetOf ks s) m b 1 f) qs es (f .variables)
+left-alone ks s m b f qs es r qs′ es′ vs′ e w =
+    whole
+    ∙ ap (λ z. leftBy z qs es (f .variables)) (sym (walk-in (sheetOf ks s) m b 1 f e ∙ ap (byLanes (scriptOf m .blocks) b) (sym (saves-of ks s 1 f) ∙ ap (λ x. x ∷ []) (save-whole ks s f (p .lengths))) ∙ one-walked (scriptOf m) b (p .judged) (p .here) (p .falling) f))
+  where
+    p : PassedIn (sheetOf ks s) m b 1 f
+    p = walk-passed-in (sheetOf ks s) m b 1 f e
+
+    same : run (scriptOf m .blocks) (reads (f .items) (f .atcs) (f .flags) (f .times)) laneBudget b (f .variables) ≡ run (scriptOf m .blocks) f laneBudget b (f .variables)
+    same = sym (run-rest f (scriptOf m .blocks) laneBudget b (f .variables))
+
+    left : vs′ ≡ run (scriptOf m .blocks) f laneBudget b (f .variables) .variables
+    left = w .variables ∙ ap (λ (x : Ran). x .variables) same
+
+    whole : leftOf (record { refusal = 0; read = r }) qs′ es′ vs′
+        ≡ leftBy (record { answer = 0; runs = run (scriptOf m .blocks) f laneBudget b (f .variables) ∷ []; read = run (scriptOf m .blocks) f laneBudget b (f .variables) .entered }) qs es (f .variables)
+    whole = λ i. record {
+      answer = 0;
+      read = (w .read ∙ ap (λ (x : Ran). x .entered) same) i;
+      refusals = (w .answers ∙ ap (λ (x : Ran). set qs 0 (x .answer)) same) i;
+      counts = (w .counts ∙ ap (λ (x : Ran). set es 0 (x .entered)) same) i;
+      variables = (sets-whole (f .variables) vs′ (w .long) ∙ ap (sets (f .variables) 0) (left ∙ sym (append-nil _))) i;
+    }
+
+pub left-one : (ks : List ℕ) (s : code.Sheet) (m : Memory) (b k : ℕ) (f : Save) (qs es : List ℕ) (r : ℕ) (qs′ es′ : List ℕ) (vs′ : List ℤ) → k ≡ 1 → walkRefusalIn (sheetOf ks s) m b k f ≡ 0
+    → Alone (run (scriptOf m .blocks) (reads (f .items) (f .atcs) (f .flags) (f .times)) laneBudget b (f .variables)) qs es (f .variables) r qs′ es′ vs′
+    → leftOf (record { refusal = 0; read = r }) qs′ es′ vs′ ≡ leftBy (walkIn (sheetOf ks s) m b k f) qs es (f .variables)
+left-one ks s m b k f qs es r qs′ es′ vs′ q e w = rw q (left-alone ks s m b f qs es r qs′ es′ vs′ (rw q at e) w)

@@ -7,7 +7,7 @@ use native.Mathlib.Nat.{add-zero, zero-mul, suc-mul, add-mul, mul-le-mul-right}
 use native.Mathlib.Omega.{arith}
 use lib.Dec.{eqb, leb}
 use lib.ListN.{length, take, drop, length-drop, length-map, take-append-drop, drop-of-length-le}
-use lib.Seq.{drop-drop, length-take-le}
+use lib.Seq.{drop-drop, length-take-le, take-all}
 use lib.IntN.{ℤ}
 use mir.Syntax.{w16, w32}
 use borrow.Author.Tests.{eqb-true, eq-eqb, le-leb, lt-leb}
@@ -192,6 +192,23 @@ product-low k n h g = let q : k ≤ 4294967295 = omega arith in let a = mul-le-m
 pub saves-long : (ks : List ℕ) (h : code.Sheet) (f : Save) (k : ℕ) → lengthsOk (sheetOf ks h) k f ≡ true → length (f .variables) ≡ k * variableCount
 unfolding sheetOf
 saves-long ks h f k e = let w : lengthsAre k (length ks) (h .atcs) f ≡ true = rw length-map at e in longs ks h f k w .4
+
+-- one save lies there whole
+pub save-whole : (ks : List ℕ) (h : code.Sheet) (f : Save) → lengthsOk (sheetOf ks h) 1 f ≡ true → saveIn (length ks) (h .atcs) f 0 ≡ f
+unfolding sheetOf
+save-whole ks h f e =
+    let w : lengthsAre 1 (length ks) (h .atcs) f ≡ true = rw length-map at e in
+    let l = longs ks h f 1 w in
+    λ i. record {
+      items = whole (length ks) (f .items) (l .0) i;
+      atcs = whole (h .atcs) (f .atcs) (l .1) i;
+      flags = whole flagCount (f .flags) (l .2) i;
+      times = whole timeCount (f .times) (l .3) i;
+      variables = whole variableCount (f .variables) (l .4) i;
+    }
+  where
+    whole : {A : Type 0} (w : ℕ) (xs : List A) → length xs ≡ 1 * w → part w 0 xs ≡ xs
+    whole w xs e = ap (λ n. take w (drop n xs)) (zero-mul w) ∙ take-all w xs (omega arith)
 
 -- the lanes lie in the slices
 pub saves-lie : (ks : List ℕ) (h : code.Sheet) (items : List ℤ) (atcs flags : List ℕ) (times vs : List ℤ) (k : ℕ) → lengthsOk (sheetOf ks h) k (saveOf items atcs flags times vs) ≡ true → k ≤ mostSaves

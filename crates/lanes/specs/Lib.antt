@@ -1,3 +1,4 @@
 pub mod Standing
 pub mod Walks
 pub mod Calls
+pub mod Alone

@@ -6,7 +6,8 @@ ghost use Prim.Native.Nat.{ℕ, _+_, _-_, _*_, _≤_, _<_};
 ghost use lib.Dec.{eqb};
 ghost use lib.IntN.{ℤ};
 ghost use lib.ListN.{getD, length};
-ghost use Rattle.model.specs.Limits.{mostSaves, mostItems};
+ghost use Rattle.model.specs.Limits.{laneBudget, mostSaves, mostItems, variableCount};
+ghost use Rattle.model.specs.Run.{run};
 ghost use Rattle.model.specs.Memory.{scriptOf};
 ghost use Rattle.memory.specs.View.{memoryOf};
 ghost use Rattle.expr.specs.Value.{reads};
@@ -17,6 +18,7 @@ ghost use Rattle.reclaim_reach.specs.Words.{Safe};
 ghost use Rattle.lanes_model.specs.Walk.{walkOk};
 ghost use Rattle.lanes_model.specs.Flat.{saveIn, savesOk, walkRefusalIn, walkIn, leftBy};
 ghost use Rattle.lanes_expr.specs.Each.{Each};
+ghost use Rattle.lanes.specs.Alone.{Alone};
 ghost use Rattle.lanes.specs.Calls.{lengthsAre, valuesOk, leftOf};
 ghost use Rattle.lanes.specs.Standing.{Gathered, Higher, Highest};
 ghost use Rattle.lanes.specs.Walks.{Lying, CountsTo, Stepped, Down, Begun, lastAnswer, LanesWalked};
@@ -34,6 +36,7 @@ use memory::Counts;
 use memory::NodeWords;
 use memory::Values;
 use model::BlockNo;
+use runner::run_copied;
 use shop::Sheet;
 
 // ---- the lanes that stand somewhere
@@ -423,6 +426,105 @@ fn check_all(
     0
 }
 
+// One save: its own run, which finds no other lane at a block and so reads as many blocks as it enters.
+fn walk_one(
+    ws: &NodeWords,
+    val: &Values,
+    cw: &CommandWords,
+    bw: &BlockWords,
+    counts: Counts,
+    start: BlockNo,
+    items: &[i16],
+    atcs: &[u8],
+    flags: &[u8],
+    times: &[i16],
+    vars: &mut [i32],
+    answers: &mut [u8; LANES],
+    entered: &mut [u32; LANES],
+) -> u32
+    requires { ⌜ Ready (now cw) (now bw) (counts .blocks) × (length (now vars) ≡ variableCount) ⌝ }
+    ensures { λ r. ⌜ Alone (run (scriptOf (memoryOf (now (ws .entry)) (now (val .entry)) (now (cw .entry)) (now (bw .entry)) counts) .blocks) (reads (now (items .entry)) (now (atcs .entry)) (now (flags .entry)) (now (times .entry))) laneBudget (start .0) (now (vars .entry))) (now (answers .entry)) (now (entered .entry)) (now (vars .entry)) r (now (answers .exit)) (now (entered .exit)) (now (vars .exit)) ⌝ }
+{
+    let ran = run_copied(
+        ws,
+        val,
+        cw,
+        bw,
+        counts,
+        start,
+        items,
+        atcs,
+        flags,
+        times,
+        vars,
+        4096,
+    );
+    answers[0] = ran.refusal;
+    entered[0] = ran.entered;
+    ran.entered
+}
+
+// The walk that no check refuses. How many blocks were read.
+fn walk_saves(
+    attached: &[u8],
+    sheet: Sheet,
+    ws: &NodeWords,
+    val: &Values,
+    cw: &CommandWords,
+    bw: &BlockWords,
+    counts: Counts,
+    start: BlockNo,
+    k: u32,
+    items: &[i16],
+    atcs: &[u8],
+    flags: &[u8],
+    times: &[i16],
+    vars: &mut [i32],
+    answers: &mut [u8; LANES],
+    entered: &mut [u32; LANES],
+) -> u32
+    requires { ⌜ walkRefusalIn (sheetOf (now attached) sheet) (memoryOf (now ws) (now val) (now cw) (now bw) counts) (start .0) k (saveOf (now items) (now atcs) (now flags) (now times) (now vars)) ≡ 0 ⌝ }
+    ensures { λ r. ⌜ leftOf (record { refusal = 0; read = r }) (now (answers .exit)) (now (entered .exit)) (now (vars .exit)) ≡ leftBy (walkIn (sheetOf (now (attached .entry)) sheet) (memoryOf (now (ws .entry)) (now (val .entry)) (now (cw .entry)) (now (bw .entry)) counts) (start .0) k (saveOf (now (items .entry)) (now (atcs .entry)) (now (flags .entry)) (now (times .entry)) (now (vars .entry)))) (now (answers .entry)) (now (entered .entry)) (now (vars .entry)) ⌝ }
+{
+    if k == 1 {
+        return walk_one(
+            ws,
+            val,
+            cw,
+            bw,
+            counts,
+            start,
+            items,
+            atcs,
+            flags,
+            times,
+            vars,
+            answers,
+            entered,
+        );
+    }
+    let n = attached.len();
+    let m = sheet.atcs as usize;
+    walk_all(
+        ws,
+        val,
+        cw,
+        bw,
+        counts,
+        start,
+        k as usize,
+        n,
+        m,
+        items,
+        atcs,
+        flags,
+        times,
+        vars,
+        answers,
+        entered,
+    )
+}
+
 // Walks the blocks from start on for k saves lent one behind another, with a budget of 4,096 each. Refused, it writes nothing.
 pub fn run_all(
     attached: &[u8],
@@ -466,18 +568,16 @@ pub fn run_all(
             read: 0,
         };
     }
-    let n = attached.len();
-    let m = sheet.atcs as usize;
-    let read = walk_all(
+    let read = walk_saves(
+        attached,
+        sheet,
         ws,
         val,
         cw,
         bw,
         counts,
         start,
-        k as usize,
-        n,
-        m,
+        k,
         items,
         atcs,
         flags,

@@ -16,6 +16,10 @@ pub record Each {A : Type 0} (d : A) (f : ℕ → A → A) (s : ℕ) (xs ys : Li
 pub each-none : {A : Type 0} (d : A) (f : ℕ → A → A) (xs : List A) → Each d f 0 xs xs
 each-none d f xs = record { done = λ j l. absurd (omega arith); rest = λ j l. refl; long = refl }
 
+-- a loop that is not run, where it would change nothing
+pub each-kept : {A : Type 0} (d : A) (f : ℕ → A → A) (s : ℕ) (xs : List A) → ((j : ℕ) (x : A) → x ≡ f j x) → Each d f s xs xs
+each-kept d f s xs p = record { done = λ j l. p j (getD xs j d); rest = λ j l. refl; long = refl }
+
 -- one place more, with f of what stands there
 pub each-more : {A : Type 0} {d : A} {f : ℕ → A → A} {k : ℕ} {xs ys : List A} {v : A} → Each d f k xs ys → k < length xs → v ≡ f k (getD ys k d) → Each d f (k + 1) xs (set ys k v)
 each-more {d = d} {f = f} {k = k} {xs = xs} {ys = ys} {v = v} e l p = record {

@@ -1,15 +1,17 @@
 -- The value of an expression for each lane of a walk, in two arrays: a number, and the refusal that stopped the lane, or 0 (02, A.8). Assumes nothing: these are definitions.
 use mathlib.Core.Path.{_≡_}
-use mathlib.Core.Bool.{cond}
+use mathlib.Core.Bool.{Bool, true, false, cond}
 use mathlib.Core.List.{List}
 use Prim.Native.Nat.{ℕ, zero, suc, _+_, _*_, _≤_, _<_}
 use lib.Dec.{ltb}
 use lib.ListN.{getD, length}
 use lib.IntN.{ℤ, pos, negsuc}
 use Rattle.model.specs.Limits.{flagCount, timeCount, variableCount, mostSaves}
-use Rattle.model.specs.Save.{Save}
-use Rattle.model.specs.Expr.{Expr, Value, ok, stop, apply1, eval}
+use Rattle.model.specs.Refusal.{noFlag}
+use Rattle.model.specs.Save.{Save, flagInside}
+use Rattle.model.specs.Expr.{Expr, Value, ok, stop, apply1, readable, eval}
 use Rattle.model.specs.declared.Op1.{Op1}
+use Rattle.model.specs.declared.Op1.the-variants.{Not, Flag, Variable, Item, Atc, Time}
 use Rattle.lanes_model.specs.Flat.{part, saveIn}
 use Rattle.lanes_expr.specs.declared.MaybePlace.{MaybePlace}
 use Rattle.lanes_expr.specs.declared.MaybePlace.the-variants.{At, Nothing}
@@ -59,6 +61,26 @@ firstStop (suc r) v = stop (suc r)
 abbrev pub firstOf2 : ℕ → ℕ → ℕ
 firstOf2 zero r = r
 firstOf2 (suc a) r = suc a
+
+-- ---- A.10: a flag outside the save stops the lane that reads it
+
+abbrev pub readsFlag : Op1 → Bool
+readsFlag Not = false
+readsFlag Flag = true
+readsFlag Variable = false
+readsFlag Item = false
+readsFlag Atc = false
+readsFlag Time = false
+
+-- what reading flag x stops a lane with, or 0
+abbrev pub flagStop : ℤ → ℕ
+flagStop x = cond (flagInside x) 0 noFlag
+
+-- the same of an operator on x
+abbrev pub readStop : Op1 → ℤ → ℕ
+readStop o x = cond (readable o x) 0 noFlag
+
+-- ---- all lanes
 
 -- the first s lanes have the value v after the refusals in rs; the other places of rs are as they were
 pub record Valued (s : ℕ) (v : ℕ → Value) (rs rs′ : List ℕ) (xs : List ℤ) : Type 0 where

@@ -10,7 +10,7 @@ ghost use Rattle.model.specs.Memory.{nodesIn};
 ghost use Rattle.expr.specs.Tree.{treeBelow};
 ghost use Rattle.expr.specs.Value.{reads};
 ghost use Rattle.lanes_model.specs.Flat.{part};
-ghost use Rattle.lanes_expr.specs.Lanes.{placeIn, Lies, Parts, Stand, applyIn, evalIn, firstOf2, Valued};
+ghost use Rattle.lanes_expr.specs.Lanes.{placeIn, Lies, Parts, Stand, applyIn, evalIn, firstOf2, readsFlag, flagStop, readStop, Valued};
 ghost use Rattle.lanes_expr.specs.Each.{Each};
 use expr::MaybeNumber;
 use expr::number_below;
@@ -179,6 +179,69 @@ fn stop_lanes(r: u8, s: usize, stops: &mut [u8; LANES])
         j += 1;
     }
 }
+
+// ---- a flag outside the save stops the lane that reads it (02, A.10)
+
+fn reads_flag(o: Op1) -> bool
+    ensures { λ r. ⌜ r ≡ readsFlag o ⌝ }
+{
+    match o {
+        Op1::Not => false,
+        Op1::Flag => true,
+        Op1::Variable => false,
+        Op1::Item => false,
+        Op1::Atc => false,
+        Op1::Time => false,
+    }
+}
+
+fn flag_stop(x: i32) -> u8
+    ensures { λ r. ⌜ r ≡ flagStop x ⌝ }
+{
+    if ints::is_flag(x) {
+        return 0;
+    }
+    23
+}
+
+// Each lane reads the flag of its own number.
+fn stop_outside(s: usize, at: &[i32; LANES], stops: &mut [u8; LANES])
+    requires { ⌜ s ≤ mostSaves ⌝ }
+    ensures { λ _. ⌜ Each 0 (λ j a. firstOf2 a (flagStop (getD (now (at .entry)) j (pos 0)))) s (now (stops .entry)) (now (stops .exit)) ⌝ }
+{
+    let _all = known_stops(stops);
+    let mut j = 0;
+    while j < s {
+        let r = flag_stop(at[j]);
+        let a = stops[j];
+        stops[j] = first_stop(a, r);
+        j += 1;
+    }
+}
+
+fn stop_each(o: Op1, s: usize, at: &[i32; LANES], stops: &mut [u8; LANES])
+    requires { ⌜ s ≤ mostSaves ⌝ }
+    ensures { λ _. ⌜ Each 0 (λ j a. firstOf2 a (readStop o (getD (now (at .entry)) j (pos 0)))) s (now (stops .entry)) (now (stops .exit)) ⌝ }
+{
+    if reads_flag(o) {
+        stop_outside(s, at, stops);
+    }
+}
+
+// All lanes read at x: a flag of the save, as nearly all are, takes no loop.
+fn stop_same(o: Op1, x: i32, s: usize, stops: &mut [u8; LANES])
+    requires { ⌜ s ≤ mostSaves ⌝ }
+    ensures { λ _. ⌜ Each 0 (λ _ a. firstOf2 a (readStop o x)) s (now (stops .entry)) (now (stops .exit)) ⌝ }
+{
+    if reads_flag(o) {
+        let r = flag_stop(x);
+        if r != 0 {
+            stop_lanes(r, s, stops);
+        }
+    }
+}
+
+// ---- operators
 
 fn two_each(o: Op2, s: usize, right: &[i32; LANES], out: &mut [i32; LANES])
     requires { ⌜ s ≤ mostSaves ⌝ }
@@ -441,6 +504,7 @@ pub fn evaluate_lanes(
             let q = number_below(ws, val, i, l);
             match q {
                 MaybeNumber::Is(z) => {
+                    stop_same(o, z, s, stops);
                     apply_same_lanes(o, z, lanes, s, n, m, items, atcs, flags, times, vars, out);
                 }
                 MaybeNumber::Nothing => {
@@ -461,6 +525,7 @@ pub fn evaluate_lanes(
                         out,
                         stops,
                     );
+                    stop_each(o, s, out, stops);
                     apply_one_lanes(o, lanes, s, n, m, items, atcs, flags, times, vars, out);
                 }
             }

@@ -7,16 +7,17 @@ use Prim.Native.Nat.{ℕ}
 use lib.ListN.{replicate}
 use lib.IntN.{pos}
 use Rattle.model.specs.Limits.{walkBlocks}
-use Rattle.model.specs.Refusal.{badSave, badWalk, notCode}
+use Rattle.model.specs.Refusal.{badSave, badWalk, noFlag, notCode}
 use Rattle.model.specs.Requirement.{haveFlag}
-use Rattle.model.specs.Expr.{imm16}
+use Rattle.model.specs.Expr.{one, imm16}
 use Rattle.model.specs.Save.{Save}
-use Rattle.model.specs.Script.{Block, code, dataBlock, goto, ifElse, return, Script}
+use Rattle.model.specs.Script.{Block, code, dataBlock, goto, ifElse, return, setVariable, Script}
 use Rattle.model.specs.Judge.{counted}
 use Rattle.model.specs.Compile.{compiled}
 use Rattle.model.specs.Run.{Ran}
 use Rattle.model.specs.Cases.{opened, sheet, slotOf, first, saved}
 use Rattle.model.specs.declared.Loader.the-variants.{Disc}
+use Rattle.model.specs.declared.Op1.the-variants.{Flag, Item}
 use Rattle.reclaim_model.specs.Rename.{linksOf, targets}
 use Rattle.lanes_model.specs.Falls.{falls, sweep}
 use Rattle.lanes_model.specs.Walk.{Walked, trail, walkCall, walkChecks, walkRefusal}
@@ -55,6 +56,14 @@ counts w = w .answer ∷ w .read ∷ map (λ (r : Ran). r .entered) (w .runs)
 pub data-case : counts (walkCall sheet (counted (dataBlock ∷ line (some 0) ∷ [])) 1 (saved 0 (pos 1) 1 0 (pos 0) ∷ [])) ≡ 0 ∷ 2 ∷ 2 ∷ []
 unfolding opened counts line walkCall walkChecks falls sweep linksOf targets trail
 data-case = refl
+
+-- A.10: both lanes read the flag whose number is how many they hold of item 7: 2,048 stops its lane there with 23, 2,047 goes on to the Return
+pub outside : Walked
+outside = walkCall sheet (counted (code (return ∷ []) none none ∷ code (setVariable (imm16 (pos 1)) (one Flag (one Item (imm16 (pos 7)))) ∷ []) (some 0) none ∷ [])) 1 (saved 7 (pos 2048) 1 0 (pos 0) ∷ saved 7 (pos 2047) 1 0 (pos 0) ∷ [])
+
+pub flag-case : map (λ (r : Ran). r .answer) (outside .runs) ∷ counts outside ∷ [] ≡ (noFlag ∷ 0 ∷ []) ∷ (0 ∷ 2 ∷ 1 ∷ 2 ∷ []) ∷ []
+unfolding opened counts outside walkCall walkChecks falls sweep linksOf targets trail
+flag-case = refl
 
 -- twenty slots of Timer5 with a requirement, and four saves: all 142 blocks are read, 62 by each run
 pub fullest : Script

@@ -1,10 +1,11 @@
 -- Demand 3 over the calls of the library: any list of lk_compile and lk_reclaim as they were made and answered, at any block numbers and for any loaders, then lk_run, lk_parse and lk_preview as they were answered. Each call comes in by its own promise. Assumes nothing.
 use mathlib.Core.Path.{_≡_, refl, sym, ap, _∙_, subst}
-use mathlib.Core.Bool.{true}
+use mathlib.Core.Bool.{Bool, true, false}
 use mathlib.Core.Logic.{_≢_}
 use mathlib.Core.Option.{Option, none, some}
 use mathlib.Core.List.{List, [], map}
 use Prim.Native.Nat.{ℕ, zero, suc, _≤_, _<_}
+use native.Mathlib.Omega.{arith}
 use lib.IntN.{ℤ}
 use lib.ListN.{length-map}
 use Rattle.model.specs.Limits.{runBlocks}
@@ -13,6 +14,7 @@ use Rattle.model.specs.Save.{Save}
 use Rattle.model.specs.Sheet.{Sheet, saveRefusal}
 use Rattle.model.specs.Shop.{Slot, withSlots}
 use Rattle.model.specs.Flags.{flagAnswer, shopInside, untilOutside}
+use Rattle.model.specs.Meaning.{Means}
 use Rattle.model.specs.Normal.{normalShop}
 use Rattle.model.specs.Memory.{blockIn}
 use Rattle.model.specs.Preview.{previewCall}
@@ -199,6 +201,17 @@ module _ (h : Sheet) (k : Born) (xs : List Made) (long : LongBorn k) (promised :
         let a = demand .later (loaderBy loader) setup (shopFrom shop) n after (subst (λ (j : Born). CompiledAs h j (callOf (loaderBy loader) setup (shopFrom shop)) n after) t p) (subst (λ (j : Born). setup < j .memory .count) t l) (λ b q z. u b q (followed .now b ∙ z)) in
         (a .0, a .1 ∙ sym t);
   }
+
+  -- a run that is not refused is one of a shop whose flags lie in the save (A.10), and leaves what that shop means
+  pub means-of : (b b′ : ℕ) (ys : List Slot) → nowAt made k xs b ≡ some b′ → lastAt made k xs b ≡ some ys → (s : Save) → saveRefusal h s ≡ 0 → (budget : ℕ) (r : Ran) (v : List ℤ)
+      → ranAs r v ≡ runIn h (afterAll made k xs .memory) b′ s budget → r .refusal ≡ 0 → Means h s ys (s .variables) v
+  means-of b b′ ys n e s f budget r v p z = by (shopInside ys) refl
+    where
+      by : (t : Bool) → shopInside ys ≡ t → Means h s ys (s .variables) v
+      by true i = delivered .runs b b′ ys n e i s f budget r v p .means z
+      by false i =
+          let w = delivered .ends b b′ ys n e s f budget r v p .else-spent (λ q. let y : 0 ≡ 23 = sym z ∙ q ∙ rw i in omega arith) in
+          absurd (let y : 0 ≡ 15 = sym z ∙ w in omega arith)
 
   -- where no call moves a block, as lk_compile and a refused lk_reclaim do not, every block of the start where none was accepted is as it was
   pub unmoved : Along made (λ t x. (j : ℕ) → made .now t x j ≡ some j) k xs → (b : ℕ) → b < k .memory .count → lastAt made k xs b ≡ none

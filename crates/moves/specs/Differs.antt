@@ -12,6 +12,7 @@ use Rattle.model.specs.Limits.{runBlocks, slotCount}
 use Rattle.model.specs.Save.{Save}
 use Rattle.model.specs.Sheet.{Sheet, saveRefusal}
 use Rattle.model.specs.Shop.{Slot}
+use Rattle.model.specs.Flags.{flagAnswer}
 use Rattle.model.specs.Run as model
 use Rattle.model.specs.RecordCalls.{Born, runIn}
 use Rattle.model.specs.Lists.{Along, afterAll, following, lastAt, lastFrom, nowAt}
@@ -54,15 +55,16 @@ last-long k (x ∷ xs) o b ys f e = by (made .now k x b) (eqb (x .answer .refusa
     by (some i) false p ih e = ih o i ys f e
 
 module _ (h : Sheet) (k : Born) (xs : List Made) (long : LongBorn k) (promised : Along made (AsPromised h) k xs) where
-  -- b is a block of the start, b′ its number after any list of lk_compile and lk_reclaim, ys the shop accepted last at it; each run has a budget of its own
+  -- b is a block of the start, b′ its number after any list of lk_compile and lk_reclaim, ys the shop accepted last at it; each run has a budget of its own.
+  -- Both are answered 0, or both 23 where a slot with an item has a flag outside the save (A.10), and then the same holds of what they wrote
   pub one-more : (b b′ : ℕ) (ys : List Slot) → nowAt made k xs b ≡ some b′ → lastAt made k xs b ≡ some ys
       → (w n : ℕ) (s t : Save) → OneMore w n s t → saveRefusal h s ≡ 0 → saveRefusal h t ≡ 0
       → (budget other : ℕ) → runBlocks ≤ budget → runBlocks ≤ other
       → (r q : Ran) (u v : List ℤ) → ranAs r u ≡ runIn h (afterAll made k xs .memory) b′ s budget → ranAs q v ≡ runIn h (afterAll made k xs .memory) b′ t other
-      → (r .refusal ≡ 0) × Differ h w ys (ranAs r u) (ranAs q v)
+      → (r .refusal ≡ flagAnswer ys) × Differ h w ys (ranAs r u) (ranAs q v)
   one-more b b′ ys at last w n s t m f g budget other p p′ r q u v e e′ =
-      let a = delivered h k xs long promised .runs b b′ ys at last s f budget r u e in
-      let c = delivered h k xs long promised .runs b b′ ys at last t g other q v e′ in
-      let z = a .not-refused p in
-      let y = c .not-refused p′ in
+      let a = delivered h k xs long promised .ends b b′ ys at last s f budget r u e in
+      let c = delivered h k xs long promised .ends b b′ ys at last t g other q v e′ in
+      let z = a .answered p in
+      let y = c .answered p′ in
       (z, means-differ h w n s t m ys (last-long k xs none b ys (λ zs i. absurd (none≢some i)) last) (ranAs r u) (ranAs q v) (z ∙ sym y) (a .means z) (c .means y))

@@ -11,6 +11,7 @@ use Rattle.model.specs.Refusal.{firstOf}
 use Rattle.model.specs.Save.{Save}
 use Rattle.model.specs.Sheet.{Sheet, saveRefusal, sheetRefusal}
 use Rattle.model.specs.Shop.{Slot, emptySlot, shopRefusal, withSlots}
+use Rattle.model.specs.Flags.{flagAnswer}
 use Rattle.model.specs.Meaning.{Meaning, hidden, meaningOf, tempAfter}
 use Rattle.model.specs.Preview.{previewCall, previewOf}
 use Rattle.preview.specs.declared.Previewed as code
@@ -34,7 +35,7 @@ pub record PreviewsDiffer (h : Sheet) (w : ℕ) (xs : List Slot) (p q : Previewe
 -- one that is not refused has the meanings of the slots
 meanings : (h : Sheet) (a : Arrays) (s : Save) → previewCall h (shopOf a) s .answer ≡ 0 → previewCall h (shopOf a) s ≡ meaningsOf h (shopOf a) s
 unfolding previewCall
-meanings h a s e = by (firstOf (sheetRefusal h ∷ shopRefusal h (shopOf a) ∷ saveRefusal h s ∷ [])) e ∙ ap (λ (xs : List Slot). meaningsOf h xs s) (with-all (shopOf a) (shop-long a))
+meanings h a s e = by (firstOf (sheetRefusal h ∷ shopRefusal h (shopOf a) ∷ saveRefusal h s ∷ flagAnswer (withSlots (shopOf a)) ∷ [])) e ∙ ap (λ (xs : List Slot). meaningsOf h xs s) (with-all (shopOf a) (shop-long a))
   where
     by : (n : ℕ) → previewOf n (map (meaningOf h s) (withSlots (shopOf a))) (tempAfter h s (withSlots (shopOf a)) (getD (s .variables) 0 (pos 0))) (getD (s .variables) 0 (pos 0)) .answer ≡ 0
         → previewOf n (map (meaningOf h s) (withSlots (shopOf a))) (tempAfter h s (withSlots (shopOf a)) (getD (s .variables) 0 (pos 0))) (getD (s .variables) 0 (pos 0)) ≡ meaningsOf h (withSlots (shopOf a)) s

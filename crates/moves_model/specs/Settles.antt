@@ -23,7 +23,7 @@ between-again (pos n) = by (ltb n 1) (ltb 10 n) refl refl
     by false true p q = refl
     by false false p q = rw (p, q)
 
-limit-again : (h : Sheet) (w : ℕ) (z : ℤ) → limitOf h w (pos (limitOf h w z)) ≡ limitOf h w z
+pub limit-again : (h : Sheet) (w : ℕ) (z : ℤ) → limitOf h w (pos (limitOf h w z)) ≡ limitOf h w z
 unfolding limitOf
 limit-again h w z = by (atcFor h w) (timerOf h w)
   where
@@ -34,7 +34,7 @@ limit-again h w z = by (atcFor h w) (timerOf h w)
     by none ten = refl
     by none fifteen = refl
 
-limit-one : (h : Sheet) (w : ℕ) → limitOf h w (pos 1) ≡ 1
+pub limit-one : (h : Sheet) (w : ℕ) → limitOf h w (pos 1) ≡ 1
 unfolding limitOf
 limit-one h w = by (atcFor h w) (timerOf h w)
   where
@@ -47,7 +47,7 @@ limit-one h w = by (atcFor h w) (timerOf h w)
 
 -- ---- sets
 
-sorted-member : (q : Requirement) (xs : List Requirement) → member q (sorted xs) ≡ member q xs
+pub sorted-member : (q : Requirement) (xs : List Requirement) → member q (sorted xs) ≡ member q xs
 unfolding sorted member
 sorted-member q [] = refl
 sorted-member q (x ∷ xs) = member-insert q x (sorted xs) ∙ ap (λ b. sameReq q x || b) (sorted-member q xs)

@@ -362,8 +362,47 @@ fn write_back(held: &[i32; 1024], vars: &mut [i32])
     copy_numbers(held, vars);
 }
 
-// Runs the blocks from start on, with the variables in vars. Refused by 1 to 12 it enters no block and writes nothing. The
-// blocks work on an array: checked once, its length is in its type for every read and write after.
+// The blocks from start on, of a record whose checks passed. They work on an array: checked once, its length is in its type
+// for every read and write after.
+pub fn run_copied(
+    ws: &NodeWords,
+    val: &Values,
+    cw: &CommandWords,
+    bw: &BlockWords,
+    counts: Counts,
+    start: BlockNo,
+    items: &[i16],
+    atcs: &[u8],
+    flags: &[u8],
+    times: &[i16],
+    vars: &mut [i32],
+    budget: u32,
+) -> Ran
+    requires { ⌜ Ready (now cw) (now bw) (counts .blocks) ⌝ }
+    requires { ⌜ length (now vars) ≡ 1024 ⌝ }
+    ensures { λ r. ⌜ ranOf r (now (vars .exit)) ≡ run (scriptOf (memoryOf (now (ws .entry)) (now (val .entry)) (now (cw .entry)) (now (bw .entry)) counts) .blocks) (reads (now (items .entry)) (now (atcs .entry)) (now (flags .entry)) (now (times .entry))) budget (start .0) (now (vars .entry)) ⌝ }
+{
+    let mut held = [0; 1024];
+    copy_numbers(vars, &mut held);
+    let ran = run_blocks(
+        ws,
+        val,
+        cw,
+        bw,
+        counts,
+        start,
+        items,
+        atcs,
+        flags,
+        times,
+        &mut held,
+        budget,
+    );
+    write_back(&held, vars);
+    ran
+}
+
+// Runs the blocks from start on, with the variables in vars. Refused by 1 to 12 it enters no block and writes nothing.
 pub fn run(
     attached: &[u8],
     sheet: Sheet,
@@ -395,9 +434,7 @@ pub fn run(
             entered: 0,
         };
     }
-    let mut held = [0; 1024];
-    copy_numbers(vars, &mut held);
-    let ran = run_blocks(
+    run_copied(
         ws,
         val,
         cw,
@@ -408,9 +445,7 @@ pub fn run(
         atcs,
         flags,
         times,
-        &mut held,
+        vars,
         budget,
-    );
-    write_back(&held, vars);
-    ran
+    )
 }

@@ -46,7 +46,7 @@ pub struct Settings {
 // ---- requirements by their codes
 
 // The code of the negated requirement: kinds go in pairs, and each is the other's negation.
-fn negated(code: u64) -> u64
+pub fn negated(code: u64) -> u64
     ensures { λ r. ⌜ r ≡ negatedCode code ⌝ }
 {
     if code / KIND % 2 == 0 {
@@ -56,7 +56,7 @@ fn negated(code: u64) -> u64
 }
 
 // None of the first n codes is x.
-fn lacks(row: &Row, n: u8, x: u64) -> bool
+pub fn lacks(row: &Row, n: u8, x: u64) -> bool
     requires { ⌜ n ≤ entryLimit ⌝ }
     ensures { λ r. ⌜ r ≡ lacksCode x (take n (now (row .entry))) ⌝ }
 {
@@ -88,7 +88,7 @@ fn no_pair(row: &Row, n: u8) -> bool
 }
 
 // The code of the acquired test: the atc's if the item has one, else the item's.
-fn own_code(attached: &[u8], item: ItemId) -> u64
+pub fn own_code(attached: &[u8], item: ItemId) -> u64
     ensures { λ r. ⌜ ((h : Lent.Sheet) → r ≡ codeOf (acquiredOf (sheetOf (now (attached .entry)) h) (item .0))) ⌝ }
 {
     let atc = atc_for(attached, item);
@@ -235,7 +235,7 @@ fn check_slot(attached: &[u8], sheet: Sheet, slot: Slot) -> u8
 }
 
 // Of a slot with item w that passed both.
-fn count_settings(attached: &[u8], sheet: Sheet, slot: Slot, w: ItemId) -> Settings
+pub fn count_settings(attached: &[u8], sheet: Sheet, slot: Slot, w: ItemId) -> Settings
     requires { ⌜ (sheetOk (sheetOf (now attached) sheet) ≡ true) × (slotOk (sheetOf (now attached) sheet) (slotOf slot) ≡ true) × (slot .item ≡ Of w) ⌝ }
     ensures { λ r. ⌜ r ≡ settingsOf (settingsCall (sheetOf (now (attached .entry)) sheet) (slotOf slot)) ⌝ }
 {

@@ -29,7 +29,7 @@ use Rattle.settings.specs.Answer.{settingsOf}
 use Rattle.capi.specs.declared.Ran.{Ran}
 use Rattle.capi.specs.Answers.{ranAs}
 use Rattle.capi_settings.specs.Slots.{slotBy}
-use Rattle.library.specs.Delivered.{AsPromised, Made, delivered, made, shopOf}
+use Rattle.library.specs.Delivered.{AsPromised, Made, means-of, made, shopOf}
 
 -- slot i of the shop that four arrays stand for is the one that lk_settings takes by its item, limit, codes and length
 pub slot-of-arrays : (a : Arrays) (i : ℕ) → i < slotCount
@@ -77,12 +77,12 @@ runs-so h x s z e = record {
 
 -- the first call gets the script k, each later one the script as the one before left it; ys is the shop that was accepted last at block b, which is b′ after the list
 module _ (h : Sheet) (k : Born) (xs : List Made) (long : LongBorn k) (promised : Along made (AsPromised h) k xs) (b b′ : ℕ) (ys : List Slot) (now : nowAt made k xs b ≡ some b′) (last : lastAt made k xs b ≡ some ys) where
-  -- lk_settings of its slot i, by any numbers that stand for that slot, answered q; lk_run from there under a save that fits was not refused (none is with a budget of 82 or more) and left v
+  -- lk_settings of its slot i, by any numbers that stand for that slot, answered q; lk_run from there under a save that fits was not refused and left v
   pub settings-run : (i : ℕ) → i < length ys → (z l : ℤ) (cs : List ℕ) (n : ℕ) → slotOf (slotBy z l cs n) ≡ getD ys i emptySlot → (q : Settings) → q ≡ settingsOf (settingsCall h (slotOf (slotBy z l cs n))) → q .refusal ≡ 0
       → (s : Save) → saveRefusal h s ≡ 0 → (budget : ℕ) (r : Ran) (v : List ℤ) → ranAs r v ≡ runIn h (afterAll made k xs .memory) b′ s budget → r .refusal ≡ 0
       → Counted h (getD ys i emptySlot) q × Runs h (getD ys i emptySlot) (q .subjects) s (getD v (itemFirst + i) (pos 0))
   settings-run i low z l cs n e q p a s f budget r v u o =
       let x = getD ys i emptySlot in
       let c = counted h x q (p ∙ ap (λ (y : Slot). settingsOf (settingsCall h y)) e) a in
-      let m = delivered h k xs long promised .runs b b′ ys now last s f budget r v u .means o in
+      let m = means-of h k xs long promised b b′ ys now last s f budget r v u o in
       (c, rw (c .subjects) (runs-so h x s (getD v (itemFirst + i) (pos 0)) (m .items i low)))

@@ -1,8 +1,6 @@
 //! Times the proved library beside the Rust sides, on the same inputs: microseconds a call, the
 //! best and the median of 31 rounds. With the word `worst` only the slowest inputs that were found, with `lanes` only walks for
-//! many saves.
-//! best and the median of 31 rounds. With the word `worst` only the slowest inputs that were found,
-//! with the word `shopper` only shoppers.
+//! many saves, with `shopper` only shoppers.
 
 mod by_hand;
 mod cases;
@@ -36,8 +34,6 @@ fn main() {
         cases::all().iter().for_each(lanes::case);
         return;
     }
-    if word.is_none_or(|word| word != "worst") {
-    let word = std::env::args().nth(1);
     if word.as_deref() == Some("shopper") {
         return shopper::all();
     }

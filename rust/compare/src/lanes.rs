@@ -22,7 +22,7 @@ fn links(a: &Arrays, block: usize) -> Vec<usize> {
     }
     let (first, many) = (usize::from(words[1]), usize::from(words[2]));
     let named = words[3..].iter().filter(|link| **link > 0);
-    let commands = a.cw[4 * first..][..4 * many].chunks_exact(4);
+    let commands = a.cw.chunks_exact(4).skip(first).take(many);
     let targets = commands.filter(|command| matches!(command[0], 1 | 3 | 4));
     named
         .map(|link| usize::from(*link) - 1)
@@ -100,6 +100,9 @@ fn check(tally: &mut Tally, random: &mut Random, sheet: &Sheet, script: &Script,
         Err(refused) => (refused.0, vec![], 0),
     };
     tally.count("walk", answer.0);
+    for (refusal, _) in &answer.1 {
+        tally.count("lane", *refusal);
+    }
     let other = by_runs(sheet, script.arrays(), setup, &mut theirs, &fine);
     let case = || {
         format!(

@@ -2,6 +2,7 @@
 //! document 01's meaning of a shop, on the same inputs.
 
 pub mod bill;
+pub mod checks;
 pub mod convert;
 pub mod images;
 pub mod interpret;
@@ -49,15 +50,12 @@ pub fn all(seed: u64, count: usize, longest: usize, small: bool) -> Tally {
     runs::operators(&mut tally, &mut random);
     reclaimed(&mut tally, &mut random, count);
     rights::lists(&mut tally, &mut random, count / 4);
-    lanes::random(&mut tally, &mut random, count);
-    tally
-}
-
-/// Walks for many saves alone.
-pub fn walks(seed: u64, count: usize) -> Tally {
-    let mut tally = Tally::default();
-    lanes::random(&mut tally, &mut Random::new(seed), count);
+    billed(&mut tally, &mut random, count);
     settings::random(&mut tally, &mut random, count);
+    moves::random(&mut tally, &mut random, count);
+    lanes::random(&mut tally, &mut random, count);
+    shopper::random(&mut tally, &mut random, count);
+    checks::random(&mut tally, &mut random, count);
     tally
 }
 
@@ -65,9 +63,20 @@ pub fn walks(seed: u64, count: usize) -> Tally {
 pub fn settings(seed: u64, count: usize) -> Tally {
     let mut tally = Tally::default();
     settings::random(&mut tally, &mut Random::new(seed), count);
-    billed(&mut tally, &mut random, count);
-    shopper::random(&mut tally, &mut random, count);
-    moves::random(&mut tally, &mut random, count);
+    tally
+}
+
+/// Checks of shops alone.
+pub fn checks(seed: u64, count: usize) -> Tally {
+    let mut tally = Tally::default();
+    checks::random(&mut tally, &mut Random::new(seed), count);
+    tally
+}
+
+/// Walks for many saves alone.
+pub fn walks(seed: u64, count: usize) -> Tally {
+    let mut tally = Tally::default();
+    lanes::random(&mut tally, &mut Random::new(seed), count);
     tally
 }
 

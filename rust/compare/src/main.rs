@@ -7,8 +7,9 @@
 //!
 //! - `shops`: COUNT lists of compiles and ten times as many parses
 //! - `edits`: COUNT lists of edits by users with rights
-//! - `walks`: COUNT walks of many saves
 //! - `settings`: COUNT slots with all their settings
+//! - `checks`: COUNT cases
+//! - `walks`: COUNT walks of many saves
 //! - `reclaims`: COUNT reclaims of each kind and COUNT lists that mix them with compiles
 //! - `shoppers`: COUNT shoppers
 //! - `bills`: COUNT bills of saves that were not run and COUNT after runs of compiled shops
@@ -20,7 +21,7 @@ use oracle::calls;
 use std::process::ExitCode;
 use std::{env, error::Error};
 
-const USAGE: &str = "usage: compare SEED COUNT [LONGEST [small]], or compare SEED COUNT KIND, KIND being shops, edits, walks, settings, reclaims, shoppers, bills or moves";
+const USAGE: &str = "usage: compare SEED COUNT [LONGEST [small]], or compare SEED COUNT KIND, KIND being shops, edits, settings, checks, walks, reclaims, shoppers, bills or moves";
 
 fn main() -> Result<ExitCode, Box<dyn Error>> {
     let arguments: Vec<String> = env::args().skip(1).collect();
@@ -33,7 +34,6 @@ fn main() -> Result<ExitCode, Box<dyn Error>> {
         [] => (3, false),
         ["shops"] => return said(seed, || compare::shops(seed, count)),
         ["edits"] => return said(seed, || compare::edits(seed, count)),
-        ["walks"] => return said(seed, || compare::walks(seed, count)),
         ["settings"] => {
             println!(
                 "slowest slot: {:.2} microseconds",
@@ -41,6 +41,8 @@ fn main() -> Result<ExitCode, Box<dyn Error>> {
             );
             return said(seed, || compare::settings(seed, count));
         }
+        ["checks"] => return said(seed, || compare::checks(seed, count)),
+        ["walks"] => return said(seed, || compare::walks(seed, count)),
         ["reclaims"] => return said(seed, || compare::reclaims(seed, count)),
         ["shoppers"] => return said(seed, || compare::shoppers(seed, count)),
         ["bills"] => return said(seed, || compare::bills(seed, count)),

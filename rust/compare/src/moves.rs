@@ -3,9 +3,9 @@
 use crate::survivors::{self, Numbers};
 use crate::tally::Tally;
 use crate::{convert, meaning, reclaim, saves, tree};
-use locustkeno::{Loader, NUM_SLOTS, Save, Script, Shop, VARIABLES};
+use locustkeno::{FLAGS, Loader, NUM_SLOTS, Save, Script, Shop, VARIABLES};
 use oracle::image;
-use oracle::plain::{Block, Sheet, Slot};
+use oracle::plain::{Block, Requirement, Sheet, Slot};
 use record::make::{self, Maker};
 use record::random::Random;
 
@@ -14,6 +14,22 @@ const BUDGETS: [u32; 4] = [82, 83, 200, 4_096];
 const HELD: [i16; 9] = [1, 1, 1, 2, 3, 8, 9, 10, 32_766];
 const COUNTS: usize = 620;
 const LOADERS: [Loader; 2] = [Loader::Disc, Loader::Demo];
+
+/// The refusal of a run that reads a flag outside the save (A.10).
+const NO_FLAG: u8 = 23;
+
+/// Whether a slot with an item has a flag outside 0 to 2,047.
+fn reads_outside(slots: &[Slot]) -> bool {
+    let outside = |requirement: &Requirement| match *requirement {
+        Requirement::HaveFlag(flag) | Requirement::MissingFlag(flag) => {
+            usize::try_from(flag).map_or(true, |flag| flag >= FLAGS)
+        }
+        _ => false,
+    };
+    let slots = slots.iter().take(NUM_SLOTS);
+    let mut filled = slots.filter(|slot| slot.item.is_some());
+    filled.any(|slot| slot.requirements.iter().any(outside))
+}
 
 /// A script with shops compiled into it.
 struct Stage {
@@ -154,7 +170,13 @@ impl Stage {
                 self.sheet, saves[0]
             )
         };
-        tally.same("one more held, answers", &(answer, other), &(0, 0), case);
+        let expected = if reads_outside(slots) { NO_FLAG } else { 0 };
+        tally.same(
+            "one more held, answers",
+            &(answer, other),
+            &(expected, expected),
+            case,
+        );
         let lower = |v: usize| i64::from(few.variables[v]) - i64::from(more.variables[v]);
         let differ: Vec<usize> = (0..VARIABLES).filter(|v| lower(*v) != 0).collect();
         let wrong = differ
@@ -164,11 +186,14 @@ impl Stage {
         tally.count("one more held, counts that are lower", differ.len() as u8);
         let sheet = convert::sheet(&self.sheet);
         let shop = Shop::with_slots(slots.iter().map(convert::slot));
-        let [ours, theirs] = saves.map(|save| shop.preview(&sheet, save).expect("it was accepted"));
+        let [ours, theirs] =
+            saves.map(|save| shop.preview(&sheet, save).map_err(|refused| refused.0));
         let shown: Vec<usize> = (0..NUM_SLOTS)
             .filter(|slot| few.pair(*slot) != more.pair(*slot))
             .collect();
-        tally.same("differences", &ours.differences(&theirs), &shown, case);
+        let differences = ours.and_then(|ours| Ok(ours.differences(&theirs?)));
+        let shown = if answer == 0 { Ok(shown) } else { Err(answer) };
+        tally.same("differences", &differences, &shown, case);
     }
 
     /// The blocks from one on, their links counted from it.

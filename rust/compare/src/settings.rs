@@ -23,7 +23,7 @@ const RUN: usize = 8;
 
 /// What is a yes or no.
 #[derive(Debug, Copy, Clone, PartialEq, Eq, PartialOrd, Ord)]
-enum Subject {
+pub(crate) enum Subject {
     Item(u16),
     Atc(u16),
     Flag(i32),
@@ -31,10 +31,10 @@ enum Subject {
     Rate(i16),
 }
 
-type Answers = BTreeMap<Subject, bool>;
+pub(crate) type Answers = BTreeMap<Subject, bool>;
 
 /// A slot with an item, as document 02 looks at it.
-struct Looked {
+pub(crate) struct Looked {
     item: u16,
     /// At coerced limit 1 the acquired subjects, any of which lists the slot; else none.
     acquired: Vec<Subject>,
@@ -54,7 +54,7 @@ fn wish(requirement: &Requirement) -> (Subject, bool) {
 }
 
 impl Looked {
-    fn new(sheet: &Sheet, slot: &Slot) -> Option<Self> {
+    pub fn new(sheet: &Sheet, slot: &Slot) -> Option<Self> {
         let item = slot.item?;
         let atc = sheet.atc_of[usize::from(item)];
         let timer = sheet.timers.iter().position(|t| *t == item);
@@ -74,7 +74,7 @@ impl Looked {
     }
 
     /// Combination number n: bit k answers the k-th subject.
-    fn answers(&self, n: u32) -> Answers {
+    pub fn answers(&self, n: u32) -> Answers {
         let bit = |k: usize| n >> k & 1 == 1;
         let subjects = self.subjects.iter().enumerate();
         subjects.map(|(k, subject)| (*subject, bit(k))).collect()
@@ -88,8 +88,16 @@ impl Looked {
                 .all(|(subject, yes)| answers[subject] == *yes)
     }
 
-    fn combinations(&self) -> u32 {
+    pub fn combinations(&self) -> u32 {
         1 << self.subjects.len()
+    }
+
+    pub fn subjects(&self) -> usize {
+        self.subjects.len()
+    }
+
+    pub fn item(&self) -> u16 {
+        self.item
     }
 }
 
@@ -126,7 +134,7 @@ fn in_saves(subject: &Subject) -> bool {
 }
 
 /// The save that answers so.
-fn save(sheet: &Sheet, answers: &Answers) -> Save {
+pub(crate) fn save(sheet: &Sheet, answers: &Answers) -> Save {
     let mut save = Save::new(&convert::sheet(sheet));
     for (subject, _) in answers.iter().filter(|answer| *answer.1) {
         match *subject {
@@ -212,7 +220,7 @@ fn requirement(random: &mut Random, sheet: &Sheet) -> Requirement {
     }
 }
 
-fn slot(random: &mut Random, sheet: &Sheet) -> Slot {
+pub(crate) fn slot(random: &mut Random, sheet: &Sheet) -> Slot {
     let past = usize::from(random.once_in(50));
     let any = random.below(sheet.items() + past) as u16;
     let item = random.pick(&[

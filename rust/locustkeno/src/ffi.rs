@@ -137,17 +137,17 @@ unsafe extern "C" {
     ) -> Kept;
 }
 
+pub use bill::*;
+pub use check::*;
 pub use rights::*;
 pub use settings::*;
-pub use bill::*;
 pub use shopper::*;
 pub use shops::*;
 
-mod rights;
-
-mod settings;
-
 mod bill;
+mod check;
+mod rights;
+mod settings;
 mod shopper;
 
 mod shops {

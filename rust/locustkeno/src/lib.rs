@@ -16,6 +16,7 @@
 
 mod arrays;
 mod bill;
+mod check;
 mod ffi;
 mod lanes;
 mod moves;
@@ -28,13 +29,14 @@ mod script;
 mod settings;
 mod sheet;
 mod shop;
+mod shopper;
 mod text;
 mod view;
-mod shopper;
 
 pub use arrays::{Arrays, Births, BlockWords, CommandWords, NodeWords, Values};
-pub use lanes::{LANES, Saves, Walk};
 pub use bill::{Basket, Bill, Line, Tariff};
+pub use check::{Finding, Found};
+pub use lanes::{LANES, Saves, Walk};
 pub use reclaim::Moved;
 pub use refused::Refused;
 pub use rights::{Content, Edit, Right, Rights, USERS};
@@ -45,6 +47,6 @@ pub use script::{Loader, Ran, Script};
 pub use settings::Settings;
 pub use sheet::{Atc, Item, Sheet};
 pub use shop::{ENTRIES, NUM_SLOTS, Requirement, Shop, Slot};
+pub use shopper::{Shopper, Step, WISHES};
 pub use text::BadText;
 pub use view::{Block, Command, Expr, Op1, Op2};
-pub use shopper::{Shopper, Step, WISHES};

@@ -1,7 +1,7 @@
 //! Who may edit what: rights of users in the slots of a shop, their edits, and what a user is shown.
 
 use crate::ffi::{self, RightsBytes};
-use crate::shop::{Row, row};
+use crate::shop::{Row, item_number, row};
 use crate::{Item, NUM_SLOTS, Refused, Requirement, Sheet, Shop};
 use std::fmt;
 
@@ -105,7 +105,7 @@ impl Edit {
     /// The field's number and its content as the library takes it; of the others it reads nothing.
     fn numbers(&self) -> (u8, i32, i16, (Row, u8)) {
         match &self.content {
-            Content::Item(item) => (0, item.map_or(-1, |item| item.0.into()), 0, row(&[])),
+            Content::Item(item) => (0, item_number(*item), 0, row(&[])),
             Content::Limit(limit) => (1, -1, *limit, row(&[])),
             Content::Requirements(requirements) => (2, -1, 0, row(requirements)),
         }

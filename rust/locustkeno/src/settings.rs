@@ -1,6 +1,6 @@
 //! How many settings list a slot.
 
-use crate::shop::Alone;
+use crate::shop::{item_number, row};
 use crate::{Refused, Sheet, Slot, ffi};
 use std::fmt;
 
@@ -58,7 +58,7 @@ impl Slot {
     /// # Ok::<(), Refused>(())
     /// ```
     pub fn settings(&self, sheet: &Sheet) -> Result<Settings, Refused> {
-        let slot = Alone::new(self);
+        let (codes, len) = row(&self.requirements);
         let [five, ten, fifteen] = sheet.timers;
         // SAFETY: the slice and the row are as the library takes them; it writes to neither.
         let answer = unsafe {
@@ -69,10 +69,10 @@ impl Slot {
                 five.0,
                 ten.0,
                 fifteen.0,
-                slot.item,
+                item_number(self.item),
                 self.limit,
-                &slot.row,
-                slot.len,
+                &codes,
+                len,
             )
         };
         Refused::check(answer.refusal)?;

@@ -27,7 +27,7 @@ pub enum Requirement {
 
 impl Requirement {
     /// The flag that it asks about.
-    fn flag(self) -> Option<i32> {
+    pub(crate) fn flag(self) -> Option<i32> {
         match self {
             Self::HaveFlag(flag) | Self::MissingFlag(flag) => Some(flag),
             _ => None,
@@ -133,8 +133,7 @@ impl fmt::Debug for Shop {
 }
 
 use crossing::Given;
-pub(crate) use crossing::{Codes, Row, ShopArrays, row};
-pub(crate) use crossing::{Alone, Codes, Row, ShopArrays};
+pub(crate) use crossing::{Codes, Row, ShopArrays, item_number, requirement, row};
 
 /// Slots as the library takes them, there and back.
 mod crossing {
@@ -146,16 +145,6 @@ mod crossing {
 
     /// The codes of one slot.
     pub type Row = [u64; ENTRIES];
-
-    /// The codes of one slot.
-    pub type Row = [u64; ENTRIES];
-
-    /// One slot: no item is -1, and entries past `ENTRIES` have no place among the codes, but count.
-    pub struct Alone {
-        pub item: i32,
-        pub row: Row,
-        pub len: u8,
-    }
 
     /// A shop as four arrays: no item is -1, and a length over `ENTRIES` counts as that many entries.
     #[derive(Clone, PartialEq, Eq)]
@@ -200,7 +189,8 @@ mod crossing {
         (row, u8::try_from(requirements.len()).unwrap_or(u8::MAX))
     }
 
-    fn requirement(code: u64) -> Requirement {
+    /// The requirement that a code stands for.
+    pub fn requirement(code: u64) -> Requirement {
         let number = ((code & 0xFFFF_FFFF) as i64 - (1 << 31)) as i32;
         let id = number as u16;
         match code >> 32 {
@@ -239,18 +229,9 @@ mod crossing {
         }
     }
 
-    impl Alone {
-        pub fn new(slot: &Slot) -> Self {
-            let mut row = [0; ENTRIES];
-            for (place, entry) in row.iter_mut().zip(&slot.requirements) {
-                *place = code(*entry);
-            }
-            Self {
-                item: slot.item.map_or(-1, |item| item.0.into()),
-                row,
-                len: u8::try_from(slot.requirements.len()).unwrap_or(u8::MAX),
-            }
-        }
+    /// The number that the library takes for an item: -1 for none.
+    pub fn item_number(item: Option<Item>) -> i32 {
+        item.map_or(-1, |item| item.0.into())
     }
 
     impl Given {
@@ -271,12 +252,9 @@ mod crossing {
         /// One slot more.
         pub fn push(&mut self, slot: &Slot) {
             let i = self.count;
-            let Alone { item, row, len } = Alone::new(slot);
-            self.items[i] = item;
+            self.items[i] = item_number(slot.item);
             self.limits[i] = slot.limit;
             let (row, len) = row(&slot.requirements);
-            self.codes[ENTRIES * i..][..ENTRIES].copy_from_slice(&row);
-            self.lens[i] = len;
             self.codes[ENTRIES * i..][..ENTRIES].copy_from_slice(&row);
             self.lens[i] = len;
             self.count += 1;

@@ -104,3 +104,39 @@ fn earlier_checks_answer_first() {
         "the run would read a flag outside 0 to 2,047 (refusal 23)"
     );
 }
+
+#[test]
+fn a_walk_stops_the_lanes_that_read_a_stray_flag() {
+    // Variable 600 := flag [variable 5], then Return; the same with flag 2,048.
+    let by_variable: &[u8] = &[
+        1, 1, 2, 2, 0, 0x0B, 0xB0, 0x09, 0x0D, 0x0E, 0x0B, 0x0A, 0, 0, 0,
+    ];
+    let by_number: &[u8] = &[
+        1, 1, 2, 2, 0, 0x0B, 0xB0, 0x09, 0x0D, 0x0B, 0x80, 0x20, 0, 0, 0,
+    ];
+    let stray = Some(Refused(23));
+    let cases = [
+        (by_variable, [None, stray, None, stray, stray]),
+        (by_number, [stray; 5]),
+    ];
+    for (image, refusals) in cases {
+        let script = Script::read(image).unwrap();
+        let mut saves = [0, 2_048, 2_047, -1, i32::MIN].map(|flag| {
+            let mut save = save();
+            save.flags.fill(1);
+            save.variables[5] = flag;
+            save
+        });
+        let mut alone = saves.clone();
+        let walk = script.run_all(&sheet(), 0, &mut saves).unwrap();
+        let runs: Vec<_> = alone
+            .iter_mut()
+            .map(|save| script.run(&sheet(), 0, save, 4_096))
+            .collect();
+        assert_eq!((walk.runs, walk.read, &saves), (runs.clone(), 1, &alone));
+        for ((run, refusal), save) in runs.iter().zip(refusals).zip(&saves) {
+            let left = if refusal.is_none() { 1 } else { 5_600 };
+            assert_eq!((run.refusal, save.variables[600]), (refusal, left));
+        }
+    }
+}

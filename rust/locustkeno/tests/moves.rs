@@ -43,9 +43,14 @@ fn ran(shop: &Shop, item: u16, held: i16, budget: u32) -> (Vec<i32>, Option<Refu
 
 /// The variables that differ between runs with so many and with one more, and by how much they are lower.
 fn lower(shop: &Shop, item: u16, held: i16) -> Vec<(usize, i32)> {
+    lower_answered(shop, item, held, None)
+}
+
+/// The same, both runs being answered so.
+fn lower_answered(shop: &Shop, item: u16, held: i16, answer: Option<Refused>) -> Vec<(usize, i32)> {
     let (few, refusal, _) = ran(shop, item, held, BUDGET);
     let (more, other, _) = ran(shop, item, held + 1, BUDGET);
-    assert_eq!((refusal, other), (None, None));
+    assert_eq!((refusal, other), (answer, answer));
     let pairs = few.iter().zip(&more).enumerate();
     pairs
         .filter(|(_, (a, b))| a != b)
@@ -90,6 +95,19 @@ fn from_none_to_one() {
         first,
         [(0, 1), (604, -6), (620, 1), (621, 1), (624, -4), (625, 1)]
     );
+}
+
+#[test]
+fn a_flag_outside_the_save() {
+    // Slot 0 is written before slot 1 reads the flag; slot 2 is not reached.
+    let shop = Shop::with_slots([
+        slot(7, 3, &[]),
+        slot(7, 3, &[Requirement::HaveFlag(5_000)]),
+        slot(7, 9, &[]),
+    ]);
+    let answer = Some(Refused(23));
+    assert_eq!(lower_answered(&shop, 7, 1, answer), [(0, 1), (620, 1)]);
+    assert_eq!(lower_answered(&shop, 7, 3, answer), []);
 }
 
 #[test]

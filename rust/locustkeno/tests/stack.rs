@@ -1,6 +1,9 @@
 //! Each call on a thread with just the stack that the header promises to be enough, on the largest and nastiest scripts.
 
-use locustkeno::{Basket, Content, Edit, Item, Loader, Refused, Requirement, Rights, Save, Script, Sheet, Shop, Shopper, Slot, Tariff, USERS};
+use locustkeno::{
+    Basket, Content, Edit, Item, Loader, Refused, Requirement, Rights, Save, Script, Sheet, Shop,
+    Shopper, Slot, Tariff, USERS,
+};
 use std::thread;
 
 const KILOBYTE: usize = 1 << 10;

@@ -113,8 +113,10 @@ same-length-2 c = search needs
 returns-5 : tie.Need-returns-5
 returns-5 c =
     let a = c .before .before .before .before .before .before .before .before .before .before .before .before .before in
-    λ d e. does-as _ _ (is-if (codedIn (a .args .ws .now) (a .args .val .now) (a .args .cw .now) d e) (a .args .c) (record { 0 = commandWord (codedIn (a .args .ws .now) (a .args .val .now) (a .args .cw .now) d e) (a .args .c) 3 }) refl (c .before .before .before .before .before .match .keys4))
-    (does-out (if-exit (a .args .link) (commandWord (codedIn (a .args .ws .now) (a .args .val .now) (a .args .cw .now) d e) (a .args .c) 3) (c .before .before .before .before .before .before .word-of .result) (c .follow-link .result) (c .follow-link .ensures) (c .before .before .before .before .before .before .word-of .ensures)) (if-does (a .args .link) (rw (below-root (nodesIn (a .args .ws .now) (a .args .val .now) d) (commandWord (codedIn (a .args .ws .now) (a .args .val .now) (a .args .cw .now) d e) (a .args .c) 1)) at (c .before .evaluate-lanes .ensures d))))
+    λ d e.
+    let k = codedIn (a .args .ws .now) (a .args .val .now) (a .args .cw .now) d e in
+    let w = c .before .before .before .before .before .before .word-of in
+    does-as _ _ (is-if k (a .args .c) (record { 0 = commandWord k (a .args .c) 3 }) refl (c .before .before .before .before .before .match .keys4)) (does-out (if-exit (a .args .link) (commandWord k (a .args .c) 3) (w .result) (c .follow-link .result) (c .follow-link .ensures) (w .ensures)) (if-does (a .args .link) (rw (below-root (nodesIn (a .args .ws .now) (a .args .val .now) d) (commandWord k (a .args .c) 1)) at (c .before .evaluate-lanes .ensures d))))
 
 returns-6 : tie.Need-returns-6
 returns-6 c =

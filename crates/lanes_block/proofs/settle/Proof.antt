@@ -59,11 +59,14 @@ element-copy-out-entered c = omega (arith, c .before .before .before .lane-of .e
 
 add-entered : tie.Need-add-entered Inv-loop μ-loop
 add-entered c =
-    let s0 = c .before .before .before .before .before .before .before .before .before .before .before .before in
-    let s1 = c .before .before .before .before .before .before .before in
-    let s2 = c .before .before .before .before .before .before in
-    let s3 = c .before .before .before .before in
-    omega (arith, count-room (s0 .args .lanes .now) (s0 .args .exit) (s0 .args .out .now) (s0 .args .stops .now) (s0 .args .at .now) (s0 .args .answers .now) (s0 .args .entered .now) (s0 .args .s) (s1 .loop .j) (s1 .loop .at) (s1 .loop .answers) (s1 .loop .entered) (s0 .pre .0) (s2 .loop-test .taken) (s1 .loop .inv .1) (s0 .pre .1) (s3 .lane-of .result) (s3 .lane-of .ensures))
+    let l = c .before .before .before .before .before .before .before in
+    let a = l .before .before .before .before .before in
+    omega (
+      arith,
+      count-room (a .args .lanes .now) (a .args .exit) (a .args .out .now) (a .args .stops .now)
+          (a .args .at .now) (a .args .answers .now) (a .args .entered .now) (a .args .s) (l .loop .j) (l .loop .at) (l .loop .answers) (l .loop .entered)
+          (a .pre .0) (c .before .before .before .before .before .before .loop-test .taken) (l .loop .inv .1) (a .pre .1) (c .before .before .before .before .lane-of .result) (c .before .before .before .before .lane-of .ensures),
+    )
 
 mul-entered-2 : tie.Need-mul-entered-2 Inv-loop μ-loop
 mul-entered-2 c = omega (arith, c .before .before .before .before .lane-of .ensures, c .before .before .before .before .before .before .before .before .before .before .before .before .pre .0 .low (c .before .before .before .before .before .before .before .loop .j) (c .before .before .before .before .before .before .loop-test .taken))
@@ -79,12 +82,14 @@ loop-less c = omega arith
 
 loop-again : tie.Need-loop-again Inv-loop μ-loop
 loop-again c =
-    let s0 = c .before .before .before .before .before .before .before in
-    let s1 = c .before .before .before .before .before .before in
-    let s2 = c .before .before .before .before in
-    let a = c .before .before .before .before .before .before .before .before .before .before .before .before in
-    let f : SFits w32 (getD (a .args .out .now) (s0 .loop .j) (pos 0)) = record { sfits = c .before .before .before .choose-arg .given } in
-    (omega arith, settled-more (a .args .lanes .now) (a .args .exit) (a .args .out .now) (a .args .stops .now) (a .args .at .now) (a .args .answers .now) (a .args .entered .now) (a .args .s) (s0 .loop .j) (s0 .loop .at) (s0 .loop .answers) (s0 .loop .entered) (a .pre .0) (s1 .loop-test .taken) (s0 .loop .inv .1) (c .before .before .before .before .before .before .before .before .known .ensures .0) (c .before .before .before .before .before .before .before .before .known .ensures .1) (c .before .before .before .before .before .before .before .before .known .ensures .2) (s2 .lane-of .result) (s2 .lane-of .ensures) (c .before .choose .result) (rw (toZ-ofZ f) at (c .before .choose .ensures)))
+    let l = c .before .before .before .before .before .before .before in
+    let a = l .before .before .before .before .before in
+    let f : SFits w32 (getD (a .args .out .now) (l .loop .j) (pos 0)) = record { sfits = c .before .before .before .choose-arg .given } in (
+      omega arith,
+      settled-more (a .args .lanes .now) (a .args .exit) (a .args .out .now) (a .args .stops .now) (a .args .at .now) (a .args .answers .now) (a .args .entered .now) (a .args .s)
+          (l .loop .j) (l .loop .at) (l .loop .answers) (l .loop .entered) (a .pre .0) (c .before .before .before .before .before .before .loop-test .taken) (l .loop .inv .1)
+          (l .before .known .ensures .0) (l .before .known .ensures .1) (l .before .known .ensures .2) (c .before .before .before .before .lane-of .result) (c .before .before .before .before .lane-of .ensures) (c .before .choose .result) (rw (toZ-ofZ f) at (c .before .choose .ensures)),
+    )
 
 returns : tie.Need-returns Inv-loop μ-loop
 returns c = let a = c .before .before .before .before .before .before in settled-all (a .args .lanes .now) (a .args .exit) (a .args .out .now) (a .args .stops .now) (a .args .at .now) (a .args .answers .now) (a .args .entered .now) (a .args .s) (c .before .loop .j) (c .before .loop .at) (c .before .loop .answers) (c .before .loop .entered) (c .before .loop .inv .1) (c .before .loop .inv .0) (c .loop-test .left)

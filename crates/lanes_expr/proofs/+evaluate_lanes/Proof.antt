@@ -21,7 +21,9 @@ use Rattle.lanes_expr.proofs.apply_same_lanes.Reads as apply-same-lanes
 use Rattle.lanes_expr.proofs.apply_two_lanes.Reads as apply-two-lanes-reads
 use Rattle.lanes_expr.proofs.fill.Reads as fill-reads
 use Rattle.lanes_expr.proofs.repeated.Reads as repeated-reads
+use Rattle.lanes_expr.proofs.stop_each.Reads as stop-each-reads
 use Rattle.lanes_expr.proofs.stop_lanes.Reads as stop-lanes-reads
+use Rattle.lanes_expr.proofs.stop_same.Reads as stop-same-reads
 use Rattle.memory.proofs.kind_of.Reads as kind-of-reads
 use Rattle.lanes_expr.proofs.+evaluate_lanes.{statement}
 use Rattle.lanes_expr.proofs.+evaluate_lanes.Tie.{close}
@@ -47,7 +49,7 @@ evaluate-lanes-below t =
 
 -- what the calls ask and give, at the measure t
 abbrev evaluate-lanes-claims : ℕ → evaluate-lanes-lts.Claims
-evaluate-lanes-claims t = (stop-lanes-reads.Asked, stop-lanes-reads.Learnt, kind-of-reads.Asked, kind-of-reads.Learnt, evaluate-lanes-below t, evaluate-lanes.Post, number-below-reads.Asked, number-below-reads.Learnt, repeated-reads.Asked, repeated-reads.Learnt, apply-two-lanes-reads.Asked, apply-two-lanes-reads.Learnt, apply-same-lanes-reads.Asked, apply-same-lanes-reads.Learnt, apply-one-lanes-reads.Asked, apply-one-lanes-reads.Learnt, fill-reads.Asked, fill-reads.Learnt)
+evaluate-lanes-claims t = (stop-lanes-reads.Asked, stop-lanes-reads.Learnt, kind-of-reads.Asked, kind-of-reads.Learnt, evaluate-lanes-below t, evaluate-lanes.Post, number-below-reads.Asked, number-below-reads.Learnt, repeated-reads.Asked, repeated-reads.Learnt, apply-two-lanes-reads.Asked, apply-two-lanes-reads.Learnt, stop-same-reads.Asked, stop-same-reads.Learnt, apply-same-lanes-reads.Asked, apply-same-lanes-reads.Learnt, stop-each-reads.Asked, stop-each-reads.Learnt, apply-one-lanes-reads.Asked, apply-one-lanes-reads.Learnt, fill-reads.Asked, fill-reads.Learnt)
 
 evaluate-lanes-stop-lanes-requires : (t : ℕ) → evaluate-lanes-lts.Need-stop-lanes-requires (evaluate-lanes-claims t) (evaluate-lanes-at t) evaluate-lanes.Post
 evaluate-lanes-stop-lanes-requires t c κs = search needs
@@ -135,6 +137,9 @@ evaluate-lanes-number-below-requires-2 t c κs = search needs
 evaluate-lanes-enum-known-q-2 : (t : ℕ) → evaluate-lanes-lts.Need-enum-known-q-2 (evaluate-lanes-claims t) (evaluate-lanes-at t) evaluate-lanes.Post
 evaluate-lanes-enum-known-q-2 t c = search needs
 
+evaluate-lanes-stop-same-requires : (t : ℕ) → evaluate-lanes-lts.Need-stop-same-requires (evaluate-lanes-claims t) (evaluate-lanes-at t) evaluate-lanes.Post
+evaluate-lanes-stop-same-requires t c κs = c .before .before .before .before .before .before .before .before .before .before .before .before .before .before .before .pre .1 .1 .few
+
 evaluate-lanes-apply-same-lanes-requires :
     (t : ℕ) → evaluate-lanes-lts.Need-apply-same-lanes-requires (evaluate-lanes-claims t) (evaluate-lanes-at t) evaluate-lanes.Post
 evaluate-lanes-apply-same-lanes-requires t c κs = search needs
@@ -148,9 +153,11 @@ evaluate-lanes-evaluate-lanes-requires-3 t c κs = let s = c .before .before .be
     let p : s .args .b ≡ t = s .pre .0 in
     let l = c .before .before .before .before .before .before .before .before .before .before .before .before .if1 .left in (omega (arith, l), (omega (arith, s .pre .1 .0, l), s .pre .1 .1))
 
-evaluate-lanes-apply-one-lanes-requires :
-    (t : ℕ) → evaluate-lanes-lts.Need-apply-one-lanes-requires (evaluate-lanes-claims t) (evaluate-lanes-at t) evaluate-lanes.Post
-evaluate-lanes-apply-one-lanes-requires t c κs = search needs
+evaluate-lanes-stop-each-requires : (t : ℕ) → evaluate-lanes-lts.Need-stop-each-requires (evaluate-lanes-claims t) (evaluate-lanes-at t) evaluate-lanes.Post
+evaluate-lanes-stop-each-requires t c κs = c .before .before .before .before .before .before .before .before .before .before .before .before .before .before .before .before .before .before .pre .1 .1 .few
+
+evaluate-lanes-apply-one-lanes-requires : (t : ℕ) → evaluate-lanes-lts.Need-apply-one-lanes-requires (evaluate-lanes-claims t) (evaluate-lanes-at t) evaluate-lanes.Post
+evaluate-lanes-apply-one-lanes-requires t c κs = c .before .before .before .before .before .before .before .before .before .before .before .before .before .before .before .before .before .before .before .before .pre .1 .1
 
 evaluate-lanes-enum-told-3 : (t : ℕ) → evaluate-lanes-lts.Need-enum-told-3 (evaluate-lanes-claims t) (evaluate-lanes-at t) evaluate-lanes.Post
 evaluate-lanes-enum-told-3 t c = search needs
@@ -195,14 +202,14 @@ evaluate-lanes-returns-3 t c = let s = c .before .before .before .before .before
     (c .before .before .before .before .before .before .before .before .before .before .before .before .before .before .before .before .before .before .before .if1 .left) _ (c .before .before .before .before .before .before .before .before .before .before .before .before .before .before .before .before .before .kind-of .ensures) _ (c .before .before .before .before .before .before .before .before .before .before .before .before .before .k .given .1) (c .before .before .before .before .before .before .before .before .before .evaluate-lanes .ensures k) (c .before .before .before .evaluate-lanes2 .ensures k) (c .apply-two-lanes2 .ensures)
 
 evaluate-lanes-returns-4 : (t : ℕ) → evaluate-lanes-lts.Need-returns-4 (evaluate-lanes-claims t) (evaluate-lanes-at t) evaluate-lanes.Post
-evaluate-lanes-returns-4 t c = let s = c .before .before .before .before .before .before .before .before .before .before .before .before .before .before .before .before in
+evaluate-lanes-returns-4 t c = let s = c .before .before .before .before .before .before .before .before .before .before .before .before .before .before .before .before .before .before in
     λ k. number-done (s .args .n) (s .args .m) (value.reads (s .args .items .now) (s .args .atcs .now) (s .args .flags .now) (s .args .times .now)) (s .args .vars .now) (s .args .lanes .now) (s .args .s) (nodesIn (s .args .ws .now) (s .args .val .now) k) (s .args .b) (s .args .i)
-    (c .before .before .before .before .before .before .before .before .before .before .before .before .before .if1 .left) _ (c .before .before .before .before .before .before .before .before .before .before .before .kind-of .ensures) _ _ (c .before .before .before .before .before .before .before .k2 .given .1) (ap some (toZ-ofZ {w = w32} (record { sfits = c .before .before .known-told4 .given .0 .1 })) ∙ ap numberOf (sym (c .before .before .before .q2 .given .1)) ∙ c .before .before .before .before .before .number-below2 .ensures k) (c .apply-same-lanes .ensures)
+    (c .before .before .before .before .before .before .before .before .before .before .before .before .before .before .before .if1 .left) _ (c .before .before .before .before .before .before .before .before .before .before .before .before .before .kind-of .ensures) _ _ (c .before .before .before .before .before .before .before .before .before .k2 .given .1) (ap some (toZ-ofZ {w = w32} (record { sfits = c .before .before .before .before .known-told4 .given .0 .1 })) ∙ ap numberOf (sym (c .before .before .before .before .before .q2 .given .1)) ∙ c .before .before .before .before .before .before .before .number-below2 .ensures k) (c .before .before .stop-same .ensures) (c .apply-same-lanes .ensures)
 
 evaluate-lanes-returns-5 : (t : ℕ) → evaluate-lanes-lts.Need-returns-5 (evaluate-lanes-claims t) (evaluate-lanes-at t) evaluate-lanes.Post
-evaluate-lanes-returns-5 t c = let s = c .before .before .before .before .before .before .before .before .before .before .before .before .before .before .before .before .before .before in
+evaluate-lanes-returns-5 t c = let s = c .before .before .before .before .before .before .before .before .before .before .before .before .before .before .before .before .before .before .before .before .before in
     λ k. one-done (s .args .n) (s .args .m) (value.reads (s .args .items .now) (s .args .atcs .now) (s .args .flags .now) (s .args .times .now)) (s .args .vars .now) (s .args .lanes .now) (s .args .s) (nodesIn (s .args .ws .now) (s .args .val .now) k) (s .args .b) (s .args .i)
-    (c .before .before .before .before .before .before .before .before .before .before .before .before .before .before .before .if1 .left) _ (c .before .before .before .before .before .before .before .before .before .before .before .before .before .kind-of .ensures) _ (c .before .before .before .before .before .before .before .before .before .k2 .given .1) (c .before .before .evaluate-lanes3 .ensures k) (c .apply-one-lanes .ensures)
+    (c .before .before .before .before .before .before .before .before .before .before .before .before .before .before .before .before .before .before .if1 .left) _ (c .before .before .before .before .before .before .before .before .before .before .before .before .before .before .before .before .kind-of .ensures) _ (c .before .before .before .before .before .before .before .before .before .before .before .before .k2 .given .1) (c .before .before .before .before .before .evaluate-lanes3 .ensures k) (c .before .before .stop-each .ensures) (c .apply-one-lanes .ensures)
 
 evaluate-lanes-returns-6 : (t : ℕ) → evaluate-lanes-lts.Need-returns-6 (evaluate-lanes-claims t) (evaluate-lanes-at t) evaluate-lanes.Post
 evaluate-lanes-returns-6 t c = let s = c .before .before .before .before .before .before .before .before .before .before .before .before in λ k. imm16-done (s .args .n) (s .args .m) (value.reads (s .args .items .now) (s .args .atcs .now) (s .args .flags .now) (s .args .times .now)) (s .args .vars .now) (s .args .lanes .now) (s .args .s) (nodesIn (s .args .ws .now) (s .args .val .now) k) (s .args .b) (s .args .i)
@@ -245,9 +252,11 @@ pub +evaluate-lanes-spec : {M : Type 1} → statement M
     (evaluate-lanes-enum-known-k-2 t)
     (evaluate-lanes-number-below-requires-2 t)
     (evaluate-lanes-enum-known-q-2 t)
+    (evaluate-lanes-stop-same-requires t)
     (evaluate-lanes-apply-same-lanes-requires t)
     (evaluate-lanes-enum-told-2 t)
     (evaluate-lanes-evaluate-lanes-requires-3 t)
+    (evaluate-lanes-stop-each-requires t)
     (evaluate-lanes-apply-one-lanes-requires t)
     (evaluate-lanes-enum-told-3 t)
     (evaluate-lanes-mul-fill t)

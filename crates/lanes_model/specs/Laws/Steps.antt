@@ -10,8 +10,8 @@ use lib.ListN.{length}
 use lib.IntN.{ℤ}
 use Rattle.model.specs.Signed.{isZero}
 use Rattle.model.specs.Save.{Save}
-use Rattle.model.specs.Refusal.{budgetSpent, metOther, noNext}
-use Rattle.model.specs.Expr.{Expr, two, one, imm16, imm32, other, Value, ok, stop, andThen, eval}
+use Rattle.model.specs.Refusal.{budgetSpent, metOther, noFlag, noNext}
+use Rattle.model.specs.Expr.{Expr, two, one, imm16, imm32, other, Value, ok, stop, andThen, readable, eval}
 use Rattle.model.specs.Script.{Command, return, goto, setVariable, setOther, ifElse, endIf, otherCommand, Block, placeholder, code, dataBlock, blockAt}
 use Rattle.model.specs.Run.{Outcome, next, done, halt, follow, store, orHalt, execute, enter, step, stepBy}
 use Rattle.model.specs.Laws.Sound.{SoundBlocks}
@@ -83,12 +83,16 @@ after-stop : (H : ℕ → Type 0) (x : Value) (f : ℤ → Value) → Stops H x 
 after-stop H (ok z) f r g = g z
 after-stop H (stop n) f r g = r
 
-eval-stops : (H : ℕ → Type 0) → H metOther → (s : Save) (v : List ℤ) (e : Expr) → Stops H (eval s v e)
-eval-stops H m s v (two o a b) = after-stop H (eval s v a) _ (eval-stops H m s v a) (λ x. after-stop H (eval s v b) _ (eval-stops H m s v b) (λ y. tt))
-eval-stops H m s v (one o a) = after-stop H (eval s v a) _ (eval-stops H m s v a) (λ x. tt)
-eval-stops H m s v (imm16 z) = tt
-eval-stops H m s v (imm32 z) = tt
-eval-stops H m s v other = m
+read-stops : (H : ℕ → Type 0) → H noFlag → (b : Bool) (z : ℤ) → Stops H (cond b (ok z) (stop noFlag))
+read-stops H f true z = tt
+read-stops H f false z = f
+
+eval-stops : (H : ℕ → Type 0) → H metOther → H noFlag → (s : Save) (v : List ℤ) (e : Expr) → Stops H (eval s v e)
+eval-stops H m f s v (two o a b) = after-stop H (eval s v a) _ (eval-stops H m f s v a) (λ x. after-stop H (eval s v b) _ (eval-stops H m f s v b) (λ y. tt))
+eval-stops H m f s v (one o a) = after-stop H (eval s v a) _ (eval-stops H m f s v a) (λ x. read-stops H f (readable o x) _)
+eval-stops H m f s v (imm16 z) = tt
+eval-stops H m f s v (imm32 z) = tt
+eval-stops H m f s v other = m
 
 abbrev NotSpent : ℕ → Type 0
 NotSpent n = n ≢ budgetSpent
@@ -97,8 +101,9 @@ pub step-halts : (bs : List Block) (s : Save) (b n : ℕ) (v w : List ℤ) → s
 unfolding stepBy
 step-halts bs s b n v w e =
     let met : NotSpent metOther = λ q. omega arith in
+    let outside : NotSpent noFlag = λ q. omega arith in
     let no-next : NotSpent noNext = λ q. omega arith in
-    rw e at (enters (λ k. Unit {0}) NotSpent no-next met s (eval-stops NotSpent met s) (blockAt bs b) v (every-of (λ k. Unit {0}) (linksOf (blockAt bs b)) (λ j m. tt)))
+    rw e at (enters (λ k. Unit {0}) NotSpent no-next met s (eval-stops NotSpent met outside s) (blockAt bs b) v (every-of (λ k. Unit {0}) (linksOf (blockAt bs b)) (λ j m. tt)))
 
 -- ---- links of a judged script are blocks
 

@@ -1,10 +1,9 @@
--- `run` meets its contract: where no check refuses, the record's arrays are ready, and the blocks are run on a copy of the variables, which is written back. Assumes nothing.
+-- `run` meets its contract: where no check refuses, the record's arrays are ready and the variables are as many as the copy has. Assumes nothing.
 use Rattle.runner.proofs.Checks.{call-ready, save-room, run-refused, run-bad-save, run-checked}
-use Rattle.runner.specs.RunIn.{ranOf}
 use Rattle.shop.specs.Shapes.{sheetOf}
 use Rattle.model.specs.Memory.{memoryIn}
 use borrow.Author.Tests.{not-true, not-false}
-use mathlib.Core.Path.{ap, sym, _∙_}
+use mathlib.Core.Path.{sym, _∙_}
 use borrow.Author.Needs.{needs}
 use Rattle.runner.proofs.run.Statement.{statement}
 use Rattle.runner.proofs.run.Tie as tie
@@ -24,25 +23,16 @@ same-length c = search needs
 returns-2 : tie.Need-returns-2
 returns-2 c = run-bad-save _ _ _ _ _ _ (c .before .before .before .before .check-call .ensures) (c .before .before .before .if1 .left) (sym (c .before .check-save .ensures) ∙ not-true _ (c .if2 .taken))
 
-slice-aggregate-copy-numbers : tie.Need-slice-aggregate-copy-numbers
-slice-aggregate-copy-numbers c = search needs
-
-copy-numbers-requires : tie.Need-copy-numbers-requires
-copy-numbers-requires c κs = save-room _ _ (sym (c .before .before .before .check-save .ensures) ∙ not-false _ (c .before .before .if2 .left))
-
-run-blocks-requires : tie.Need-run-blocks-requires
-run-blocks-requires c κs =
-    let s = c .before .before .before .before .before .before .before .before .before .before .before .before .before in
-    call-ready (memoryIn (s .args .ws .now) (s .args .val .now) (s .args .cw .now) (s .args .bw .now) (s .args .counts .nodes) (s .args .counts .commands) (s .args .counts .blocks)) (sheetOf (s .args .attached .now) (s .args .sheet)) (s .args .start .0) (sym (c .before .before .before .before .before .before .before .before .before .check-call .ensures) ∙ c .before .before .before .before .before .before .before .before .if1 .left)
-
-write-back-requires : tie.Need-write-back-requires
-write-back-requires c κs = save-room _ _ (sym (c .before .before .before .before .before .before .before .before .before .check-save .ensures) ∙ not-false _ (c .before .before .before .before .before .before .before .before .if2 .left))
+run-copied-requires : tie.Need-run-copied-requires
+run-copied-requires c κs =
+    let s = c .before .before .before .before .before .before .before .before .before in
+    (call-ready (memoryIn (s .args .ws .now) (s .args .val .now) (s .args .cw .now) (s .args .bw .now) (s .args .counts .nodes) (s .args .counts .commands) (s .args .counts .blocks)) (sheetOf (s .args .attached .now) (s .args .sheet)) (s .args .start .0) (sym (c .before .before .before .before .before .check-call .ensures) ∙ c .before .before .before .before .if1 .left), save-room _ _ (sym (c .before .before .check-save .ensures) ∙ not-false _ (c .before .if2 .left)))
 
 same-length-2 : tie.Need-same-length-2
 same-length-2 c = search needs
 
 returns-3 : tie.Need-returns-3
-returns-3 c = run-checked _ _ _ _ _ _ (c .before .before .before .before .before .before .before .before .before .before .before .before .before .before .check-call .ensures) (c .before .before .before .before .before .before .before .before .before .before .before .before .before .if1 .left) _ (sym (c .before .before .before .before .before .before .before .before .before .before .before .check-save .ensures) ∙ not-false _ (c .before .before .before .before .before .before .before .before .before .before .if2 .left)) (ap (ranOf (c .before .before .before .before .run-blocks .result)) (c .before .write-back .ensures) ∙ (rw (c .before .before .before .before .before .before .before .copy-numbers .ensures) at (c .before .before .before .before .run-blocks .ensures)))
+returns-3 c = run-checked _ _ _ _ _ _ (c .before .before .before .before .before .before .before .check-call .ensures) (c .before .before .before .before .before .before .if1 .left) _ (sym (c .before .before .before .before .check-save .ensures) ∙ not-false _ (c .before .before .before .if2 .left)) (c .before .run-copied .ensures)
 
 pub run-spec : {M : Type 1} → statement M
 run-spec =
@@ -53,9 +43,6 @@ run-spec =
     check-save-requires
     same-length
     returns-2
-    slice-aggregate-copy-numbers
-    copy-numbers-requires
-    run-blocks-requires
-    write-back-requires
+    run-copied-requires
     same-length-2
     returns-3)

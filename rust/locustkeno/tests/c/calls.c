@@ -47,9 +47,12 @@ int main(void) {
     lk_written written;
     static const uint16_t prices[8] = {1, 1, 1, 1, 1, 1, 1, 1};
     static lk_lines bill;
+    static lk_checked told;
 
     lk_shop_slot(&shop, 0, 7, 3);
     expect(lk_shop_require(&shop, 0, lk_requirement(LK_MISSING_FLAG, 40)), "room for a requirement");
+    told = lk_shop_check(&sheet, &shop);
+    expect(told.refusal == LK_ACCEPTED && told.slots[0].verdict == LK_FAITHFUL && told.slots[0].limit == 3, "what is printed is what runs");
     lk_script_new(&script);
     expect(lk_script_compile(&sheet, &script, 0, &shop, LK_DISC) == LK_ACCEPTED, "compiled");
     expect(script.blocks == 26 && script.compiles == 1, "25 blocks appended");

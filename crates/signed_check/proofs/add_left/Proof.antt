@@ -1,0 +1,30 @@
+-- `add_left` meets its contract, whether the code passes or not. Assumes nothing.
+use mathlib.Core.Path.{_≡_, refl, sym, ap, _∙_}
+use Prim.Native.Nat.{ℕ, _+_}
+use native.Mathlib.Omega.{arith}
+use borrow.Author.Tests.{not-true, not-false}
+use borrow.Author.Needs.{needs}
+use Rattle.signed_check.proofs.add_left.Statement.{statement}
+use Rattle.signed_check.proofs.add_left.Tie as tie
+
+is-left-requires : tie.Need-is-left-requires
+is-left-requires c κs = search needs
+
+mul-out : tie.Need-mul-out
+mul-out c = search needs
+
+element-write-out : tie.Need-element-write-out
+element-write-out c = search needs
+
+add-result : tie.Need-add-result
+add-result c = search needs
+
+returns : tie.Need-returns
+returns c = let e = sym (c .before .is-left .ensures) ∙ c .if1 .taken in rw e (refl, refl)
+
+returns-2 : tie.Need-returns-2
+returns-2 c = let e = sym (c .before .is-left .ensures) ∙ c .if1 .left in rw e (omega arith, refl)
+
+pub add-left-spec : {M : Type 1} → statement M
+add-left-spec =
+    tie.close (tie.spec is-left-requires mul-out element-write-out add-result returns returns-2)

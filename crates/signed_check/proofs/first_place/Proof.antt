@@ -1,0 +1,91 @@
+-- `first_place` meets its contract. The loop's invariant: no code passed is such a reason. Assumes nothing.
+use mathlib.Core.Path.{_≡_, refl, sym, ap, _∙_}
+use mathlib.Core.Bool.{Bool}
+use mathlib.Core.List.{List}
+use Prim.Native.Nat.{ℕ, _-_}
+use native.Mathlib.Omega.{arith}
+use lib.ListN.{length, take}
+use lib.Seq.{length-take-le, getD-take}
+use borrow.Author.Tests.{not-true, not-false}
+use Rattle.signed_check.specs.Codes.{Passed, concernsCode, passed-found, passed-more, passed-none, passed-start, placeCode}
+use borrow.Author.Needs.{needs}
+use Rattle.signed_check.proofs.first_place.Statement.{statement}
+use Rattle.signed_check.proofs.first_place.Tie as tie
+
+abbrev Inv-loop : tie.InvT-loop
+Inv-loop row n verdict own i₀ i = Passed (concernsCode verdict own (take n row)) (take n row) i
+
+abbrev μ-loop : tie.MeasureT-loop
+μ-loop row n verdict own i₀ i = n - i
+
+-- how many codes there are
+size : (c : tie.After-capacity Inv-loop μ-loop) → length (take (c .before .args .n) (c .before .args .row .now)) ≡ c .before .args .n
+size c = length-take-le (c .before .args .n) (c .before .args .row .now) (omega (arith, c .capacity .ensures .0, c .before .pre))
+
+capacity-requires : tie.Need-capacity-requires Inv-loop μ-loop
+capacity-requires c κs = search needs
+
+loop-holds : tie.Need-loop-holds Inv-loop μ-loop
+loop-holds c = passed-start _ _
+
+cast-at : tie.Need-cast-at Inv-loop μ-loop
+cast-at c = search needs
+
+mul-concerns : tie.Need-mul-concerns Inv-loop μ-loop
+mul-concerns c = search needs
+
+element-copy-out-concerns : tie.Need-element-copy-out-concerns Inv-loop μ-loop
+element-copy-out-concerns c = search needs
+
+concerns-requires : tie.Need-concerns-requires Inv-loop μ-loop
+concerns-requires c κs = search needs
+
+returns : tie.Need-returns Inv-loop μ-loop
+unfolding placeCode
+returns c =
+    let s = c .before .before .before .before .before .before in
+    let l = c .before .before .before .before .loop in
+    let cs : List ℕ = take (s .args .n) (s .args .row .now) in
+    let p : ℕ → Bool = concernsCode (s .args .verdict) (s .args .own) cs in
+    let e = getD-take (s .args .n) (s .args .row .now) (l .i) 0 (c .before .before .before .loop-test .taken) in
+    passed-found p cs (s .args .n) (l .i) (l .inv) (omega (arith, size (c .before .before .before .before .before), c .before .before .before .loop-test .taken)) (ap p e ∙ sym (c .before .concerns .ensures) ∙ c .if1 .taken)
+
+add-i : tie.Need-add-i Inv-loop μ-loop
+add-i c = search needs
+
+loop-less : tie.Need-loop-less Inv-loop μ-loop
+loop-less c = omega arith
+
+loop-again : tie.Need-loop-again Inv-loop μ-loop
+loop-again c =
+    let s = c .before .before .before .before .before .before in
+    let l = c .before .before .before .before .loop in
+    let cs : List ℕ = take (s .args .n) (s .args .row .now) in
+    let p : ℕ → Bool = concernsCode (s .args .verdict) (s .args .own) cs in
+    let e = getD-take (s .args .n) (s .args .row .now) (l .i) 0 (c .before .before .before .loop-test .taken) in
+    passed-more p cs (l .i) (l .inv) (omega (arith, size (c .before .before .before .before .before), c .before .before .before .loop-test .taken)) (ap p e ∙ sym (c .before .concerns .ensures) ∙ c .if1 .left)
+
+returns-2 : tie.Need-returns-2 Inv-loop μ-loop
+unfolding placeCode
+returns-2 c =
+    let s = c .before .before .before in
+    let cs : List ℕ = take (s .args .n) (s .args .row .now) in
+    passed-none (concernsCode (s .args .verdict) (s .args .own) cs) cs (s .args .n) (c .before .loop .i) (c .before .loop .inv) (omega (arith, size (c .before .before), c .loop-test .left))
+
+pub first-place-spec : {M : Type 1} → statement M
+first-place-spec =
+    tie.close
+    (tie.spec
+    Inv-loop
+    μ-loop
+    capacity-requires
+    loop-holds
+    cast-at
+    mul-concerns
+    element-copy-out-concerns
+    concerns-requires
+    returns
+    add-i
+    loop-less
+    loop-again
+    returns-2)

@@ -1,0 +1,5 @@
+pub mod Codes
+pub mod Answer
+pub mod Slots
+pub mod Lefts
+pub mod Shops
