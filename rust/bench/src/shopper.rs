@@ -17,6 +17,15 @@ fn slots(many: u16, limit: i16, requirements: u16) -> Vec<Slot> {
     (0..many).map(slot).collect()
 }
 
+/// Slots of Timer5, which take the most blocks, each with as many requirements as a slot may have, none of which fails.
+fn timers() -> Vec<Slot> {
+    let slot = |slot: Slot| Slot {
+        item: Some(Item(0)),
+        ..slot
+    };
+    slots(20, 1, 14).into_iter().map(slot).collect()
+}
+
 /// What it costs that each step judges the script: runs at a block that is not there, which 6 refuses.
 fn judged(sheet: &Sheet, shop: &Shop) -> Times {
     let mut script = Script::read(&[1, 1, 1, 0, 0, 0]).expect("a Return block is a script");
@@ -45,6 +54,8 @@ pub fn all() {
         ("20 plain", slots(20, 10, 0)),
         ("20 with 3", slots(20, 10, 3)),
         ("20 with 14", slots(20, 10, 14)),
+        ("limit 1, 14", slots(20, 1, 14)),
+        ("Timer5, 14", timers()),
     ] {
         let shop = Shop::with_slots(slots);
         let shopper = || Shopper {
