@@ -118,9 +118,19 @@ pub bytes : List ℕ → List ℤ
 bytes [] = []
 bytes (n ∷ ns) = pos n ∷ bytes ns
 
--- names all that the cases compute with
+-- names all that the cases compute with: shops, saves and sheets ..
+unfoldable pub openedShops : ℕ
+unfolding sheet slotOf first with saved brief ranAt flat itemNumber readAs parsedAt nextOf oneBlock hidesUnder fills bothWays many emptyShopAt p1 timer5 p5 bytes wrap bitsOf imm size sheetOk saveOk insert sorted member settled padded limitOf commandNodes commandsNodes blockNodes blockCommands
+openedShops = 0
+
+-- .. bytes and images ..
+unfoldable pub openedImages : ℕ
+unfolding number more groups under word wordTo zig zag image blocksImage blockImage commandsImage commandImage exprImage linkImage kinds kindOf readKind readOperands readExpr readTerm setOf commandOf readCommand readCommands readCode blockOf readBlock readBlocks readBlockNo linkOf readLink ended readWithin readImage
+openedImages = 0
+
+-- .. and the calls
 unfoldable pub opened : ℕ
-unfolding sheet slotOf first with saved brief ranAt flat itemNumber readAs parsedAt nextOf oneBlock hidesUnder fills bothWays many emptyShopAt p1 timer5 p5 bytes wrap bitsOf imm size sheetOk saveOk insert sorted member settled padded limitOf commandNodes commandsNodes blockNodes blockCommands number more groups under word wordTo zig zag image blocksImage blockImage commandsImage commandImage exprImage linkImage kinds kindOf readKind readOperands readExpr readTerm setOf commandOf readCommand readCommands readCode blockOf readBlock readBlocks readBlockNo linkOf readLink ended readWithin readImage countsOk judged sharedRefusal compiled compileChecks appended redirect roomRefusal hasRoom shopBlocks slotsBlocks slotBlocks limitBlocks uniqueBlocks acquiredExpr itemTest atcTest flagTest test joinTests runBy stepBy runCheckedBy parseChecked parse parseBlock visited parseRequirements gather placeOf slots readSheet readAtcs readTimers digitsTo decimal signedDecimal letter requirementsText itemText slotLine slotLines refusedText readInput parsedText inputText
+unfolding openedShops openedImages countsOk judged sharedRefusal compiled compileChecks appended redirect roomRefusal hasRoom shopBlocks slotsBlocks slotBlocks limitBlocks uniqueBlocks acquiredExpr itemTest atcTest flagTest test joinTests runBy stepBy runCheckedBy parseChecked parse parseBlock visited parseRequirements gather placeOf slots readSheet readAtcs readTimers digitsTo decimal signedDecimal letter requirementsText itemText slotLine slotLines refusedText readInput parsedText inputText
 opened = 0
 
 -- ---- P1 to P10
