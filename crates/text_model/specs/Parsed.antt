@@ -1,26 +1,25 @@
 -- What a parse hands out can be printed, so the text that the program slots prints reads back as the slots that were parsed. Assumes nothing.
 use mathlib.Core.Path.{_≡_, refl, ap, sym, _∙_}
-use mathlib.Core.Bool.{Bool, true, false, cond, _&&_}
+use mathlib.Core.Bool.{Bool, true, false, cond}
 use mathlib.Core.Option.{Option, none, some}
 use mathlib.Core.List.{List, [], _∷_}
-use Prim.Native.Nat.{ℕ, zero, suc, _<_}
+use Prim.Native.Nat.{ℕ, zero, suc}
 use native.Mathlib.Omega.{arith}
 use lib.Dec.{ltb, leb, eqb}
 use borrow.Author.Tests.{ltb-true, lt-ltb, eq-eqb}
 use lib.ListN.{length, replicate, set}
 use lib.IntN.{ℤ, pos, negsuc}
 use mir.Syntax.{w16}
-use Rattle.model.specs.Limits.{slotCount, entryLimit, depthLimit, wide16, half16, inputLimit}
-use Rattle.model.specs.Signed.{cut16, inRange, isZero}
+use Rattle.model.specs.Limits.{slotCount, depthLimit, wide16, half16, inputLimit}
+use Rattle.model.specs.Signed.{inRange, isZero}
 use Rattle.model.specs.Expr.{Expr, two, one, imm16, imm32, other, negate}
-use Rattle.model.specs.declared.Op2.{Op2}
 use Rattle.model.specs.declared.Op1.the-variants.{Not, Flag, Variable, Item, Atc, Time}
 use Rattle.model.specs.Requirement.{Requirement}
 use Rattle.model.specs.Sheet.{Sheet, all, itemCount, sheetRefusal}
 use Rattle.model.specs.Shop.{Slot, emptySlot}
 use Rattle.model.specs.Script.{Command, return, goto, setVariable, setOther, ifElse, endIf, otherCommand, Block, placeholder, code, dataBlock, blockAt, Script}
-use Rattle.model.specs.Parse.{Place, temp, elsewhere, itemVar, countVar, Scan, State, blank, evaluateSet, fewEntries, fillItem, ifFirst, isSubtract, itemIndex, join, limitIn, newCount, newLimit, parseRequirements, place, putAt, Parsed, afterChecks, handedOut, parseBlock, parseCall, parseChecked, passedOver, parse, refuse, scan, scanOne, scanned, start, slotsAfter, updateItem, updateSlot, updateSlots, value, visited, written}
-use Rattle.model.specs.Refusal.{parseTooMany}
+use Rattle.model.specs.Parse.{Place, temp, elsewhere, itemVar, countVar, Scan, State, evaluateSet, fewEntries, fillItem, ifFirst, isSubtract, itemIndex, limitIn, newCount, newLimit, parseRequirements, place, putAt, Parsed, afterChecks, handedOut, parseBlock, parseCall, parseChecked, passedOver, parse, refuse, scan, scanOne, scanned, start, slotsAfter, updateSlot, updateSlots, value, visited, written}
+use Rattle.model.specs.Refusal.{overLimit, parseTooMany}
 use Rattle.model.specs.Reading.{Answer, got, refused}
 use Rattle.model.specs.Printer.{Input, readInput}
 use Rattle.model.specs.Printer
@@ -29,8 +28,8 @@ use Rattle.model.specs.Laws.Checked.{all-at}
 use Rattle.model.specs.Laws.Checks.{and-left, and-right, first-passed}
 use Rattle.model.specs.Laws.Judged.{accepted-held}
 use Rattle.model.specs.Laws.Sound.{SoundBlock, SoundBlocks, SoundCommand, SoundCommands}
-use Rattle.text_model.specs.Text.{ReadText, slots, bad, itemPrintable, noSlot, printable, readLines, readNatural, readNumber, readSlot, readText, reqPrintable, slotPrintable}
-use Rattle.text_model.specs.Inverse.{printed-reads}
+use Rattle.text_model.specs.Text.{slots, bad, itemPrintable, noSlot, printable, readLines, readNatural, readNumber, readSlot, readText, reqPrintable, slotPrintable}
+use Rattle.text_model.specs.Inverse.{bad≢slots, printed-reads, slots-same}
 use Rattle.text_model.specs.Fits.{both, conditionFits, condition-fits, cut-fits, extend-fits, fits-imms, immsFit, join-fits, negate-imms, numberFits}
 
 -- ---- a block's commands
@@ -153,9 +152,10 @@ module _ (h : Sheet) (rs : List Requirement) (r : all reqPrintable rs ≡ true) 
   updates-fit [] ns xs f g s = s
   updates-fit (a ∷ ms) [] xs f g s = s
   updates-fit (a ∷ ms) (b ∷ ns) [] f g s = s
-  updates-fit (a ∷ ms) (b ∷ ns) (x ∷ xs) f g s =
-      (update-fits a b x (and-left (numberFits w16 a) (all (numberFits w16) ms) f) (and-left (numberFits w16 b) (all (numberFits w16) ns) g) (s .0),
-      updates-fit ms ns xs (and-right (numberFits w16 a) (all (numberFits w16) ms) f) (and-right (numberFits w16 b) (all (numberFits w16) ns) g) (s .1))
+  updates-fit (a ∷ ms) (b ∷ ns) (x ∷ xs) f g s = (
+    update-fits a b x (and-left (numberFits w16 a) (all (numberFits w16) ms) f) (and-left (numberFits w16 b) (all (numberFits w16) ns) g) (s .0),
+    updates-fit ms ns xs (and-right (numberFits w16 a) (all (numberFits w16) ms) f) (and-right (numberFits w16 b) (all (numberFits w16) ns) g) (s .1),
+  )
 
 updates-long : (h : Sheet) (rs : List Requirement) (ms ns : List (Option ℤ)) (xs : List Slot) → length (updateSlots h rs ms ns xs) ≡ length xs
 updates-long h rs [] ns xs = refl
@@ -302,3 +302,31 @@ pub record Prints (s : List ℕ) (xs : List Slot) : Type 0 where
 pub text-reads : (s : List ℕ) (xs : List Slot) → Prints s xs → readText (Printer.slots s) ≡ slots xs
 unfolding Printer.slots Printer.inputText Printer.parsedText
 text-reads s xs k = rw (k .short, k .was, k .parsed) (printed-reads xs (parse-printable (k .input .sheet) (counted (k .input .blocks)) (k .input .setup) xs (k .parsed)))
+
+-- a refusal's line is no shop's text
+refused-bad : (n : ℕ) → readText (Printer.refusedText n) ≡ bad 1 noSlot
+unfolding readText readLines readSlot readNumber readNatural Printer.refusedText
+refused-bad n = refl
+
+refused-none : (n : ℕ) (xs : List Slot) → readText (Printer.refusedText n) ≡ slots xs → ⊥
+refused-none n xs q = bad≢slots (sym (refused-bad n) ∙ q)
+
+-- and where its text reads as slots, it refused nothing and parsed these
+pub reads-text : (s : List ℕ) (xs : List Slot) → readText (Printer.slots s) ≡ slots xs → Prints s xs
+unfolding Printer.slots Printer.inputText Printer.parsedText
+reads-text s xs q = short (leb (length s) inputLimit) refl q
+  where
+    parsed : (i : Input) (r : List ℕ) → leb (length s) inputLimit ≡ true → readInput s ≡ got i r → (n : ℕ) (ys : List Slot)
+        → parseCall (i .sheet) (counted (i .blocks)) (i .setup) ≡ record { answer = n; slots = ys } → readText (Printer.answerText n ys) ≡ slots xs → Prints s xs
+    parsed i r l e zero ys p g =
+        let same : ys ≡ xs = slots-same (sym (printed-reads ys (parse-printable (i .sheet) (counted (i .blocks)) (i .setup) ys p)) ∙ g) in
+        record { input = i; rest = r; short = l; was = e; parsed = rw (← same) p }
+    parsed i r l e (suc n) ys p g = absurd (refused-none (suc n) xs g)
+
+    read : leb (length s) inputLimit ≡ true → (a : Answer Input) → readInput s ≡ a → readText (Printer.inputText a) ≡ slots xs → Prints s xs
+    read l (got i r) e g = parsed i r l e (parseCall (i .sheet) (counted (i .blocks)) (i .setup) .answer) (parseCall (i .sheet) (counted (i .blocks)) (i .setup) .slots) refl g
+    read l (refused n) e g = absurd (refused-none n xs g)
+
+    short : (b : Bool) → leb (length s) inputLimit ≡ b → readText (cond b (Printer.inputText (readInput s)) (Printer.refusedText overLimit)) ≡ slots xs → Prints s xs
+    short true l g = read l (readInput s) refl g
+    short false l g = absurd (refused-none overLimit xs g)
