@@ -3,12 +3,15 @@ use mathlib.Core.Path.{_≡_, refl}
 use mathlib.Core.List.{List, [], _∷_}
 use mathlib.Core.Option.{some}
 use Prim.Native.Nat.{ℕ, zero, suc}
+use lib.ListN.{replicate}
 use lib.IntN.{pos, negsuc}
-use Rattle.model.specs.Limits.{entryLimit}
+use Rattle.model.specs.Limits.{entryLimit, slotCount}
 use Rattle.model.specs.Reading.{got, refused}
 use Rattle.model.specs.Requirement.{haveAtc, haveFlag, missingFlag, missingItem}
-use Rattle.model.specs.Shop.{emptySlot}
+use Rattle.model.specs.Shop.{Slot, emptySlot}
+use Rattle.model.specs.Printer.{decimal, digitsTo, itemText, requirementsText, signedDecimal, slotLine, slotLines}
 use Rattle.text_model.specs.Text.{bad, manyRequirements, moreText, noEnd, noItem, noLimit, noRequirement, noSlot, readDigits, readItem, readLines, readNatural, readNumber, readRequirement, readRequirements, readSigned, readSlot, readText, slots}
+use Rattle.text_model.specs.Inverse.{printed-reads}
 
 -- what follows "0 - 0" on a line
 abbrev then : List ℕ → List ℕ
@@ -114,3 +117,15 @@ behind-last = refl
 pub no-text : readText [] ≡ bad 1 noSlot
 unfolding readText readLines readSlot readNumber readNatural
 no-text = refl
+
+-- ---- whole texts: twenty empty slots, by reading; twenty that are as full and as wide as a slot can be, by the theorem
+
+pub all-empty : readText (slotLines 0 (replicate slotCount emptySlot)) ≡ slots (replicate slotCount emptySlot)
+unfolding readText readLines readSlot readNumber readNatural readDigits readItem readSigned readRequirements slotLines slotLine decimal digitsTo itemText signedDecimal requirementsText
+all-empty = refl
+
+abbrev fullest : Slot
+fullest = record { item = some 65535; limit = negsuc 32767; requirements = replicate entryLimit (missingFlag (negsuc 2147483647)) }
+
+pub all-full : readText (slotLines 0 (replicate slotCount fullest)) ≡ slots (replicate slotCount fullest)
+all-full = printed-reads (replicate slotCount fullest) refl
