@@ -3,7 +3,7 @@ use mathlib.Core.Path.{_≡_, refl, ap, sym, _∙_}
 use mathlib.Core.Bool.{Bool, true, false, cond}
 use mathlib.Core.Option.{Option, none, some}
 use mathlib.Core.List.{List, [], _∷_}
-use Prim.Native.Nat.{ℕ, zero, suc}
+use Prim.Native.Nat.{ℕ, zero, suc, _<_}
 use native.Mathlib.Omega.{arith}
 use lib.Dec.{ltb, leb, eqb}
 use borrow.Author.Tests.{ltb-true, lt-ltb, eq-eqb}
@@ -19,7 +19,7 @@ use Rattle.model.specs.Sheet.{Sheet, all, itemCount, sheetRefusal}
 use Rattle.model.specs.Shop.{Slot, emptySlot}
 use Rattle.model.specs.Script.{Command, return, goto, setVariable, setOther, ifElse, endIf, otherCommand, Block, placeholder, code, dataBlock, blockAt, Script}
 use Rattle.model.specs.Parse.{Place, temp, elsewhere, itemVar, countVar, Scan, State, evaluateSet, fewEntries, fillItem, ifFirst, isSubtract, itemIndex, limitIn, newCount, newLimit, parseRequirements, place, putAt, Parsed, afterChecks, handedOut, parseBlock, parseCall, parseChecked, passedOver, parse, refuse, scan, scanOne, scanned, start, slotsAfter, updateSlot, updateSlots, value, visited, written}
-use Rattle.model.specs.Refusal.{overLimit, parseTooMany}
+use Rattle.model.specs.Refusal.{overLimit, parseNotCode, parseTooMany}
 use Rattle.model.specs.Reading.{Answer, got, refused}
 use Rattle.model.specs.Printer.{Input, readInput}
 use Rattle.model.specs.Printer
@@ -171,8 +171,8 @@ record StateFits (st : State) : Type 0 where
   current : inRange w16 (st .current) ≡ true
   few : st .answer ≡ 0 → all fewEntries (st .slots) ≡ true
 
-refuse-fits : (n : ℕ) (st : State) → StateFits st → StateFits (refuse (suc n) st)
-refuse-fits n st s = record { slots = s .slots; long = s .long; current = s .current; few = λ e. absurd (omega arith) }
+refuse-fits : (n : ℕ) (st : State) → 0 < n → StateFits st → StateFits (refuse n st)
+refuse-fits n st l s = record { slots = s .slots; long = s .long; current = s .current; few = λ e. absurd (omega arith) }
 
 blank-fits : (n : ℕ) → all (numberFits w16) (replicate n none) ≡ true
 blank-fits zero = refl
@@ -211,8 +211,8 @@ module _ (h : Sheet) (bs : List Block) (w : all codeFits bs ≡ true) where
       by : ((k : ℕ) (d : Option Expr) (t : State) → conditionFits d ≡ true → StateFits t → StateFits (parseBlock h bs f k d t)) → (p : Bool) → passedOver st b ≡ p
           → (x : Block) → blockAt bs b ≡ x → codeFits (blockAt bs b) ≡ true → StateFits (parseBlock h bs (suc f) b c st)
       by ih true z x q v = rw (z, parseBlock) s
-      by ih false z placeholder q v = rw (z, q, parseBlock) (refuse-fits 9 st s)
-      by ih false z dataBlock q v = rw (z, q, parseBlock) (refuse-fits 9 st s)
+      by ih false z placeholder q v = rw (z, q, parseBlock) (refuse-fits parseNotCode st (omega arith) s)
+      by ih false z dataBlock q v = rw (z, q, parseBlock) (refuse-fits parseNotCode st (omega arith) s)
       by ih false z (code cs none el) q v = rw (z, q, parseBlock) (visited-fits h c g cs (rw q at v) b st s)
       by ih false z (code cs (some k) none) q v =
           let v′ : all commandFits cs ≡ true = rw q at v in
@@ -270,7 +270,8 @@ all-printable (x ∷ xs) s f =
 state-printable : (st : State) (xs : List Slot) → StateFits st → st .answer ≡ 0 → st .slots ≡ xs → printable xs ≡ true
 state-printable st xs s a e = rw (← e) (both (eqb (length (st .slots)) slotCount) (all slotPrintable (st .slots)) (eq-eqb (length (st .slots)) slotCount (s .long)) (all-printable (st .slots) (s .slots) (s .few a)))
 
-abbrev AsParsed : Parsed → List Slot → Type 0
+-- accepted, with these slots
+abbrev pub AsParsed : Parsed → List Slot → Type 0
 AsParsed p xs = p ≡ record { answer = 0; slots = xs }
 
 pub parse-printable : (h : Sheet) (sc : Script) (b : ℕ) (xs : List Slot) → AsParsed (parseCall h sc b) xs → printable xs ≡ true
