@@ -114,7 +114,7 @@ module _ (t : Table) (u : ℕ) where
     -- accepted
     pub shown-end : (i : ℕ) (out : Shop) → ShownUpTo first i out → slotCount ≤ i → length (first .slots) ≡ slotCount → u < userCount → record { refusal = 0; shop = out } ≡ shopShown t first u
     unfolding shopShown
-    shown-end i out k l long m = 
+    shown-end i out k l long m =
         let d : out .slots ≡ slotsShown t u 0 (first .slots) = k .is ∙ passed-all 0 i (first .slots) (omega (arith, long)) in
         rw (lt-ltb u userCount m) (ap (λ (xs : List Slot). record { refusal = 0; shop = record { slots = xs } }) d)
 
