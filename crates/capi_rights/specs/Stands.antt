@@ -1,60 +1,56 @@
--- An edit and a show of arrays are those of the shop that the arrays stand for. Assumes nothing.
+-- An edit and a show of arrays are those of the shop that the arrays stand for: of that shop as a value, and so the definitions' calls. Assumes nothing.
 use mathlib.Core.Path.{_≡_, refl, sym, ap, _∙_}
 use mathlib.Core.Bool.{Bool, true, false, cond}
-use mathlib.Core.List.{List, [], _∷_, map}
-use Prim.Native.Nat.{ℕ, zero, suc, _+_, _<_}
+use mathlib.Core.List.{List}
+use Prim.Native.Nat.{ℕ, zero, suc, _+_, _≤_, _<_}
 use native.Mathlib.Omega.{arith}
-use native.Mathlib.Decide.{ℕ-discrete}
-use lib.Dec.{ltb, eqb}
-use borrow.Author.Tests.{ne-eqb}
-use lib.ListN.{getD, length, length-map, length-set, set, List·getD-map}
-use lib.Seq.{ext-getD, getD-set-other, getD-set-same}
+use lib.Dec.{ltb}
+use lib.ListN.{getD, length, length-map}
 use Rattle.model.specs.Limits.{entryLimit, slotCount, userCount}
 use Rattle.model.specs.Refusal.{check, noUser}
 use Rattle.model.specs.Sheet as Model
-use Rattle.model.specs.Shop.{Slot, emptySlot}
-use Rattle.rights_model.specs.Rights.{Edit, Edited, Table, editCall, editRefusal, editedOf, put, showCall, shownFrom, shownOf, shownSlot}
+use Rattle.model.specs.Shop.{Slot}
+use Rattle.rights_model.specs.Rights.{Edit, Edited, Table, editCall, editRefusal, showCall}
 use Rattle.rights_model.specs.Fields.{allowed}
-use Rattle.shop.specs.Shapes.{entries, noSlot, slotOf, slotsOf}
-use Rattle.shop_arrays.specs.Arrays.{Arrays, itemFrom, shopFrom, slotAt}
+use Rattle.shop.specs.Shapes.{noShop, noSlot, slotOf, slotsOf}
+use Rattle.shop.specs.declared.Shop.{Shop}
+use Rattle.shop.specs.declared.Slot as code
+use Rattle.shop_arrays.specs.Arrays.{Arrays, itemFrom, shopFrom, slotAt, slotsFrom}
 use Rattle.shop_arrays.specs.Back.{Full}
-use Rattle.shop_arrays.specs.Slots.{slot-in, slots-long}
-use Rattle.rights.specs.Values.{contentOf, editOf}
+use Rattle.shop_arrays.specs.Slots.{shop-none, slot-in, slot-put, slots-long}
+use Rattle.rights.specs.Values.{editOf}
 use Rattle.rights.specs.InArrays.{Answer, Contents, arraysEdited, arraysShown, arraysWith, editedAs, fieldFrom, firstShown, placeFor, shownAs, slotBy}
+use Rattle.rights.specs.InShops.{answeredAs, changedSlot, shopEdited, shopShown, shopWith, slotsShown}
+use Rattle.rights.specs.ShopLaws.{edit-call, editedIs, handedOut, show-call}
+use Rattle.rights.specs.declared.Answered.{Answered}
 use Rattle.rights.specs.declared.Field.{Field}
 use Rattle.rights.specs.declared.Field.the-variants.{Item, Limit, Requirements}
 use Rattle.capi_rights.specs.Words.{changedWords, noWords, shown-first, with-full, with-other, with-own, wordsAt}
 
--- the shop that arrays stand for
+-- the shop that arrays stand for, by the definitions' slots
 abbrev pub shopIn : Arrays → List Slot
 shopIn a = slotsOf (shopFrom a)
-
--- the slot that words stand for
-abbrev pub slotIn : Contents → Slot
-slotIn x = slotOf (slotBy x)
-
-blank : slotIn noWords ≡ emptySlot
-blank = unfold slotOf entries itemFrom in refl
 
 pub shop-long : (a : Arrays) → length (shopIn a) ≡ slotCount
 unfolding slotsOf
 shop-long a = length-map (shopFrom a .slots) slotOf ∙ slots-long a
 
-pub shop-at : (a : Arrays) (i : ℕ) → i < slotCount → getD (shopIn a) i emptySlot ≡ slotIn (wordsAt a i)
-unfolding slotsOf
-shop-at a i l = ap (λ d. getD (map slotOf (shopFrom a .slots)) i d) (sym empty) ∙ List·getD-map slotOf (shopFrom a .slots) i noSlot ∙ ap slotOf (slot-in a i noSlot l ∙ words)
-  where
-    empty : slotOf noSlot ≡ emptySlot
-    empty = unfold slotOf entries in refl
+-- an answer by the shop as a value
+abbrev pub answeredIs : Answer → Answered
+answeredIs r = record { refusal = r .refusal; shop = shopFrom (r .arrays) }
 
-    words : slotAt a i ≡ slotBy (wordsAt a i)
-    words = unfold slotAt in refl
+slot-words : (a : Arrays) (i : ℕ) → slotAt a i ≡ slotBy (wordsAt a i)
+unfolding slotAt
+slot-words a i = refl
 
 -- ---- an edit
 
 -- the edit that numbers stand for
 abbrev pub editBy : ℕ → ℕ → ℕ → Contents → Edit
 editBy u i n x = editOf u (placeFor n i) (fieldFrom n) (slotBy x)
+
+abbrev pub answerIs : Answer → Edited
+answerIs r = editedIs (answeredIs r)
 
 -- the answer is that of the checks
 pub edit-answer : (t : Table) (h : Model.Sheet) (a : Arrays) (u i n : ℕ) (x : Contents) → arraysEdited t h a u i n x .refusal ≡ editRefusal t h (editBy u i n x)
@@ -65,42 +61,36 @@ edit-answer t h a u i n x = by (editRefusal t h (editBy u i n x))
     by zero = refl
     by (suc k) = refl
 
-abbrev pub answerIs : Answer → Edited
-answerIs r = record { answer = r .refusal; slots = shopIn (r .arrays) }
-
-changed-put : (f : Field) (x old : Contents) → slotIn (changedWords f x old) ≡ put (contentOf f (slotBy x)) (slotIn old)
-unfolding slotOf
-changed-put Item x old = refl
-changed-put Limit x old = refl
-changed-put Requirements x old = refl
+changed-words : (f : Field) (x old : Contents) → slotBy (changedWords f x old) ≡ changedSlot f (slotBy x) (slotBy old)
+changed-words Item x old = refl
+changed-words Limit x old = refl
+changed-words Requirements x old = refl
 
 module _ (x : Contents) (long : length (x .codes) ≡ entryLimit) (a : Arrays) (full : Full a) where
-  with-shop : (i : ℕ) → i < slotCount → (f : Field) → shopIn (arraysWith f x i a) ≡ set (shopIn a) i (put (contentOf f (slotBy x)) (getD (shopIn a) i emptySlot))
-  with-shop i low f =
-      ext-getD emptySlot (shopIn (arraysWith f x i a)) _ (shop-long (arraysWith f x i a) ∙ sym (length-set (shopIn a) i _ ∙ shop-long a))
-      (λ j l. each j (omega (arith, shop-long (arraysWith f x i a))) (ℕ-discrete j i))
+  with-shop : (i : ℕ) → i < slotCount → (f : Field) → shopFrom (arraysWith f x i a) ≡ shopWith f (slotBy x) i (shopFrom a)
+  with-shop i low f = slot-put a (arraysWith f x i a) i _ low own other
     where
-      new : Slot
-      new = put (contentOf f (slotBy x)) (getD (shopIn a) i emptySlot)
+      own : slotAt (arraysWith f x i a) i ≡ changedSlot f (slotBy x) (getD (shopFrom a .slots) i noSlot)
+      own =
+          slot-words (arraysWith f x i a) i ∙ ap slotBy (with-own x long a full i low f) ∙ changed-words f x (wordsAt a i)
+          ∙ ap (changedSlot f (slotBy x)) (sym (slot-in a i noSlot low ∙ slot-words a i))
 
-      each : (j : ℕ) → j < slotCount → Dec (j ≡ i) → getD (shopIn (arraysWith f x i a)) j emptySlot ≡ getD (set (shopIn a) i new) j emptySlot
-      each j l (yes e) =
-          rw e
-          (shop-at (arraysWith f x i a) i low ∙ ap slotIn (with-own x long a full i low f) ∙ changed-put f x (wordsAt a i)
-          ∙ ap (put (contentOf f (slotBy x))) (sym (shop-at a i low)) ∙ sym (getD-set-same (shopIn a) i new emptySlot (omega (arith, shop-long a))))
-      each j l (no d) = shop-at (arraysWith f x i a) j l ∙ ap slotIn (with-other x long a full i low f j l d) ∙ sym (shop-at a j l) ∙ sym (getD-set-other (shopIn a) i j new emptySlot d)
+      other : (j : ℕ) → j < slotCount → (j ≡ i → ⊥) → slotAt (arraysWith f x i a) j ≡ slotAt a j
+      other j l n = slot-words (arraysWith f x i a) j ∙ ap slotBy (with-other x long a full i low f j l n) ∙ sym (slot-words a j)
 
   module _ (t : Table) (h : Model.Sheet) (u i n : ℕ) where
-    pub edit-stands : answerIs (arraysEdited t h a u i n x) ≡ editCall t h (shopIn a) (editBy u i n x)
-    unfolding arraysEdited editCall
-    edit-stands = by (editRefusal t h (editBy u i n x)) refl
+    -- rights::edit_arrays answers as rights::edit does
+    pub edit-same : answeredIs (arraysEdited t h a u i n x) ≡ shopEdited t h (shopFrom a) u (placeFor n i) (fieldFrom n) (slotBy x)
+    unfolding arraysEdited shopEdited
+    edit-same = by (editRefusal t h (editBy u i n x)) refl
       where
-        new : List Slot
-        new = set (shopIn a) (placeFor n i) (put (contentOf (fieldFrom n) (slotBy x)) (getD (shopIn a) (placeFor n i) emptySlot))
-
-        by : (k : ℕ) → editRefusal t h (editBy u i n x) ≡ k → answerIs (editedAs k (arraysWith (fieldFrom n) x (placeFor n i) a) a) ≡ editedOf k new (shopIn a)
-        by zero e = ap (λ (xs : List Slot). record { answer = 0; slots = xs }) (with-shop (placeFor n i) (allowed t h (editBy u i n x) e .slot) (fieldFrom n))
+        by : (k : ℕ) → editRefusal t h (editBy u i n x) ≡ k
+            → answeredIs (editedAs k (arraysWith (fieldFrom n) x (placeFor n i) a) a) ≡ answeredAs k (shopWith (fieldFrom n) (slotBy x) (placeFor n i) (shopFrom a)) (shopFrom a)
+        by zero e = ap (λ (s : Shop). record { refusal = 0; shop = s }) (with-shop (placeFor n i) (allowed t h (editBy u i n x) e .slot) (fieldFrom n))
         by (suc k) e = refl
+
+    pub edit-stands : answerIs (arraysEdited t h a u i n x) ≡ editCall t h (shopIn a) (editBy u i n x)
+    edit-stands = ap editedIs edit-same ∙ edit-call (shopFrom a) (placeFor n i) (fieldFrom n) (slotBy x) t h u
 
     pub edit-full : Full (arraysEdited t h a u i n x .arrays)
     unfolding arraysEdited
@@ -112,43 +102,39 @@ module _ (x : Contents) (long : length (x .codes) ≡ entryLimit) (a : Arrays) (
 
 -- ---- a show
 
--- a refusal hands out nothing
 abbrev pub shownIs : Answer → Edited
-shownIs r = record { answer = r .refusal; slots = cond (eqb (r .refusal) 0) (shopIn (r .arrays)) [] }
+shownIs r = handedOut (answeredIs r)
 
-module _ (t : Table) (u : ℕ) where
-  from-long : (k : ℕ) (xs : List Slot) → length (shownFrom t u k xs) ≡ length xs
-  unfolding shownFrom
-  from-long k [] = refl
-  from-long k (x ∷ xs) = ap suc (from-long (suc k) xs)
+module _ (t : Table) (u : ℕ) (a : Arrays) (full : Full a) where
+  abbrev shown : Arrays
+  shown = firstShown t u slotCount a
 
-  from-at : (k i : ℕ) (xs : List Slot) → i < length xs → getD (shownFrom t u k xs) i emptySlot ≡ shownSlot (t u (k + i)) (getD xs i emptySlot)
-  unfolding shownFrom
-  from-at k i [] l = absurd (omega arith)
-  from-at k zero (x ∷ xs) l = let z : k + 0 ≡ k = omega arith in rw z
-  from-at k (suc i) (x ∷ xs) l = let z : k + suc i ≡ suc k + i = omega arith in rw z (from-at (suc k) i xs (omega arith))
-
-  shop-shown : (a : Arrays) → Full a → shopIn (firstShown t u slotCount a) ≡ shownFrom t u 0 (shopIn a)
-  shop-shown a full =
-      ext-getD emptySlot (shopIn shown) _ (shop-long shown ∙ sym (from-long 0 (shopIn a) ∙ shop-long a)) (λ i l. each i (omega (arith, shop-long shown)))
+  slot-shown : (i : ℕ) → i < slotCount → slotAt shown i ≡ cond (t u i .see) (slotAt a i) noSlot
+  slot-shown i l = slot-words shown i ∙ ap slotBy (shown-first t u a full slotCount i l (omega arith)) ∙ see (t u i .see)
     where
-      shown : Arrays
-      shown = firstShown t u slotCount a
+      blank : slotBy noWords ≡ noSlot
+      blank = unfold itemFrom in refl
 
-      see : (b : Bool) (x : Contents) → slotIn (cond b x noWords) ≡ cond b (slotIn x) emptySlot
-      see true x = refl
-      see false x = blank
+      see : (b : Bool) → slotBy (cond b (wordsAt a i) noWords) ≡ cond b (slotAt a i) noSlot
+      see true = sym (slot-words a i)
+      see false = blank
 
-      each : (i : ℕ) → i < slotCount → getD (shopIn shown) i emptySlot ≡ getD (shownFrom t u 0 (shopIn a)) i emptySlot
-      each i l =
-          let z : 0 + i ≡ i = omega arith in
-          shop-at shown i l ∙ ap slotIn (shown-first t u a full slotCount i l (omega arith)) ∙ see (t u i .see) (wordsAt a i)
-          ∙ sym (from-at 0 i (shopIn a) (omega (arith, shop-long a)) ∙ rw (z, shop-at a i l))
+  slots-shown : (i n : ℕ) → i + n ≤ slotCount → slotsFrom shown i n ≡ slotsShown t u i (slotsFrom a i n)
+  unfolding slotsFrom slotsShown
+  slots-shown i zero l = refl
+  slots-shown i (suc n) l = rw (slot-shown i (omega arith), slots-shown (suc i) n (omega arith))
 
-  pub show-stands : (a : Arrays) → Full a → shownIs (arraysShown t a u) ≡ showCall t (shopIn a) u
-  unfolding arraysShown showCall
-  show-stands a full = by (check (ltb u userCount) noUser)
+  -- rights::show_arrays answers as rights::show does
+  pub show-same : answeredIs (arraysShown t a u) ≡ shopShown t (shopFrom a) u
+  unfolding arraysShown shopShown
+  show-same = by (check (ltb u userCount) noUser)
     where
-      by : (k : ℕ) → shownIs (shownAs k (firstShown t u slotCount a)) ≡ shownOf k (shownFrom t u 0 (shopIn a))
-      by zero = rw (shop-shown a full)
-      by (suc k) = rw (ne-eqb (suc k) 0 (λ q. omega arith))
+      shop : shopFrom shown ≡ record { slots = slotsShown t u 0 (shopFrom a .slots) }
+      shop = unfold shopFrom in ap (λ (xs : List code.Slot). record { slots = xs }) (slots-shown 0 slotCount (omega arith))
+
+      by : (k : ℕ) → answeredIs (shownAs k shown) ≡ answeredAs k (record { slots = slotsShown t u 0 (shopFrom a .slots) }) noShop
+      by zero = ap (λ (s : Shop). record { refusal = 0; shop = s }) shop
+      by (suc k) = ap (λ (s : Shop). record { refusal = suc k; shop = s }) shop-none
+
+  pub show-stands : shownIs (arraysShown t a u) ≡ showCall t (shopIn a) u
+  show-stands = ap handedOut show-same ∙ show-call t u (shopFrom a)

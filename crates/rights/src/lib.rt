@@ -1,25 +1,31 @@
-// Edits of a shop by users with rights, and what a user is shown (02, A.7), on the arrays of a shop where they stand.
+// Edits of a shop by users with rights, and what a user is shown (02, A.7): of a shop as a value, and on the arrays of a shop where they stand.
 ghost use mathlib.Core.Path.{_≡_};
+ghost use mathlib.Core.Bool.{cond};
 ghost use Prim.Native.Nat.{_<_, _+_, _*_};
 ghost use lib.ListN.{getD, length};
 ghost use lib.Seq.{paste};
 ghost use Rattle.model.specs.Limits.{slotCount, entryLimit, userCount};
 ghost use Rattle.model.specs.Shop.{itemKnown};
 ghost use Rattle.rights_model.specs.Rights.{contentOk, editRefusal};
-ghost use Rattle.shop.specs.Shapes.{sheetOf, itemOf};
+ghost use Rattle.shop.specs.Shapes.{sheetOf, itemOf, noSlot, placed};
 ghost use Rattle.shop_arrays.specs.Arrays.{arraysIn};
 ghost use Rattle.rights.specs.Values.{bitOf, contentOf, editOf, fieldIs, tableOf, weightOf};
+ghost use Rattle.rights.specs.InShops.{changedSlot, shopEdited, shopShown};
 ghost use Rattle.rights.specs.InArrays.{arraysEdited, arraysShown, arraysWith, contents, emptied, fieldFrom, placeFor, shownAt, slotBy};
 use shop::Codes;
 use shop::ENTRIES;
 use shop::Row;
 use shop::SLOTS;
 use shop::Sheet;
+use shop::Shop;
 use shop::Slot;
 use shop::SlotItem;
 use shop::capacity;
 use shop::check_parts;
 use shop::check_sheet;
+use shop::empty_shop;
+use shop::empty_slot;
+use shop::with_slot;
 use shop_arrays::clear_arrays;
 use shop_arrays::item_at;
 
@@ -46,6 +52,12 @@ pub enum Field {
     Item,
     Limit,
     Requirements,
+}
+
+// The refusal or 0, and the shop after an edit, or as a user sees it.
+pub struct Answered {
+    pub refusal: u8,
+    pub shop: Shop,
 }
 
 // ---- rights
@@ -95,7 +107,7 @@ fn content_ok(attached: &[u8], sheet: Sheet, field: Field, content: Slot) -> boo
     }
 }
 
-// ---- edits
+// ---- edits of a shop as a value
 
 // 1, 20, 21 and 8 in that order.
 fn refusal_of(
@@ -128,7 +140,109 @@ fn refusal_of(
     0
 }
 
-// ---- on the arrays
+// The content in its field, the other fields as they were.
+fn changed(old: Slot, field: Field, content: Slot) -> Slot
+    ensures { λ r. ⌜ r ≡ changedSlot field content old ⌝ }
+{
+    match field {
+        Field::Item => {
+            let item = content.item;
+            let row = old.requirements;
+            Slot {
+                item: item,
+                limit: old.limit,
+                requirements: row,
+                len: old.len,
+            }
+        }
+        Field::Limit => {
+            let item = old.item;
+            let row = old.requirements;
+            Slot {
+                item: item,
+                limit: content.limit,
+                requirements: row,
+                len: old.len,
+            }
+        }
+        Field::Requirements => {
+            let item = old.item;
+            let row = content.requirements;
+            Slot {
+                item: item,
+                limit: old.limit,
+                requirements: row,
+                len: content.len,
+            }
+        }
+    }
+}
+
+// Refused, the shop is as it was.
+pub fn edit(
+    attached: &[u8],
+    sheet: Sheet,
+    rights: &[u8; RIGHTS],
+    shop: Shop,
+    user: u32,
+    slot: u32,
+    field: Field,
+    content: Slot,
+) -> Answered
+    ensures { λ r. ⌜ r ≡ shopEdited (tableOf (now (rights .entry))) (sheetOf (now (attached .entry)) sheet) shop user slot field content ⌝ }
+{
+    let refusal = refusal_of(attached, sheet, rights, user, slot, field, content);
+    if refusal != 0 {
+        return Answered {
+            refusal: refusal,
+            shop: shop,
+        };
+    }
+    let i = slot as usize;
+    let new = changed(shop.slots[i], field, content);
+    Answered {
+        refusal: 0,
+        shop: with_slot(shop, i, new),
+    }
+}
+
+// ---- a shop as a value shown
+
+// Slot number slot as the user sees it, the others as they are.
+fn show_slot(rights: &[u8; RIGHTS], shop: Shop, user: u32, slot: u32) -> Shop
+    requires { ⌜ (user < userCount) × (slot < slotCount) ⌝ }
+    ensures { λ r. ⌜ r ≡ cond (tableOf (now (rights .entry)) user slot .see) shop (placed shop slot noSlot) ⌝ }
+{
+    if has_right(rights, user, slot, SEE) {
+        return shop;
+    }
+    let empty = empty_slot();
+    with_slot(shop, slot as usize, empty)
+}
+
+// 20 only; refused, all slots are empty.
+pub fn show(rights: &[u8; RIGHTS], shop: Shop, user: u32) -> Answered
+    ensures { λ r. ⌜ r ≡ shopShown (tableOf (now (rights .entry))) shop user ⌝ }
+{
+    if USERS_HERE <= user {
+        return Answered {
+            refusal: 20,
+            shop: empty_shop(),
+        };
+    }
+    let mut out = shop;
+    let mut i = 0;
+    while i < SLOTS_HERE {
+        out = show_slot(rights, out, user, i);
+        i += 1;
+    }
+    Answered {
+        refusal: 0,
+        shop: out,
+    }
+}
+
+// ---- edits on the arrays
 
 // Fields by number, as programs in Rust and C give them.
 fn field_from(field: u8) -> Field
@@ -264,7 +378,7 @@ pub fn edit_arrays(
     0
 }
 
-// ---- being shown
+// ---- arrays shown
 
 // The words of slot i become those of an empty slot.
 fn empty_at(

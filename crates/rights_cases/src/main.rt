@@ -1,9 +1,13 @@
-// Edits of a shop by users with rights, and what two of them are shown (02, A.7): a line for each call of the library with its answer and the first two slots.
+// Edits of a shop by users with rights, and what two of them are shown (02, A.7): a line for each call of the library, and for each of the calls on a shop as a value, with its answer and the first two slots.
 ghost use mathlib.Core.Path.{_≡_};
 use capi_rights::lk_edit;
 use capi_rights::lk_show;
+use capi_values::sheet_by;
+use model::ItemId;
+use rights::Answered;
 use rights::CHANGE_ITEM;
 use rights::CHANGE_REQUIREMENTS;
+use rights::Field;
 use rights::RIGHTS;
 use rights::SEE;
 use shop::CODES;
@@ -11,6 +15,12 @@ use shop::Codes;
 use shop::ENTRIES;
 use shop::Row;
 use shop::SLOTS;
+use shop::Shop;
+use shop::Slot;
+use shop::SlotItem;
+use shop::empty_shop;
+use shop::with_slot;
+use shop_arrays::arrays_of;
 
 // The requirements HaveFlag 1 and HaveFlag 2 by their codes.
 const FLAG_1: u64 = 19327352833;
@@ -26,6 +36,7 @@ fn main() {
     contents(&rights);
     session(&rights, 9);
     session(&rights, -9);
+    values(&rights);
 }
 
 // ---- the cases
@@ -100,6 +111,29 @@ fn session(rights: &[u8; RIGHTS], hidden: i32) {
     show(rights, &mut items, &mut limits, &mut codes, &mut lens, 16);
 }
 
+// Shops as values: the refusals in their order, the item's right that is none for the limit, an item that is not on the sheet, then an edit that is
+// accepted, and what is shown of the shop that it answers. Slot 1, which nobody sees, holds that item from the start.
+fn values(rights: &[u8; RIGHTS]) {
+    let start = with_slot(empty_shop(), 1, new_content());
+    edited(rights, 1, start, 16, 20, Field::Item);
+    edited(rights, 2, start, 16, 20, Field::Item);
+    edited(rights, 2, start, 3, 20, Field::Item);
+    edited(rights, 2, start, 3, 0, Field::Limit);
+    edited(rights, 2, start, 3, 0, Field::Item);
+    let after = edited(rights, 2, start, 3, 0, Field::Requirements);
+    shown(rights, after, 1);
+    shown(rights, after, 16);
+}
+
+fn new_content() -> Slot {
+    Slot {
+        item: SlotItem::Of(ItemId(3)),
+        limit: 4,
+        requirements: [FLAG_1; ENTRIES],
+        len: 2,
+    }
+}
+
 // ---- a line for each
 
 fn edit(
@@ -159,6 +193,36 @@ fn show(
     put(b":");
     number(answer as u32);
     slots(items, limits, codes, lens);
+}
+
+fn edited(rights: &[u8; RIGHTS], t15: u16, shop: Shop, user: u32, slot: u32, field: Field) -> Shop {
+    put(b"value edit");
+    number(user);
+    number(slot);
+    let attached: [u8; 3] = [0; 3];
+    let sheet = sheet_by(0, 0, 1, t15);
+    let content = new_content();
+    let r = rights::edit(&attached, sheet, rights, shop, user, slot, field, content);
+    answered(r);
+    r.shop
+}
+
+fn shown(rights: &[u8; RIGHTS], shop: Shop, user: u32) {
+    put(b"value show");
+    number(user);
+    answered(rights::show(rights, shop, user));
+}
+
+fn answered(r: Answered) {
+    let mut items: [i32; SLOTS] = [-1; SLOTS];
+    let mut limits: [i16; SLOTS] = [0; SLOTS];
+    let mut codes: Codes = [0; CODES];
+    let mut lens: [u8; SLOTS] = [0; SLOTS];
+    let shop = r.shop;
+    arrays_of(shop, &mut items, &mut limits, &mut codes, &mut lens);
+    put(b":");
+    number(r.refusal as u32);
+    slots(&items, &limits, &codes, &lens);
 }
 
 // Item, limit, how many entries and the first three codes of slots 0 and 1.
