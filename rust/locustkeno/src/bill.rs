@@ -120,45 +120,19 @@ impl Save {
     /// # Ok::<(), Refused>(())
     /// ```
     pub fn bill(&self, sheet: &Sheet, tariff: &Tariff, basket: &Basket) -> Result<Bill, Refused> {
-        let mut items = [0; NUM_SLOTS];
-        let mut slots = [0; NUM_SLOTS];
-        let mut coins = [0; NUM_SLOTS];
-        let [timer5, timer10, timer15] = sheet.timers.map(|timer| timer.0);
-        // SAFETY: the slices and the arrays are as the library takes them, and none overlaps.
-        let billed = unsafe {
-            ffi::lk_bill(
-                sheet.attached.as_ptr(),
-                sheet.attached.len(),
-                sheet.atcs,
-                timer5,
-                timer10,
-                timer15,
-                self.items.as_ptr(),
-                self.items.len(),
-                self.atcs.as_ptr(),
-                self.atcs.len(),
-                self.flags.as_ptr(),
-                self.flags.len(),
-                self.times.as_ptr(),
-                self.times.len(),
-                self.variables.as_ptr(),
-                self.variables.len(),
-                tariff.prices.as_ptr(),
-                tariff.prices.len(),
-                tariff.discount,
-                &basket.0,
-                &mut items,
-                &mut slots,
-                &mut coins,
-            )
+        let mut by_item = ffi::Lines {
+            items: [0; NUM_SLOTS],
+            slots: [0; NUM_SLOTS],
+            coins: [0; NUM_SLOTS],
         };
+        let billed = ffi::bill(sheet, self, tariff, &basket.0, &mut by_item);
         let saves = std::slice::from_ref(self);
         Refused::check(billed.refusal).map_err(|refused| refused.in_saves(sheet, saves))?;
         Ok(Bill {
             lines: std::array::from_fn(|at| Line {
-                item: items[at],
-                slot: slots[at],
-                coins: coins[at],
+                item: by_item.items[at],
+                slot: by_item.slots[at],
+                coins: by_item.coins[at],
             }),
             total: billed.total,
         })

@@ -1,7 +1,7 @@
 //! What the people who sign a shop are told before it is compiled.
 
 use crate::shop::requirement;
-use crate::{Item, Refused, Requirement, Save, Sheet, Shop, Slot, ffi};
+use crate::{Refused, Requirement, Save, Sheet, Shop, Slot, ffi};
 use std::fmt;
 
 /// What is told of a slot, with the sentence to read out.
@@ -218,23 +218,8 @@ impl Shop {
     /// # Ok::<(), Refused>(())
     /// ```
     pub fn check(&self, sheet: &Sheet) -> Result<Vec<Finding>, Refused> {
-        let [Item(five), Item(ten), Item(fifteen)] = sheet.timers;
         let shop = self.arrays();
-        // SAFETY: the slice and the arrays are as the library takes them; it writes to none.
-        let answer = unsafe {
-            ffi::lk_check(
-                sheet.attached.as_ptr(),
-                sheet.attached.len(),
-                sheet.atcs,
-                five,
-                ten,
-                fifteen,
-                &shop.items,
-                &shop.limits,
-                &shop.codes,
-                &shop.lens,
-            )
-        };
+        let answer = ffi::check(sheet, shop);
         Refused::check(answer.refusal).map_err(|refused| refused.in_shop(sheet, shop))?;
         let slots = self.slots();
         let told = answer.slots.iter().zip(&slots).enumerate();

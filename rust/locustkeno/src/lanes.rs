@@ -18,12 +18,12 @@ pub struct Walk {
 /// attachments of all, and so on.
 #[derive(Debug, Default, Clone, PartialEq, Eq)]
 pub struct Saves {
-    many: u32,
-    items: Vec<i16>,
-    atcs: Vec<u8>,
-    flags: Vec<u8>,
-    times: Vec<i16>,
-    variables: Vec<i32>,
+    pub(crate) many: u32,
+    pub(crate) items: Vec<i16>,
+    pub(crate) atcs: Vec<u8>,
+    pub(crate) flags: Vec<u8>,
+    pub(crate) times: Vec<i16>,
+    pub(crate) variables: Vec<i32>,
 }
 
 impl Saves {
@@ -95,41 +95,9 @@ impl Script {
 
     /// [`Script::run_all`] of saves that lie one behind another already, which spares the copies.
     pub fn run_saves(&self, sheet: &Sheet, setup: u32, saves: &mut Saves) -> Result<Walk, Refused> {
-        let a = &self.arrays;
-        let [timer5, timer10, timer15] = sheet.timers.map(|item| item.0);
         let (mut refusals, mut entered) = ([0; LANES], [0; LANES]);
-        // SAFETY: as in `read_again`; only the variables and the two arrays are written.
-        let walked = unsafe {
-            ffi::lk_run_all(
-                sheet.attached.as_ptr(),
-                sheet.attached.len(),
-                sheet.atcs,
-                timer5,
-                timer10,
-                timer15,
-                &*a.ws,
-                &*a.val,
-                &*a.cw,
-                &*a.bw,
-                a.nodes,
-                a.commands,
-                a.blocks,
-                setup,
-                saves.many,
-                saves.items.as_ptr(),
-                saves.items.len(),
-                saves.atcs.as_ptr(),
-                saves.atcs.len(),
-                saves.flags.as_ptr(),
-                saves.flags.len(),
-                saves.times.as_ptr(),
-                saves.times.len(),
-                saves.variables.as_mut_ptr(),
-                saves.variables.len(),
-                &mut refusals,
-                &mut entered,
-            )
-        };
+        let a = &self.arrays;
+        let walked = ffi::run_all(sheet, a, setup, saves, &mut refusals, &mut entered);
         Refused::check(walked.refusal)?;
         let lane = |(refusal, entered): (&u8, &u32)| Ran {
             refusal: Refused::check(*refusal).err(),

@@ -14,9 +14,12 @@
 //! # Ok::<(), Refused>(())
 //! ```
 
+#![deny(unsafe_code)]
+
 mod arrays;
 mod bill;
 mod check;
+#[allow(unsafe_code)]
 mod ffi;
 mod lanes;
 mod moves;

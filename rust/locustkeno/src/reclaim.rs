@@ -65,23 +65,7 @@ impl Script {
     /// as it was.
     pub fn reclaim_into(&mut self, roots: &[u32], moved: &mut Moved) -> Result<(), Refused> {
         let a = &mut self.arrays;
-        // SAFETY: the slice and the arrays are as the library takes them, and none overlaps.
-        let kept = unsafe {
-            ffi::lk_reclaim(
-                &mut *a.ws,
-                &mut *a.val,
-                &mut *a.cw,
-                &mut *a.bw,
-                &mut *a.births,
-                a.nodes,
-                a.commands,
-                a.blocks,
-                a.compiles,
-                roots.as_ptr(),
-                roots.len(),
-                &mut *moved.words,
-            )
-        };
+        let kept = ffi::reclaim(a, roots, &mut moved.words);
         a.keep(kept)
     }
 }

@@ -1,7 +1,7 @@
 //! Who may edit what: rights of users in the slots of a shop, their edits, and what a user is shown.
 
-use crate::ffi::{self, RightsBytes};
-use crate::shop::{Row, item_number, row};
+use crate::ffi::{self, EditWords, RightsBytes};
+use crate::shop::{item_number, row};
 use crate::{Item, NUM_SLOTS, Refused, Requirement, Sheet, Shop};
 use std::fmt;
 
@@ -102,12 +102,20 @@ pub struct Edit {
 }
 
 impl Edit {
-    /// The field's number and its content as the library takes it; of the others it reads nothing.
-    fn numbers(&self) -> (u8, i32, i16, (Row, u8)) {
-        match &self.content {
+    /// The edit as the library takes it.
+    fn words(&self) -> EditWords {
+        let (field, item, limit, (entries, len)) = match &self.content {
             Content::Item(item) => (0, item_number(*item), 0, row(&[])),
             Content::Limit(limit) => (1, -1, *limit, row(&[])),
             Content::Requirements(requirements) => (2, -1, 0, row(requirements)),
+        };
+        EditWords {
+            slot: self.slot,
+            field,
+            item,
+            limit,
+            entries,
+            len,
         }
     }
 }
@@ -157,32 +165,11 @@ impl Shop {
         user: u32,
         edit: &Edit,
     ) -> Result<(), Refused> {
-        let [timer5, timer10, timer15] = sheet.timers.map(|item| item.0);
-        let (field, item, limit, (entries, len)) = edit.numbers();
-        let shop = self.arrays_mut();
-        // SAFETY: the slice and the arrays are as the library takes them, and none overlaps.
-        let refusal = unsafe {
-            ffi::lk_edit(
-                sheet.attached.as_ptr(),
-                sheet.attached.len(),
-                sheet.atcs,
-                timer5,
-                timer10,
-                timer15,
-                &rights.bytes,
-                &mut shop.items,
-                &mut shop.limits,
-                &mut shop.codes,
-                &mut shop.lens,
-                user,
-                edit.slot,
-                field,
-                item,
-                limit,
-                &entries,
-                len,
-            )
-        };
+        let words = edit.words();
+        let refusal = ffi::edit(sheet, &rights.bytes, self.arrays_mut(), user, &words);
+        let EditWords {
+            item, entries, len, ..
+        } = words;
         let slot = edit.slot as usize;
         Refused::check(refusal).map_err(|refused| refused.in_slot(sheet, slot, item, &entries, len))
     }
@@ -191,18 +178,7 @@ impl Shop {
     /// no such user it is refusal 20. See [`Shop::edit`] for a session.
     pub fn shown_to(&self, rights: &Rights, user: u32) -> Result<Shop, Refused> {
         let mut shown = self.clone();
-        let shop = shown.arrays_mut();
-        // SAFETY: as in `edit`.
-        let refusal = unsafe {
-            ffi::lk_show(
-                &rights.bytes,
-                &mut shop.items,
-                &mut shop.limits,
-                &mut shop.codes,
-                &mut shop.lens,
-                user,
-            )
-        };
+        let refusal = ffi::show(&rights.bytes, shown.arrays_mut(), user);
         Refused::check(refusal).map(|()| shown)
     }
 }

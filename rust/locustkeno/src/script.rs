@@ -73,18 +73,7 @@ impl Script {
     /// script has no blocks.
     pub fn read_again(&mut self, image: &[u8]) -> Result<(), Refused> {
         let a = &mut self.arrays;
-        // SAFETY: the slice and the arrays are as the library takes them, and none overlaps.
-        let kept = unsafe {
-            ffi::lk_read(
-                image.as_ptr(),
-                image.len(),
-                &mut *a.ws,
-                &mut *a.val,
-                &mut *a.cw,
-                &mut *a.bw,
-                &mut *a.births,
-            )
-        };
+        let kept = ffi::read(image, a);
         a.keep(kept)
     }
 
@@ -104,21 +93,7 @@ impl Script {
     /// Writes the image into a slice and says how long it is. A slice that is too short is refusal
     /// 16 and stays as it was; so do the bytes past the image.
     pub fn write_into(&self, out: &mut [u8]) -> Result<usize, Refused> {
-        let a = &self.arrays;
-        // SAFETY: as in `read_again`.
-        let written = unsafe {
-            ffi::lk_write(
-                &*a.ws,
-                &*a.val,
-                &*a.cw,
-                &*a.bw,
-                a.nodes,
-                a.commands,
-                a.blocks,
-                out.as_mut_ptr(),
-                out.len(),
-            )
-        };
+        let written = ffi::write(&self.arrays, out);
         Refused::check(written.refusal).map(|()| written.len)
     }
 
@@ -139,38 +114,7 @@ impl Script {
     /// # Ok::<(), Refused>(())
     /// ```
     pub fn run(&self, sheet: &Sheet, start: u32, save: &mut Save, budget: u32) -> Ran {
-        let a = &self.arrays;
-        let [timer5, timer10, timer15] = sheet.timers.map(|item| item.0);
-        // SAFETY: as in `read_again`; only the variables are written.
-        let ran = unsafe {
-            ffi::lk_run(
-                sheet.attached.as_ptr(),
-                sheet.attached.len(),
-                sheet.atcs,
-                timer5,
-                timer10,
-                timer15,
-                &*a.ws,
-                &*a.val,
-                &*a.cw,
-                &*a.bw,
-                a.nodes,
-                a.commands,
-                a.blocks,
-                start,
-                save.items.as_ptr(),
-                save.items.len(),
-                save.atcs.as_ptr(),
-                save.atcs.len(),
-                save.flags.as_ptr(),
-                save.flags.len(),
-                save.times.as_ptr(),
-                save.times.len(),
-                save.variables.as_mut_ptr(),
-                save.variables.len(),
-                budget,
-            )
-        };
+        let ran = ffi::run(sheet, &self.arrays, start, save, budget);
         Ran {
             refusal: Refused::check(ran.refusal)
                 .err()
@@ -284,66 +228,16 @@ mod shops {
             shop: &Shop,
         ) -> Result<(), Refused> {
             let a = &mut self.arrays;
-            let [timer5, timer10, timer15] = sheet.timers.map(|item| item.0);
             let arrays = shop.arrays();
-            // SAFETY: the slice and the arrays are as the library takes them, and none overlaps.
-            let kept = unsafe {
-                ffi::lk_compile(
-                    sheet.attached.as_ptr(),
-                    sheet.attached.len(),
-                    sheet.atcs,
-                    timer5,
-                    timer10,
-                    timer15,
-                    &mut *a.ws,
-                    &mut *a.val,
-                    &mut *a.cw,
-                    &mut *a.bw,
-                    &mut *a.births,
-                    a.nodes,
-                    a.commands,
-                    a.blocks,
-                    a.compiles,
-                    loader.number(),
-                    setup,
-                    &arrays.items,
-                    &arrays.limits,
-                    &arrays.codes,
-                    &arrays.lens,
-                )
-            };
+            let kept = ffi::compile(sheet, a, loader.number(), setup, arrays);
             a.keep(kept)
                 .map_err(|refused| refused.in_shop(sheet, arrays))
         }
 
         /// Reads the shop that starts at block `setup`. Requirements come out sorted, each once.
         pub fn parse(&self, sheet: &Sheet, setup: u32) -> Result<Shop, Refused> {
-            let a = &self.arrays;
-            let [timer5, timer10, timer15] = sheet.timers.map(|item| item.0);
             let mut shop = Box::new(ShopArrays::new());
-            // SAFETY: as in `compile`.
-            let refusal = unsafe {
-                ffi::lk_parse(
-                    sheet.attached.as_ptr(),
-                    sheet.attached.len(),
-                    sheet.atcs,
-                    timer5,
-                    timer10,
-                    timer15,
-                    &*a.ws,
-                    &*a.val,
-                    &*a.cw,
-                    &*a.bw,
-                    a.nodes,
-                    a.commands,
-                    a.blocks,
-                    setup,
-                    &mut shop.items,
-                    &mut shop.limits,
-                    &mut shop.codes,
-                    &mut shop.lens,
-                )
-            };
+            let refusal = ffi::parse(sheet, &self.arrays, setup, &mut shop);
             Refused::check(refusal).map(|()| Shop::from_arrays(shop))
         }
     }
@@ -358,33 +252,8 @@ mod shops {
     impl Shop {
         /// What the shop means for a save, with refusals 1, 8 and 12, and 23 where the run of the compiled shop is answered 23.
         pub fn preview(&self, sheet: &Sheet, save: &Save) -> Result<Preview, Refused> {
-            let [timer5, timer10, timer15] = sheet.timers.map(|item| item.0);
             let shop = self.arrays();
-            // SAFETY: nothing is written.
-            let seen = unsafe {
-                ffi::lk_preview(
-                    sheet.attached.as_ptr(),
-                    sheet.attached.len(),
-                    sheet.atcs,
-                    timer5,
-                    timer10,
-                    timer15,
-                    &shop.items,
-                    &shop.limits,
-                    &shop.codes,
-                    &shop.lens,
-                    save.items.as_ptr(),
-                    save.items.len(),
-                    save.atcs.as_ptr(),
-                    save.atcs.len(),
-                    save.flags.as_ptr(),
-                    save.flags.len(),
-                    save.times.as_ptr(),
-                    save.times.len(),
-                    save.variables.as_ptr(),
-                    save.variables.len(),
-                )
-            };
+            let seen = ffi::preview(sheet, shop, save);
             let saves = std::slice::from_ref(save);
             Refused::check(seen.refusal)
                 .map_err(|refused| refused.in_shop(sheet, shop).in_saves(sheet, saves))?;

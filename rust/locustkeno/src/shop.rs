@@ -1,6 +1,6 @@
 //! Requirements, slots and shops.
 
-use crate::{Atc, FLAGS, Item};
+use crate::{Atc, FLAGS, Item, ffi};
 use std::fmt;
 
 /// The number of slots in a shop.
@@ -79,7 +79,7 @@ impl Shop {
             given.push(&slot);
         }
         let mut arrays = Box::new(ShopArrays::new());
-        given.put(&mut arrays);
+        ffi::with_slots(&given, &mut arrays);
         Self { arrays }
     }
 
@@ -132,13 +132,12 @@ impl fmt::Debug for Shop {
     }
 }
 
-use crossing::Given;
-pub(crate) use crossing::{Codes, Row, ShopArrays, item_number, requirement, row};
+pub(crate) use crossing::{Codes, Given, Row, ShopArrays, item_number, requirement, row};
 
 /// Slots as the library takes them, there and back.
 mod crossing {
     use super::{ENTRIES, NUM_SLOTS, Requirement, Slot};
-    use crate::{Atc, Item, ffi};
+    use crate::{Atc, Item};
 
     /// The codes of the requirements, as many for each slot as it may be given.
     pub type Codes = [u64; NUM_SLOTS * ENTRIES];
@@ -260,25 +259,15 @@ mod crossing {
             self.count += 1;
         }
 
-        /// The twenty slots of a shop into its arrays.
-        pub fn put(&self, to: &mut ShopArrays) {
-            // SAFETY: the parts handed in lie in the arrays, the library writes to arrays of its lengths, and none overlaps.
-            unsafe {
-                ffi::lk_with_slots(
-                    self.items.as_ptr(),
-                    self.count,
-                    self.limits.as_ptr(),
-                    self.count,
-                    self.codes.as_ptr(),
-                    self.count * ENTRIES,
-                    self.lens.as_ptr(),
-                    self.count,
-                    &mut to.items,
-                    &mut to.limits,
-                    &mut to.codes,
-                    &mut to.lens,
-                );
-            }
+        /// What was given, one behind another: items, limits, codes and lengths.
+        pub fn words(&self) -> (&[i32], &[i16], &[u64], &[u8]) {
+            let count = self.count;
+            (
+                &self.items[..count],
+                &self.limits[..count],
+                &self.codes[..count * ENTRIES],
+                &self.lens[..count],
+            )
         }
     }
 }

@@ -69,41 +69,9 @@ impl Shopper {
     ) -> Result<Vec<Step>, Refused> {
         let mut answers = [0; WISHES];
         let mut coins = [0; WISHES];
-        let [timer5, timer10, timer15] = sheet.timers.map(|timer| timer.0);
-        let (arrays, save) = (shop.arrays(), &mut self.save);
-        // SAFETY: the slices and the arrays are as the library takes them, and none that is written overlaps another.
-        let shopped = unsafe {
-            ffi::lk_shopper(
-                sheet.attached.as_ptr(),
-                sheet.attached.len(),
-                sheet.atcs,
-                timer5,
-                timer10,
-                timer15,
-                &arrays.items,
-                &arrays.limits,
-                &arrays.codes,
-                &arrays.lens,
-                save.items.as_mut_ptr(),
-                save.items.len(),
-                save.atcs.as_mut_ptr(),
-                save.atcs.len(),
-                save.flags.as_ptr(),
-                save.flags.len(),
-                save.times.as_ptr(),
-                save.times.len(),
-                save.variables.as_mut_ptr(),
-                save.variables.len(),
-                tariff.prices.as_ptr(),
-                tariff.prices.len(),
-                tariff.discount,
-                self.money,
-                wishes.as_ptr(),
-                wishes.len(),
-                &mut answers,
-                &mut coins,
-            )
-        };
+        let arrays = shop.arrays();
+        let told = (&mut answers, &mut coins);
+        let shopped = ffi::shopper(sheet, arrays, self, tariff, wishes, told);
         let saves = std::slice::from_ref(&self.save);
         Refused::check(shopped.refusal)
             .map_err(|refused| refused.in_shop(sheet, arrays).in_saves(sheet, saves))?;
