@@ -83,7 +83,7 @@ fn read(case: &Case) {
         || (),
         |()| drop(black_box(image::read(black_box(&case.bytes)))),
     );
-    let mut script = Script::default();
+    let mut script = Script::empty();
     let again = time(
         40,
         || (),

@@ -58,7 +58,10 @@ fn beside(call: &str, [reclaimed, one]: [Times; 2]) {
 
 fn parse(case: &Case, [reclaimed, one]: [&Script; 2]) {
     let sheet = convert::sheet(&case.sheet);
-    let parse = |script: &Script| drop(black_box(script.parse(&sheet, 0).map(|shop| shop.slots())));
+    let parse = |script: &Script| {
+        let shop = script.parse(&sheet, 0).expect("it can be parsed");
+        black_box(shop.slots());
+    };
     let times = by_turns(20, || (), |()| parse(reclaimed), || (), |()| parse(one));
     beside("parse", times);
 }

@@ -75,9 +75,8 @@ impl Stage {
     /// A block, mostly one of the start.
     fn block(&self, random: &mut Random) -> u32 {
         let blocks = self.script.blocks();
-        let of_start: Vec<u32> = (0..blocks)
+        let of_start: Vec<u32> = (0..blocks as u32)
             .filter(|block| self.script.birth(*block) == Some(0))
-            .map(|block| block as u32)
             .collect();
         if of_start.is_empty() || random.once_in(8) {
             return random.below(blocks.max(1)) as u32;

@@ -151,8 +151,9 @@ pub fn check_survivors(
         );
         let case = || format!("block {old}, then {new}, image {:02X?}", before.write());
         tally.same("run after a reclaim", &(runs, is), &(ran, was), case);
-        let read = before.parse(&sheet_of, *old as u32);
-        let reads = after.parse(&sheet_of, *new as u32);
+        let exact = |shop| convert::exact(&shop);
+        let read = before.parse(&sheet_of, *old as u32).map(exact);
+        let reads = after.parse(&sheet_of, *new as u32).map(exact);
         let refusal = reads.as_ref().err().map_or(0, |refused| refused.number());
         tally.count("parse after a reclaim", refusal);
         tally.same("parse after a reclaim", &reads, &read, case);

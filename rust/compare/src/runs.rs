@@ -72,7 +72,7 @@ pub fn broken_sheet(random: &mut Random, mut sheet: Sheet) -> Sheet {
 
 /// Random scripts, compiled ones and changed ones, with saves that fit and saves that do not.
 pub fn random(tally: &mut Tally, random: &mut Random, count: usize) {
-    let mut script = Script::default();
+    let mut script = Script::empty();
     for index in 0..count {
         let input = parse_cases::whole(random, index % 8);
         if script.read_again(&image::write(&input.script)).is_err() {
@@ -182,7 +182,7 @@ pub fn check_meaning(
 
 /// Shops that the original compiled, run by the library and held against the meaning.
 pub fn compiled(tally: &mut Tally, random: &mut Random, count: usize) {
-    let mut script = Script::default();
+    let mut script = Script::empty();
     for _ in 0..count {
         let sheet = make::sheet(random);
         let mut maker = Maker {
@@ -232,7 +232,7 @@ pub fn operators(tally: &mut Tally, random: &mut Random) {
 /// Every small script, each with another save.
 pub fn small(tally: &mut Tally, random: &mut Random) {
     let sheet = small::sheet();
-    let mut script = Script::default();
+    let mut script = Script::empty();
     for plain in small::scripts() {
         script
             .read_again(&image::write(&plain))

@@ -251,7 +251,7 @@ pub(crate) fn slot(random: &mut Random, sheet: &Sheet) -> Slot {
 
 /// Random slots, few of them refused.
 pub fn random(tally: &mut Tally, random: &mut Random, count: usize) {
-    let mut script = Script::default();
+    let mut script = Script::empty();
     for _ in 0..count {
         let mut sheet = make::sheet(random);
         let slot = slot(random, &sheet);

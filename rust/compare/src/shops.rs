@@ -25,9 +25,10 @@ fn check_parse(
 ) {
     let ours = script
         .parse(&convert::sheet(sheet), setup)
+        .map(|shop| convert::exact(&shop))
         .map_err(|refused| refused.number());
     tally.count("parse", ours.as_ref().err().copied().unwrap_or(0));
-    let theirs = theirs.map(|slots| shop(&slots));
+    let theirs = theirs.map(|slots| convert::exact(&shop(&slots)));
     tally.same("parse", &ours, &theirs, || {
         format!(
             "setup {setup}, sheet {sheet:?}, image {:02X?}",
@@ -38,7 +39,7 @@ fn check_parse(
 
 /// Inputs of the program `slots`, those that can be read.
 pub fn parses(tally: &mut Tally, random: &mut Random, count: usize) {
-    let mut script = Script::default();
+    let mut script = Script::empty();
     for index in 0..count {
         let Ok(input) = slots::read(&parse_cases::input(random, index)) else {
             continue;
@@ -77,7 +78,7 @@ pub fn targets(tally: &mut Tally) {
 /// Every small script.
 pub fn small(tally: &mut Tally) {
     let sheet = small::sheet();
-    let mut script = Script::default();
+    let mut script = Script::empty();
     for plain in small::scripts() {
         script
             .read_again(&image::write(&plain))

@@ -103,7 +103,7 @@ impl Save {
     /// ```
     /// use locustkeno::{Basket, Item, Loader, Refusal, Refused, Save, Script, Sheet, Shop, Slot, Tariff};
     /// let sheet = Sheet::new(&[None; 8], 0, [Item(0), Item(1), Item(2)]);
-    /// let slot = |item, limit| Slot { item: Some(Item(item)), limit, requirements: vec![] };
+    /// let slot = |item, limit| Slot { item: Some(Item(item)), limit, ..Slot::new() };
     /// let mut script = Script::read(&[1, 1, 1, 0, 0, 0])?;
     /// script.compile(&sheet, Loader::Disc, 0, &Shop::with_slots([slot(5, 3), slot(4, 3)]))?;
     /// let mut save = Save::new(&sheet);

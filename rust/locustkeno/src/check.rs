@@ -106,17 +106,6 @@ impl fmt::Display for Words {
     }
 }
 
-fn negated(requirement: Requirement) -> Requirement {
-    match requirement {
-        Requirement::HaveItem(item) => Requirement::MissingItem(item),
-        Requirement::MissingItem(item) => Requirement::HaveItem(item),
-        Requirement::HaveAtc(atc) => Requirement::MissingAtc(atc),
-        Requirement::MissingAtc(atc) => Requirement::HaveAtc(atc),
-        Requirement::HaveFlag(flag) => Requirement::MissingFlag(flag),
-        Requirement::MissingFlag(flag) => Requirement::HaveFlag(flag),
-    }
-}
-
 impl fmt::Display for Finding {
     fn fmt(&self, f: &mut fmt::Formatter<'_>) -> fmt::Result {
         write!(f, "slot {}: ", self.slot)?;
@@ -126,7 +115,7 @@ impl fmt::Display for Finding {
                 acquired,
                 ..
             } => {
-                let (one, other) = (Words(*requirement), Words(negated(*requirement)));
+                let (one, other) = (Words(*requirement), Words(requirement.negate()));
                 let listed = if *acquired {
                     "listed only once acquired"
                 } else {
@@ -210,8 +199,8 @@ impl Shop {
     /// use locustkeno::Requirement::{HaveFlag, HaveItem, MissingFlag};
     /// use locustkeno::{Item, Refused, Sheet, Shop, Slot};
     /// let sheet = Sheet::new(&[None; 8], 0, [Item(0), Item(1), Item(2)]);
-    /// let pair = Slot { item: Some(Item(7)), limit: 3, requirements: vec![HaveFlag(2), MissingFlag(2)] };
-    /// let own = Slot { item: Some(Item(7)), limit: 1, requirements: vec![HaveItem(Item(7))] };
+    /// let pair = Slot { item: Some(Item(7)), limit: 3, requirements: [HaveFlag(2), MissingFlag(2)].into() };
+    /// let own = Slot { item: Some(Item(7)), limit: 1, requirements: [HaveItem(Item(7))].into() };
     /// let told = Shop::with_slots([pair, own]).check(&sheet)?;
     /// assert_eq!(told[0].to_string(), "slot 0: flag 2 and !flag 2 contradict: never listed, and the printed slot will not show it");
     /// assert!(told[1].differs());
@@ -221,8 +210,7 @@ impl Shop {
         let shop = self.arrays();
         let answer = ffi::check(sheet, shop);
         Refused::check(answer.refusal).map_err(|refused| refused.in_shop(sheet, shop))?;
-        let slots = self.slots();
-        let told = answer.slots.iter().zip(&slots).enumerate();
+        let told = answer.slots.iter().zip(self.slots()).enumerate();
         Ok(told
             .flat_map(|(slot, (told, given))| {
                 findings(told, given)

@@ -5,7 +5,7 @@
 
 use crate::arrays::{Arrays, Births, BlockWords, CommandWords, MovedWords, NodeWords, Values};
 use crate::lanes::Saves;
-use crate::{LANES, Save, Sheet};
+use crate::{BlockId, LANES, Save, Sheet};
 
 /// The refusal or 0, the kept counts of a script and the count of its accepted compiles.
 #[repr(C)]
@@ -174,7 +174,7 @@ pub fn write(a: &Arrays, out: &mut [u8]) -> Written {
 }
 
 /// Runs a script, and writes the save's variables.
-pub fn run(sheet: &Sheet, a: &Arrays, start: u32, save: &mut Save, budget: u32) -> Ran {
+pub fn run(sheet: &Sheet, a: &Arrays, start: BlockId, save: &mut Save, budget: u32) -> Ran {
     let [timer5, timer10, timer15] = sheet.timers.map(|timer| timer.0);
     // SAFETY: as in `read`; only the variables are written.
     unsafe {
@@ -192,7 +192,7 @@ pub fn run(sheet: &Sheet, a: &Arrays, start: u32, save: &mut Save, budget: u32) 
             a.nodes,
             a.commands,
             a.blocks,
-            start,
+            start.into(),
             save.items.as_ptr(),
             save.items.len(),
             save.atcs.as_ptr(),
@@ -212,7 +212,7 @@ pub fn run(sheet: &Sheet, a: &Arrays, start: u32, save: &mut Save, budget: u32) 
 pub fn run_all(
     sheet: &Sheet,
     a: &Arrays,
-    setup: u32,
+    setup: BlockId,
     saves: &mut Saves,
     refusals: &mut [u8; LANES],
     entered: &mut [u32; LANES],
@@ -234,7 +234,7 @@ pub fn run_all(
             a.nodes,
             a.commands,
             a.blocks,
-            setup,
+            setup.into(),
             saves.many,
             saves.items.as_ptr(),
             saves.items.len(),

@@ -1,6 +1,6 @@
 //! One walk for many saves.
 
-use crate::{FLAGS, Ran, Refused, Save, Script, Sheet, TIMES, VARIABLES, ffi};
+use crate::{BlockId, FLAGS, Ran, Refused, Save, Script, Sheet, TIMES, VARIABLES, ffi};
 
 /// How many saves one walk takes at most.
 pub const LANES: usize = 64;
@@ -83,7 +83,12 @@ impl Script {
     /// assert_eq!(script.run_all(&sheet, 0, &mut saves), Err(Refusal::BadSave.into()));
     /// # Ok::<(), Refused>(())
     /// ```
-    pub fn run_all(&self, sheet: &Sheet, setup: u32, saves: &mut [Save]) -> Result<Walk, Refused> {
+    pub fn run_all(
+        &self,
+        sheet: &Sheet,
+        setup: impl Into<BlockId>,
+        saves: &mut [Save],
+    ) -> Result<Walk, Refused> {
         let mut flat = Saves::of(sheet, saves);
         let walked = self.run_saves(sheet, setup, &mut flat);
         let walk = walked.map_err(|refused| refused.in_saves(sheet, saves))?;
@@ -94,10 +99,15 @@ impl Script {
     }
 
     /// [`Script::run_all`] of saves that lie one behind another already, which spares the copies.
-    pub fn run_saves(&self, sheet: &Sheet, setup: u32, saves: &mut Saves) -> Result<Walk, Refused> {
+    pub fn run_saves(
+        &self,
+        sheet: &Sheet,
+        setup: impl Into<BlockId>,
+        saves: &mut Saves,
+    ) -> Result<Walk, Refused> {
         let (mut refusals, mut entered) = ([0; LANES], [0; LANES]);
         let a = &self.arrays;
-        let walked = ffi::run_all(sheet, a, setup, saves, &mut refusals, &mut entered);
+        let walked = ffi::run_all(sheet, a, setup.into(), saves, &mut refusals, &mut entered);
         Refused::check(walked.refusal)?;
         let lane = |(refusal, entered): (&u8, &u32)| Ran {
             refusal: Refused::check(*refusal).err(),

@@ -18,6 +18,7 @@
 
 mod arrays;
 mod bill;
+mod block;
 mod check;
 #[allow(unsafe_code)]
 mod ffi;
@@ -26,6 +27,7 @@ mod moves;
 mod place;
 mod reclaim;
 mod refused;
+mod requirement;
 mod rights;
 mod room;
 mod save;
@@ -39,11 +41,13 @@ mod view;
 
 pub use arrays::{Arrays, Births, BlockWords, CommandWords, NodeWords, Values};
 pub use bill::{Basket, Bill, Line, Tariff};
+pub use block::BlockId;
 pub use check::{Finding, Found};
 pub use lanes::{LANES, Saves, Walk};
 pub use place::{Part, Place};
 pub use reclaim::Moved;
 pub use refused::{Refusal, Refused};
+pub use requirement::{Requirement, Requirements};
 pub use rights::{Content, Edit, Right, Rights, USERS};
 pub use room::{Room, Use};
 pub use save::{FLAGS, Save, TIMES, VARIABLES};
@@ -51,7 +55,7 @@ pub use script::Preview;
 pub use script::{Loader, Ran, Script};
 pub use settings::Settings;
 pub use sheet::{Atc, Item, Sheet};
-pub use shop::{ENTRIES, NUM_SLOTS, Requirement, Shop, Slot};
+pub use shop::{Codes, ENTRIES, NUM_SLOTS, Shop, ShopArrays, Slot};
 pub use shopper::{Shopper, Step, WISHES};
 pub use text::BadText;
 pub use view::{Block, Command, Expr, Op1, Op2};

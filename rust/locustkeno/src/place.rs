@@ -144,8 +144,8 @@ impl Refused {
     /// With the place in the shop, if it is the shop that is refused.
     pub(crate) fn in_shop(self, sheet: &Sheet, shop: &ShopArrays) -> Self {
         let place = |slot: usize| {
-            let row = &shop.codes[ENTRIES * slot..][..ENTRIES];
-            in_slot(sheet, slot, shop.items[slot], row, shop.lens[slot])
+            let (row, len) = shop.entries(slot);
+            in_slot(sheet, slot, shop.items[slot], row, len)
         };
         self.met(Refusal::BadShop, || (0..NUM_SLOTS).find_map(place))
     }

@@ -1,7 +1,7 @@
 //! Taking back the blocks of a script that nothing reaches.
 
 use crate::arrays::{MovedWords, zeros};
-use crate::{Refused, Script, ffi};
+use crate::{BlockId, Refused, Script, ffi};
 
 /// Where an accepted reclaim left each block.
 #[derive(Debug, Clone, PartialEq, Eq)]
@@ -12,8 +12,9 @@ pub struct Moved {
 impl Moved {
     /// The new number of the block that had this number before, or `None` where it is gone or was not
     /// there.
-    pub fn now(&self, block: u32) -> Option<u32> {
-        let word = self.words.get(usize::try_from(block).ok()?)?;
+    #[must_use]
+    pub fn now(&self, block: impl Into<BlockId>) -> Option<u32> {
+        let word = self.words.get(block.into().index())?;
         word.checked_sub(1).map(u32::from)
     }
 }
@@ -37,7 +38,7 @@ impl Script {
     /// ```
     /// use locustkeno::{Item, Loader, Refusal, Refused, Script, Sheet, Shop, Slot};
     /// let sheet = Sheet::new(&[None; 8], 0, [Item(0), Item(1), Item(2)]);
-    /// let slot = Slot { item: Some(Item(7)), limit: 3, requirements: vec![] };
+    /// let slot = Slot { item: Some(Item(7)), limit: 3, ..Slot::new() };
     /// let (empty, shop) = (Shop::with_slots([]), Shop::with_slots([slot]));
     /// // A data block, and a Return block at which a shop is compiled, and then another.
     /// let mut script = Script::read(&[2, 2, 1, 1, 0, 0, 0])?;

@@ -2,7 +2,7 @@
 
 use crate::ffi::{self, EditWords, RightsBytes};
 use crate::shop::{item_number, row};
-use crate::{Item, NUM_SLOTS, Refused, Requirement, Sheet, Shop};
+use crate::{Item, NUM_SLOTS, Refused, Requirements, Sheet, Shop};
 use std::fmt;
 
 /// Up to so many users, from 0 on, work on one shop.
@@ -91,7 +91,7 @@ pub enum Content {
     /// The limit.
     Limit(i16),
     /// The requirements, kept as they are given: repeats and order too.
-    Requirements(Vec<Requirement>),
+    Requirements(Requirements),
 }
 
 /// An edit: the new content of one field of one slot. Which field it is, the content says.
@@ -138,7 +138,7 @@ impl Shop {
     /// rights.give(clerk, 0, Right::See);
     /// rights.give(clerk, 0, Right::ChangeLimit);
     ///
-    /// let hidden = Slot { item: Some(Item(5)), limit: 9, requirements: vec![] };
+    /// let hidden = Slot { item: Some(Item(5)), limit: 9, ..Slot::new() };
     /// let mut shop = Shop::with_slots([Slot::default(), hidden.clone()]);
     /// let item = |item| Edit { slot: 0, content: Content::Item(Some(Item(item))) };
     /// let limit = |slot, limit| Edit { slot, content: Content::Limit(limit) };
@@ -151,7 +151,7 @@ impl Shop {
     /// assert_eq!(shop.edit(&sheet, &rights, clerk, &limit(1, 3)), Err(Refusal::NoRight.into()));
     /// assert_eq!(shop.edit(&sheet, &rights, 16, &item(8)), Err(Refusal::NoUser.into()));
     ///
-    /// let slot = Slot { item: Some(Item(7)), limit: 3, requirements: vec![] };
+    /// let slot = Slot { item: Some(Item(7)), limit: 3, ..Slot::new() };
     /// assert_eq!(shop.slots()[..2], [slot.clone(), hidden]);
     /// // The clerk sees slot 0 and no other, the buyer none.
     /// assert_eq!(shop.shown_to(&rights, clerk)?, Shop::with_slots([slot]));
@@ -166,7 +166,7 @@ impl Shop {
         edit: &Edit,
     ) -> Result<(), Refused> {
         let words = edit.words();
-        let refusal = ffi::edit(sheet, &rights.bytes, self.arrays_mut(), user, &words);
+        let refusal = self.change(|shop| ffi::edit(sheet, &rights.bytes, shop, user, &words));
         let EditWords {
             item, entries, len, ..
         } = words;
@@ -178,7 +178,7 @@ impl Shop {
     /// no such user it is refusal 20. See [`Shop::edit`] for a session.
     pub fn shown_to(&self, rights: &Rights, user: u32) -> Result<Shop, Refused> {
         let mut shown = self.clone();
-        let refusal = ffi::show(&rights.bytes, shown.arrays_mut(), user);
+        let refusal = shown.change(|shop| ffi::show(&rights.bytes, shop, user));
         Refused::check(refusal).map(|()| shown)
     }
 }

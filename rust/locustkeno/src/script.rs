@@ -1,7 +1,7 @@
 //! Scripts: read and written as images, compiled into, parsed and run.
 
 use crate::arrays::Arrays;
-use crate::{Refused, Save, Sheet, ffi};
+use crate::{BlockId, Refused, Save, Sheet, ffi};
 
 /// A stage script, held on the heap.
 ///
@@ -16,7 +16,7 @@ use crate::{Refused, Save, Sheet, ffi};
 /// assert_eq!(Script::read(&[0x81, 0x00]).unwrap_err(), Refusal::BadImage);
 /// # Ok::<(), Refused>(())
 /// ```
-#[derive(Clone, Default)]
+#[derive(Clone)]
 pub struct Script {
     pub(crate) arrays: Arrays,
 }
@@ -47,6 +47,27 @@ impl Loader {
 }
 
 impl Script {
+    /// A script of one block of code that returns.
+    ///
+    /// ```
+    /// use locustkeno::{Item, Loader, Refused, Script, Sheet, Shop};
+    /// let sheet = Sheet::new(&[None; 3], 0, [Item(0), Item(1), Item(2)]);
+    /// let mut script = Script::new();
+    /// script.compile(&sheet, Loader::Disc, 0, &Shop::new())?;
+    /// assert_eq!(script.blocks(), 22);
+    /// # Ok::<(), Refused>(())
+    /// ```
+    #[must_use]
+    pub fn new() -> Self {
+        Self::read(&[1, 1, 1, 0, 0, 0]).expect("it is the image of a Return")
+    }
+
+    /// A script without blocks, into which an image can be [read](Script::read_again).
+    #[must_use]
+    pub fn empty() -> Self {
+        Self::from_arrays(Arrays::default())
+    }
+
     /// Reads the image of a script, with refusals 2 to 5. An image carries no birth marks: every block
     /// that was read has mark 0, and the count of compiles starts at 0.
     ///
@@ -64,7 +85,7 @@ impl Script {
     /// # Ok::<(), Refused>(())
     /// ```
     pub fn read(image: &[u8]) -> Result<Self, Refused> {
-        let mut script = Self::default();
+        let mut script = Self::empty();
         script.read_again(image)?;
         Ok(script)
     }
@@ -113,8 +134,14 @@ impl Script {
     /// assert_eq!((ran.refusal, ran.entered), (Some(Refusal::BudgetSpent.into()), 0));
     /// # Ok::<(), Refused>(())
     /// ```
-    pub fn run(&self, sheet: &Sheet, start: u32, save: &mut Save, budget: u32) -> Ran {
-        let ran = ffi::run(sheet, &self.arrays, start, save, budget);
+    pub fn run(
+        &self,
+        sheet: &Sheet,
+        start: impl Into<BlockId>,
+        save: &mut Save,
+        budget: u32,
+    ) -> Ran {
+        let ran = ffi::run(sheet, &self.arrays, start.into(), save, budget);
         Ran {
             refusal: Refused::check(ran.refusal)
                 .err()
@@ -142,9 +169,10 @@ impl Script {
     /// assert_eq!([0, 1, 21, 22].map(|b| script.birth(b)), [Some(0), Some(1), Some(1), Some(2)]);
     /// # Ok::<(), Refused>(())
     /// ```
-    pub fn birth(&self, block: usize) -> Option<u32> {
+    #[must_use]
+    pub fn birth(&self, block: impl Into<BlockId>) -> Option<u32> {
         let marks = self.arrays.births.iter().take(self.blocks());
-        marks.copied().nth(block)
+        marks.copied().nth(block.into().index())
     }
 
     /// How many compiles were accepted since the script was read or built. At 4,294,967,295 it stays.
@@ -177,10 +205,16 @@ impl Script {
     }
 }
 
+impl Default for Script {
+    fn default() -> Self {
+        Self::new()
+    }
+}
+
 mod shops {
     use super::{Loader, Script};
     use crate::shop::{NUM_SLOTS, ShopArrays};
-    use crate::{Refused, Save, Sheet, Shop, ffi};
+    use crate::{BlockId, Refused, Save, Sheet, Shop, ffi};
 
     impl Script {
         /// Compiles a shop for a loader and links it at block `setup`. A block that a compile appended is refusal 17
@@ -189,7 +223,7 @@ mod shops {
         /// ```
         /// use locustkeno::{Item, Loader, Refusal, Refused, Save, Script, Sheet, Shop, Slot};
         /// let sheet = Sheet::new(&[None; 8], 0, [Item(0), Item(1), Item(2)]);
-        /// let slot = Slot { item: Some(Item(7)), limit: 3, requirements: vec![] };
+        /// let slot = Slot { item: Some(Item(7)), limit: 3, ..Slot::new() };
         /// let shop = Shop::with_slots([slot]);
         /// let mut script = Script::read(&[1, 1, 1, 0, 0, 0])?;
         /// script.compile(&sheet, Loader::Disc, 0, &shop)?;
@@ -224,20 +258,20 @@ mod shops {
             &mut self,
             sheet: &Sheet,
             loader: Loader,
-            setup: u32,
+            setup: impl Into<BlockId>,
             shop: &Shop,
         ) -> Result<(), Refused> {
             let a = &mut self.arrays;
             let arrays = shop.arrays();
-            let kept = ffi::compile(sheet, a, loader.number(), setup, arrays);
+            let kept = ffi::compile(sheet, a, loader.number(), setup.into(), arrays);
             a.keep(kept)
                 .map_err(|refused| refused.in_shop(sheet, arrays))
         }
 
         /// Reads the shop that starts at block `setup`. Requirements come out sorted, each once.
-        pub fn parse(&self, sheet: &Sheet, setup: u32) -> Result<Shop, Refused> {
+        pub fn parse(&self, sheet: &Sheet, setup: impl Into<BlockId>) -> Result<Shop, Refused> {
             let mut shop = Box::new(ShopArrays::new());
-            let refusal = ffi::parse(sheet, &self.arrays, setup, &mut shop);
+            let refusal = ffi::parse(sheet, &self.arrays, setup.into(), &mut shop);
             Refused::check(refusal).map(|()| Shop::from_arrays(shop))
         }
     }

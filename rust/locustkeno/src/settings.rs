@@ -50,7 +50,7 @@ impl Slot {
     /// let slot = Slot { item: Some(Item(7)), limit: 3, requirements: (0..10).map(Requirement::HaveFlag).collect() };
     /// assert_eq!(slot.settings(&sheet)?.to_string(), "listed in 1 of 1,024 settings");
     /// // At limit 1 the item itself is a subject: held, the slot is listed whatever the flag is.
-    /// let slot = Slot { item: Some(Item(7)), limit: 1, requirements: vec![Requirement::HaveFlag(4)] };
+    /// let slot = Slot { item: Some(Item(7)), limit: 1, requirements: [Requirement::HaveFlag(4)].into() };
     /// let settings = slot.settings(&sheet)?;
     /// assert_eq!((settings.subjects, settings.listed, settings.hidden), (2, 3, 1));
     /// let slot = Slot { item: Some(Item(8)), ..slot };

@@ -34,7 +34,7 @@ impl Step {
 /// ```
 /// use locustkeno::{Item, Refusal, Refused, Save, Sheet, Shop, Shopper, Slot, Step, Tariff};
 /// let sheet = Sheet::new(&[None; 8], 0, [Item(0), Item(1), Item(2)]);
-/// let slot = |item, limit| Slot { item: Some(Item(item)), limit, requirements: vec![] };
+/// let slot = |item, limit| Slot { item: Some(Item(item)), limit, ..Slot::new() };
 /// let shop = Shop::with_slots([slot(5, 2), slot(6, 1)]);
 /// // Each piece costs 40 coins, a quarter less today.
 /// let tariff = Tariff::new([40; 8], 250);

@@ -142,7 +142,7 @@ fn what_a_run_left_can_be_taken_whole() {
     let slot = |item, limit| Slot {
         item: Some(Item(item)),
         limit,
-        requirements: vec![],
+        requirements: [].into(),
     };
     let shop = Shop::with_slots([slot(7, 10), slot(3, 1), slot(5, 4)]);
     let mut script = Script::read(&[1, 1, 1, 0, 0, 0]).unwrap();

@@ -14,7 +14,7 @@ fn of_item(item: u16) -> Shop {
     Shop::with_slots([Slot {
         item: Some(Item(item)),
         limit: 1,
-        requirements: vec![],
+        requirements: [].into(),
     }])
 }
 
@@ -110,5 +110,5 @@ fn an_image_starts_anew() {
     assert_eq!((again.birth(2), again.compiles()), (Some(0), 1));
     // Refused, nothing is handed out.
     assert_eq!(again.read_again(&image[1..]), Err(Refusal::BadImage.into()));
-    assert!(again == Script::default());
+    assert!(again == Script::empty());
 }

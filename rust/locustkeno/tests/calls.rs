@@ -69,7 +69,7 @@ fn refused_reads() {
     assert_eq!(Script::read(cut_short).unwrap_err(), Refusal::BadImage);
     let mut script = Script::read(&deep()).unwrap();
     assert_eq!(script.read_again(cut_short), Err(Refusal::BadImage.into()));
-    assert_eq!(script, Script::default());
+    assert_eq!(script, Script::empty());
 }
 
 #[test]

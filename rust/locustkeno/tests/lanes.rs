@@ -19,13 +19,16 @@ fn sheet() -> Sheet {
 
 /// Twenty slots: two kinds of limit, a timer, an attachment, and requirements that the saves meet by turns.
 fn shop() -> Shop {
-    Shop::with_slots((0..20).map(|i| Slot {
-        item: Some(Item(1 + i % 7)),
-        limit: if i % 3 == 0 { 1 } else { 9 },
-        requirements: vec![
-            Requirement::HaveFlag(i32::from(i % 5)),
-            Requirement::MissingItem(Item(i % 4)),
-        ],
+    Shop::with_slots((0..20).map(|i| {
+        Slot {
+            item: Some(Item(1 + i % 7)),
+            limit: if i % 3 == 0 { 1 } else { 9 },
+            requirements: [
+                Requirement::HaveFlag(i32::from(i % 5)),
+                Requirement::MissingItem(Item(i % 4)),
+            ]
+            .into(),
+        }
     }))
 }
 

@@ -21,7 +21,7 @@ fn slot(item: u16, limit: i16, requirements: &[Requirement]) -> Slot {
     Slot {
         item: Some(Item(item)),
         limit,
-        requirements: requirements.to_vec(),
+        requirements: requirements.into(),
     }
 }
 
@@ -96,7 +96,7 @@ fn eighteen() {
     }
     refused(&mut script, &[0; ROOTS + 1], 18);
     refused(&mut script, &vec![0; 70_000], 18);
-    refused(&mut Script::default(), &[0], 18);
+    refused(&mut Script::empty(), &[0], 18);
 }
 
 #[test]
@@ -135,7 +135,7 @@ fn no_roots_leave_no_block() {
         (a.nodes, a.commands, a.blocks) = (before.nodes, before.commands, before.blocks);
     });
     assert_eq!(*emptied.arrays(), before);
-    assert_eq!(Script::default().reclaim(&[]), Ok(Moved::default()));
+    assert_eq!(Script::empty().reclaim(&[]), Ok(Moved::default()));
 }
 
 #[test]

@@ -143,7 +143,7 @@ fn every_call_of_a_shop_tells_the_place() {
 fn an_edit_and_a_slot_tell_the_place() {
     let mut rights = Rights::default();
     rights.give(0, 4, Right::ChangeRequirements);
-    let content = Content::Requirements(vec![HaveFlag(1), HaveAtc(Atc(1)), HaveAtc(Atc(2))]);
+    let content = Content::Requirements([HaveFlag(1), HaveAtc(Atc(1)), HaveAtc(Atc(2))].into());
     let edit = Edit { slot: 4, content };
     let mut shop = Shop::with_slots([]);
     let refused = shop.edit(&sheet(), &rights, 0, &edit).unwrap_err();

@@ -38,8 +38,14 @@ fn limit(slot: u32, limit: i16) -> Edit {
 }
 
 fn requirements(slot: u32, entries: &[Requirement]) -> Edit {
-    let content = Content::Requirements(entries.to_vec());
+    let content = Content::Requirements(entries.into());
     Edit { slot, content }
+}
+
+/// The same shop in every word and in the order of its entries.
+fn exactly(one: &Shop, other: &Shop) {
+    assert_eq!(one.arrays(), other.arrays());
+    assert_eq!(format!("{one:?}"), format!("{other:?}"));
 }
 
 /// Every slot is full and bad: an item that no sheet has, and an entry for an atc that the sheet has not.
@@ -47,7 +53,7 @@ fn bad_shop() -> Shop {
     let slot = |i: usize| Slot {
         item: Some(Item(60_000)),
         limit: i as i16,
-        requirements: vec![Requirement::HaveAtc(Atc(9)); i % 15],
+        requirements: vec![Requirement::HaveAtc(Atc(9)); i % 15].into(),
     };
     Shop::with_slots((0..NUM_SLOTS).map(slot))
 }
@@ -115,7 +121,7 @@ fn own_rights() {
 fn nothing_else() {
     for slot in 0..NUM_SLOTS as u32 {
         let mut shop = bad_shop();
-        let mut slots = shop.slots();
+        let mut slots = shop.slots().to_vec();
         shop.edit(
             &sheet(),
             &one(0, slot, Right::ChangeLimit),
@@ -124,7 +130,7 @@ fn nothing_else() {
         )
         .unwrap();
         slots[slot as usize].limit = -7;
-        assert_eq!(shop.slots(), slots);
+        exactly(&shop, &Shop::with_slots(slots.clone()));
         shop.edit(
             &sheet(),
             &one(0, slot, Right::ChangeItem),
@@ -133,13 +139,13 @@ fn nothing_else() {
         )
         .unwrap();
         slots[slot as usize].item = Some(Item(2));
-        assert_eq!(shop.slots(), slots);
+        exactly(&shop, &Shop::with_slots(slots.clone()));
         let given = [2, 1, 1].map(Requirement::HaveFlag);
         let rights = one(0, slot, Right::ChangeRequirements);
         shop.edit(&sheet(), &rights, 0, &requirements(slot, &given))
             .unwrap();
-        slots[slot as usize].requirements = given.to_vec();
-        assert_eq!(shop.slots(), slots);
+        slots[slot as usize].requirements = given.into();
+        exactly(&shop, &Shop::with_slots(slots.clone()));
     }
 }
 
@@ -195,17 +201,17 @@ fn shown() {
             }
         }
     }
-    let mut slots = bad_shop().slots();
+    let mut slots = bad_shop().slots().to_vec();
     for (i, slot) in slots.iter_mut().enumerate() {
         if i % 3 != 0 {
             *slot = Slot::default();
         }
     }
     let seen = bad_shop().shown_to(&rights, 9).unwrap();
-    assert_eq!(seen, Shop::with_slots(slots));
+    exactly(&seen, &Shop::with_slots(slots));
     for user in (0..USERS as u32).filter(|user| *user != 9) {
         let seen = bad_shop().shown_to(&rights, user).unwrap();
-        assert_eq!(seen, Shop::with_slots([]));
+        exactly(&seen, &Shop::new());
     }
 }
 
@@ -217,7 +223,7 @@ fn hidden_stays_hidden() {
         rights.give(3, slot, right);
     }
     let start = |item, count| {
-        let requirements = vec![Requirement::HaveAtc(Atc(9)); count];
+        let requirements = vec![Requirement::HaveAtc(Atc(9)); count].into();
         let hidden = Slot {
             item,
             limit: 1,
@@ -250,11 +256,8 @@ fn hidden_stays_hidden() {
 #[test]
 fn any_table() {
     let rights = Rights::from_bytes([0xF0; USERS * NUM_SLOTS]);
-    assert_eq!(
-        bad_shop().shown_to(&rights, 0).unwrap(),
-        Shop::with_slots([])
-    );
+    exactly(&bad_shop().shown_to(&rights, 0).unwrap(), &Shop::new());
     let rights = Rights::from_bytes([0xFF; USERS * NUM_SLOTS]);
-    assert_eq!(bad_shop().shown_to(&rights, 15).unwrap(), bad_shop());
+    exactly(&bad_shop().shown_to(&rights, 15).unwrap(), &bad_shop());
     assert_eq!(bad_shop().edit(&sheet(), &rights, 15, &item(0, 1)), Ok(()));
 }

@@ -14,7 +14,7 @@ fn slot(item: u16, limit: i16, requirements: &[Requirement]) -> Slot {
     Slot {
         item: Some(Item(item)),
         limit,
-        requirements: requirements.to_vec(),
+        requirements: requirements.into(),
     }
 }
 

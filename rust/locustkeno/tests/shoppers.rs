@@ -16,7 +16,7 @@ fn slot(item: u16, limit: i16, requirements: Vec<Requirement>) -> Slot {
     Slot {
         item: Some(Item(item)),
         limit,
-        requirements,
+        requirements: requirements.into(),
     }
 }
 

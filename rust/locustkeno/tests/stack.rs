@@ -95,7 +95,7 @@ fn downwards() -> Vec<u8> {
 /// Commands that all blocks share, over nodes that all commands share: judged step by step, and written apart they are nearly as
 /// many as a script may have.
 fn webbed() -> Script {
-    let mut arrays = Script::default().arrays().clone();
+    let mut arrays = Script::empty().arrays().clone();
     arrays.ws[0] = 11;
     for node in 1..15 {
         let below = node as u16 - 1;
@@ -158,7 +158,7 @@ fn scripts_are_judged_fine() {
 #[test]
 fn read() {
     for image in [deep(), largest(), conditions()] {
-        let mut script = Script::default();
+        let mut script = Script::empty();
         on_stack(READ, || script.read_again(&image).unwrap());
     }
 }
@@ -193,7 +193,7 @@ fn compile() {
     let slot = Slot {
         item: Some(Item(0)),
         limit: 1,
-        requirements: vec![],
+        requirements: [].into(),
     };
     let shop = Shop::with_slots(vec![slot; 20]);
     for mut script in scripts() {
@@ -236,7 +236,7 @@ fn edit_and_show() {
     let contents = [
         Content::Item(Some(Item(2))),
         Content::Limit(1),
-        Content::Requirements(vec![Requirement::HaveItem(Item(2)); 14]),
+        Content::Requirements([Requirement::HaveItem(Item(2)); 14].into()),
     ];
     let edits = contents.map(|content| Edit { slot: 19, content });
     on_stack(EDIT, || {
@@ -260,7 +260,7 @@ fn shopper() {
     let slot = Slot {
         item: Some(Item(0)),
         limit: 1,
-        requirements: vec![Requirement::MissingItem(Item(1)); 14],
+        requirements: vec![Requirement::MissingItem(Item(1)); 14].into(),
     };
     let shop = Shop::with_slots(vec![slot; 20]);
     let tariff = Tariff::new([1; 3], 0);

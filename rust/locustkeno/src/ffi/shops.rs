@@ -3,7 +3,7 @@
 use super::Kept;
 use crate::arrays::{Arrays, Births, BlockWords, CommandWords, NodeWords, Values};
 use crate::shop::{Codes, Given, NUM_SLOTS, ShopArrays};
-use crate::{Save, Sheet};
+use crate::{BlockId, Save, Sheet};
 
 /// The refusal or 0, the pair of each slot, and what variable 0 ends as.
 #[repr(C)]
@@ -101,7 +101,13 @@ unsafe extern "C" {
 }
 
 /// Compiles a shop into a script.
-pub fn compile(sheet: &Sheet, a: &mut Arrays, loader: u8, setup: u32, shop: &ShopArrays) -> Kept {
+pub fn compile(
+    sheet: &Sheet,
+    a: &mut Arrays,
+    loader: u8,
+    setup: BlockId,
+    shop: &ShopArrays,
+) -> Kept {
     let [timer5, timer10, timer15] = sheet.timers.map(|timer| timer.0);
     // SAFETY: the slice and the arrays are as the library takes them, and none overlaps.
     unsafe {
@@ -122,7 +128,7 @@ pub fn compile(sheet: &Sheet, a: &mut Arrays, loader: u8, setup: u32, shop: &Sho
             a.blocks,
             a.compiles,
             loader,
-            setup,
+            setup.into(),
             &shop.items,
             &shop.limits,
             &shop.codes,
@@ -154,7 +160,7 @@ pub fn with_slots(given: &Given, shop: &mut ShopArrays) {
 }
 
 /// Reads the shop of a script.
-pub fn parse(sheet: &Sheet, a: &Arrays, setup: u32, shop: &mut ShopArrays) -> u8 {
+pub fn parse(sheet: &Sheet, a: &Arrays, setup: BlockId, shop: &mut ShopArrays) -> u8 {
     let [timer5, timer10, timer15] = sheet.timers.map(|timer| timer.0);
     // SAFETY: as in `compile`.
     unsafe {
@@ -172,7 +178,7 @@ pub fn parse(sheet: &Sheet, a: &Arrays, setup: u32, shop: &mut ShopArrays) -> u8
             a.nodes,
             a.commands,
             a.blocks,
-            setup,
+            setup.into(),
             &mut shop.items,
             &mut shop.limits,
             &mut shop.codes,
