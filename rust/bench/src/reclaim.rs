@@ -85,11 +85,11 @@ fn run(case: &Case, [reclaimed, one]: [&Script; 2]) {
         200,
         save,
         |save| {
-            black_box(reclaimed.run(&sheet, 0, save, black_box(82)));
+            let _ = black_box(reclaimed.run(&sheet, 0, save, black_box(82)));
         },
         save,
         |save| {
-            black_box(one.run(&sheet, 0, save, black_box(82)));
+            let _ = black_box(one.run(&sheet, 0, save, black_box(82)));
         },
     );
     beside("run", times);

@@ -8,11 +8,15 @@ use std::fmt;
 /// 30,000, and a discount of at most 1,000.
 #[derive(Debug, Clone, PartialEq, Eq)]
 pub struct Tariff {
+    /// The price of each item in coins.
     pub prices: Vec<u16>,
+    /// The discount in thousandths.
     pub discount: u16,
 }
 
 impl Tariff {
+    /// A tariff of these prices and this discount.
+    #[must_use]
     pub fn new(prices: impl Into<Vec<u16>>, discount: u16) -> Self {
         Self {
             prices: prices.into(),
@@ -27,11 +31,13 @@ pub struct Basket(pub [i32; NUM_SLOTS]);
 
 impl Basket {
     /// A basket of nothing.
+    #[must_use]
     pub fn empty() -> Self {
         Self([0; NUM_SLOTS])
     }
 
     /// All that a run left: from each slot its count.
+    #[must_use]
     pub fn counts(save: &Save) -> Self {
         Self(std::array::from_fn(|slot| save.pair(slot).1))
     }
@@ -48,11 +54,14 @@ impl Basket {
     }
 }
 
-/// A line of a bill: the item number that the run left, -1 for a hidden slot, the slot, and the coins.
+/// A line of a bill.
 #[derive(Debug, Copy, Clone, PartialEq, Eq)]
 pub struct Line {
+    /// The item number that the run left, -1 for a hidden slot.
     pub item: i32,
+    /// The slot.
     pub slot: u8,
+    /// What its number of the basket costs.
     pub coins: u64,
 }
 
@@ -79,8 +88,11 @@ pub struct Line {
 /// # Ok::<(), Refused>(())
 /// ```
 #[derive(Debug, Copy, Clone, PartialEq, Eq)]
+#[must_use]
 pub struct Bill {
+    /// A line for each slot, by item.
     pub lines: [Line; NUM_SLOTS],
+    /// The sum of the lines.
     pub total: u64,
 }
 

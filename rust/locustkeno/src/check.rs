@@ -6,6 +6,7 @@ use std::fmt;
 
 /// What is told of a slot, with the sentence to read out.
 #[derive(Debug, Clone, PartialEq, Eq)]
+#[must_use]
 pub struct Finding {
     /// The slot's number, from 0.
     pub slot: usize,
@@ -62,6 +63,7 @@ pub enum Found {
 
 impl Finding {
     /// Whether what is printed and what runs differ.
+    #[must_use]
     pub fn differs(&self) -> bool {
         self.settings().is_some()
     }
@@ -76,6 +78,7 @@ impl Finding {
     }
 
     /// A save under which what is printed lists the slot and what runs hides it, where there is one.
+    #[must_use]
     pub fn save(&self, sheet: &Sheet) -> Option<Save> {
         let mut save = Save::new(sheet);
         for setting in self.settings()? {

@@ -7,6 +7,7 @@ pub const LANES: usize = 64;
 
 /// What a walk answers: each save's run, and how many blocks were read for all of them.
 #[derive(Debug, Clone, PartialEq, Eq)]
+#[must_use]
 pub struct Walk {
     /// The refusal and the count of each save's own run with a budget of 4,096.
     pub runs: Vec<Ran>,
@@ -29,6 +30,7 @@ pub struct Saves {
 impl Saves {
     /// Saves of the lengths that the sheet has. Where one is of another length, the variables are one
     /// number, which no count of saves has, so that the library answers 12 in its place.
+    #[must_use]
     pub fn of(sheet: &Sheet, saves: &[Save]) -> Self {
         let mut flat = Self {
             many: u32::try_from(saves.len()).unwrap_or(u32::MAX),
@@ -54,6 +56,7 @@ impl Saves {
     }
 
     /// The variables of a save.
+    #[must_use]
     pub fn variables(&self, save: usize) -> &[i32] {
         &self.variables[VARIABLES * save..][..VARIABLES]
     }

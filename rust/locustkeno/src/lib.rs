@@ -14,7 +14,7 @@
 //! # Ok::<(), Refused>(())
 //! ```
 
-#![deny(unsafe_code)]
+#![deny(missing_docs, unsafe_code)]
 
 mod arrays;
 mod bill;
@@ -50,7 +50,7 @@ pub use refused::{Refusal, Refused};
 pub use requirement::{Requirement, Requirements};
 pub use rights::{Content, Edit, Right, Rights, USERS};
 pub use room::{Room, Use};
-pub use save::{FLAGS, Save, TIMES, VARIABLES};
+pub use save::{COUNT_FIRST, FLAGS, ITEM_FIRST, Save, TIMES, VARIABLES};
 pub use script::Preview;
 pub use script::{Loader, Ran, Script};
 pub use settings::Settings;

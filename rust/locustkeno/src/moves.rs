@@ -28,6 +28,7 @@ impl Preview {
     /// assert_eq!(holding(1, 0)?.differences(&holding(1, 1)?), [3]);
     /// # Ok::<(), Refused>(())
     /// ```
+    #[must_use]
     pub fn differences(&self, other: &Self) -> Vec<usize> {
         let pairs = self.pairs.iter().zip(&other.pairs);
         pairs

@@ -39,6 +39,7 @@ pub struct Rights {
 impl Rights {
     /// The rights in these bytes, one for each slot of user 0, then those of user 1 and so on. A byte is the sum of its
     /// [`Right`]s; its four higher bits mean nothing.
+    #[must_use]
     pub fn from_bytes(bytes: [u8; USERS * NUM_SLOTS]) -> Self {
         Self { bytes }
     }
@@ -58,6 +59,7 @@ impl Rights {
     }
 
     /// Whether a user has a right in a slot.
+    #[must_use]
     pub fn has(&self, user: u32, slot: u32, right: Right) -> bool {
         place(user, slot).is_some_and(|at| self.bytes[at] & right as u8 != 0)
     }
@@ -97,7 +99,9 @@ pub enum Content {
 /// An edit: the new content of one field of one slot. Which field it is, the content says.
 #[derive(Debug, Clone, PartialEq, Eq)]
 pub struct Edit {
+    /// The slot, from 0.
     pub slot: u32,
+    /// The field's new content.
     pub content: Content,
 }
 

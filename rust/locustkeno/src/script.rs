@@ -25,14 +25,19 @@ pub struct Script {
 /// nodes.
 #[derive(Debug, Copy, Clone, PartialEq, Eq, Hash)]
 pub enum Loader {
+    /// The disc, with the limits of a script alone.
     Disc,
+    /// The demo disc.
     Demo,
 }
 
-/// What a run answers: its refusal, if it was refused, and how many blocks it entered.
+/// What a run answers.
 #[derive(Debug, Copy, Clone, PartialEq, Eq)]
+#[must_use]
 pub struct Ran {
+    /// What it was refused with, if it was.
     pub refusal: Option<Refused>,
+    /// How many blocks it entered.
     pub entered: u32,
 }
 
@@ -151,6 +156,7 @@ impl Script {
     }
 
     /// How many blocks the script has.
+    #[must_use]
     pub fn blocks(&self) -> usize {
         self.arrays.blocks.into()
     }
@@ -189,17 +195,20 @@ impl Script {
     /// assert_eq!(script.compiles(), 1);
     /// # Ok::<(), Refused>(())
     /// ```
+    #[must_use]
     pub fn compiles(&self) -> u32 {
         self.arrays.compiles
     }
 
     /// The script as arrays.
+    #[must_use]
     pub fn arrays(&self) -> &Arrays {
         &self.arrays
     }
 
     /// A script from arrays, whatever they hold: the calls judge it in the place of refusals 2 to 5. The
     /// birth marks and the count of compiles are taken as they stand.
+    #[must_use]
     pub fn from_arrays(arrays: Arrays) -> Self {
         Self { arrays }
     }
@@ -276,10 +285,13 @@ mod shops {
         }
     }
 
-    /// What a shop means for a save: the pair of each slot, and what variable 0 ends as.
+    /// What a shop means for a save.
     #[derive(Debug, Copy, Clone, PartialEq, Eq)]
+    #[must_use]
     pub struct Preview {
+        /// The item and the count of each slot; the item is -1 where it is hidden.
         pub pairs: [(i32, i32); NUM_SLOTS],
+        /// What variable 0 ends as.
         pub variable0: i32,
     }
 

@@ -9,6 +9,7 @@ use std::fmt;
 /// A setting answers each subject of the slot with yes or no: the items, attachments and flags of its requirements,
 /// at limit 1 also the item or attachment that is acquired, and for a timer whether `time[2]` is its rate.
 #[derive(Debug, Copy, Clone, PartialEq, Eq, Hash)]
+#[must_use]
 pub struct Settings {
     /// How many subjects the slot has, at most 16.
     pub subjects: u8,
@@ -20,6 +21,7 @@ pub struct Settings {
 
 impl Settings {
     /// How many settings there are: 2 to the number of subjects.
+    #[must_use]
     pub fn all(self) -> u32 {
         1 << self.subjects
     }

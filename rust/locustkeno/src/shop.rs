@@ -318,8 +318,8 @@ mod crossing {
         /// The requirements of slot i.
         pub(crate) fn requirements(&self, i: usize) -> Requirements {
             let (codes, len) = self.entries(i);
-            let codes = codes.iter().take(len.into());
-            codes.map(|code| requirement(*code)).collect()
+            let given = &codes[..ENTRIES.min(len.into())];
+            given.iter().map(|code| requirement(*code)).collect()
         }
     }
 

@@ -48,7 +48,9 @@ impl Step {
 /// ```
 #[derive(Debug, Clone, PartialEq, Eq)]
 pub struct Shopper {
+    /// The save, which a purchase changes.
     pub save: Save,
+    /// The money in coins.
     pub money: u32,
 }
 

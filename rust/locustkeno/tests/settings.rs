@@ -123,6 +123,6 @@ fn stack() {
     thread::scope(|scope| {
         let builder = thread::Builder::new().stack_size(32 << 10);
         let call = builder.spawn_scoped(scope, || slot.settings(&sheet));
-        call.unwrap().join().unwrap().unwrap();
+        let _ = call.unwrap().join().unwrap().unwrap();
     });
 }

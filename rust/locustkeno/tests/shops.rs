@@ -101,7 +101,7 @@ fn p8_timer5() {
     for (held, count) in [(0, 0), (1, 1)] {
         let mut save = Save::new(&sheet());
         save.items[2] = held;
-        script.run(&sheet(), 0, &mut save, BUDGET);
+        assert_eq!(script.run(&sheet(), 0, &mut save, BUDGET).refusal, None);
         assert_eq!(save.pair(0), (1, count));
     }
 }
