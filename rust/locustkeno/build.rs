@@ -1,4 +1,7 @@
 //! Links the proved static library, `liblocustkeno.a`.
+//!
+//! Without it the crate is still checked and documented; a build then says that it is not found, and `tools/library` at the top of
+//! the repository makes it.
 
 use std::path::{Path, PathBuf};
 use std::{env, fs};

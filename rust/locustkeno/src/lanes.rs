@@ -69,7 +69,7 @@ impl Script {
     ///
     /// A save that does not fit the sheet is refusal 12 for all. No save, over 64, or a block that links
     /// lead to from `setup` and that has a link to a number not below its own, is 22. Refused, nothing is
-    /// written.
+    /// written. The call needs up to 512 kilobytes of stack.
     ///
     /// ```
     /// use locustkeno::{Item, Refusal, Refused, Save, Script, Sheet};

@@ -34,6 +34,7 @@ impl Script {
     ///
     /// Roots may repeat and may be blocks of any kind; without roots no block is left. Over 256 roots, or
     /// one that is not a block, are refusal 18 before any other check. Refused, the script stays as it was.
+    /// A reclaim needs up to 768 kilobytes of stack.
     ///
     /// ```
     /// use locustkeno::{Item, Loader, Refusal, Refused, Script, Sheet, Shop, Slot};

@@ -21,6 +21,9 @@ pub struct Script {
     pub(crate) arrays: Arrays,
 }
 
+/// The budget that is enough for a run of every compiled shop.
+pub const BUDGET: u32 = 82;
+
 /// What is to load a compiled script. The demo disc loads at most 512 blocks and 2,048 commands; it has no limit of
 /// nodes.
 #[derive(Debug, Copy, Clone, PartialEq, Eq, Hash)]
@@ -230,7 +233,7 @@ mod shops {
         /// (see [`Script::birth`]); 19 is for a result that the demo does not load. Refused, the script stays as it was.
         ///
         /// ```
-        /// use locustkeno::{Item, Loader, Refusal, Refused, Save, Script, Sheet, Shop, Slot};
+        /// use locustkeno::{BUDGET, Item, Loader, Refusal, Refused, Save, Script, Sheet, Shop, Slot};
         /// let sheet = Sheet::new(&[None; 8], 0, [Item(0), Item(1), Item(2)]);
         /// let slot = Slot { item: Some(Item(7)), limit: 3, ..Slot::new() };
         /// let shop = Shop::with_slots([slot]);
@@ -238,7 +241,7 @@ mod shops {
         /// script.compile(&sheet, Loader::Disc, 0, &shop)?;
         /// assert_eq!(script.parse(&sheet, 0)?, shop);
         /// let mut save = Save::new(&sheet);
-        /// script.run(&sheet, 0, &mut save, 100);
+        /// assert_eq!(script.run(&sheet, 0, &mut save, BUDGET).refusal, None);
         /// assert_eq!(save.pair(0), (7, 3));
         /// assert_eq!(script.compile(&sheet, Loader::Disc, 9_999, &shop), Err(Refusal::NotBlock.into()));
         /// # Ok::<(), Refused>(())
@@ -277,7 +280,7 @@ mod shops {
                 .map_err(|refused| refused.in_shop(sheet, arrays))
         }
 
-        /// Reads the shop that starts at block `setup`. Requirements come out sorted, each once.
+        /// Reads the shop that starts at block `setup`. Requirements come out sorted, each once. It needs up to 512 kilobytes of stack.
         pub fn parse(&self, sheet: &Sheet, setup: impl Into<BlockId>) -> Result<Shop, Refused> {
             let mut shop = Box::new(ShopArrays::new());
             let refusal = ffi::parse(sheet, &self.arrays, setup.into(), &mut shop);

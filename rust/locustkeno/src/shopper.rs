@@ -62,6 +62,7 @@ impl Shopper {
     ///
     /// Refusals 1, 8, 12 and 24, then 26 for more than [`WISHES`] wishes, 27 for a slot past the last and 28
     /// for money above 1,000,000, in this order and all before the first step: then nothing changes.
+    /// The call needs up to 768 kilobytes of stack.
     pub fn shop(
         &mut self,
         sheet: &Sheet,
