@@ -80,15 +80,13 @@ impl Finding {
     /// A save under which what is printed lists the slot and what runs hides it, where there is one.
     #[must_use]
     pub fn save(&self, sheet: &Sheet) -> Option<Save> {
-        let mut save = Save::new(sheet);
-        for setting in self.settings()? {
-            match *setting {
-                Requirement::HaveItem(item) => save.items[usize::from(item.0)] = 1,
-                Requirement::HaveAtc(atc) => save.atcs[usize::from(atc.0)] = 1,
-                Requirement::HaveFlag(flag) => save.flags[flag as usize] = 1,
-                _ => {}
-            }
-        }
+        let settings = self.settings()?.iter();
+        let save = settings.fold(Save::new(sheet), |save, setting| match *setting {
+            Requirement::HaveItem(item) => save.with_item(item, 1),
+            Requirement::HaveAtc(atc) => save.with_atc(atc),
+            Requirement::HaveFlag(flag) => save.with_flag(flag as usize),
+            _ => save,
+        });
         Some(save)
     }
 }

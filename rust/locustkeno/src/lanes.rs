@@ -1,6 +1,6 @@
 //! One walk for many saves.
 
-use crate::{BlockId, FLAGS, Ran, Refused, Save, Script, Sheet, TIMES, VARIABLES, ffi};
+use crate::{BlockId, Ran, Refused, Save, Script, Sheet, VARIABLES, ffi};
 
 /// How many saves one walk takes at most.
 pub const LANES: usize = 64;
@@ -43,12 +43,7 @@ impl Saves {
             flat.times.extend_from_slice(&save.times);
             flat.variables.extend_from_slice(&save.variables);
         }
-        let fits = |save: &Save| {
-            save.items.len() == sheet.items()
-                && save.atcs.len() == sheet.atcs()
-                && (save.flags.len(), save.times.len()) == (FLAGS, TIMES)
-                && save.variables.len() == VARIABLES
-        };
+        let fits = |save: &Save| save.wrong_length(sheet).is_none();
         if !saves.iter().all(fits) {
             flat.variables = vec![0];
         }

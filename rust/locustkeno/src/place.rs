@@ -1,7 +1,7 @@
 //! Where a shop or a save is refused: a help for the reader, which decides nothing.
 
 use crate::shop::{ENTRIES, Row, ShopArrays};
-use crate::{FLAGS, NUM_SLOTS, Refusal, Refused, Save, Sheet, TIMES, VARIABLES, ffi};
+use crate::{Refusal, Refused, Save, Sheet, ffi};
 use std::fmt;
 
 /// Where a shop (8) or a save (12) was refused: the first such place. Slots and entries are counted from 0; where a single slot
@@ -12,35 +12,35 @@ pub enum Place {
     /// The item of a slot is not on the sheet.
     Item {
         /// The slot.
-        slot: usize,
+        slot: u8,
     },
     /// An entry of a slot's requirements is not on the sheet.
     Entry {
         /// The slot.
-        slot: usize,
+        slot: u8,
         /// The entry among those that were given.
-        entry: usize,
+        entry: u8,
     },
     /// The slot was given over 14 entries.
     Entries {
         /// The slot.
-        slot: usize,
+        slot: u8,
     },
     /// A part of a save has another length than the sheet and document 01 ask for.
     Length {
         /// Which of the saves.
-        save: usize,
+        save: u16,
         /// The part.
         part: Part,
     },
     /// A value of a save is below 0, or neither 0 nor 1 where it has to be.
     Value {
         /// Which of the saves.
-        save: usize,
+        save: u16,
         /// The part.
         part: Part,
         /// The place of the value in the part.
-        at: usize,
+        at: u16,
     },
 }
 
@@ -93,67 +93,64 @@ fn is_bad(sheet: &Sheet, item: i32, code: Option<u64>) -> bool {
 }
 
 /// The first place in a slot that is refused with 8 when it stands alone; of the row the first `len` are given.
-fn in_slot(sheet: &Sheet, slot: usize, item: i32, row: &[u64], len: u8) -> Option<Place> {
-    let len = usize::from(len);
+fn in_slot(sheet: &Sheet, slot: u8, item: i32, row: &[u64], len: u8) -> Option<Place> {
+    let given = usize::from(len);
     if is_bad(sheet, item, None) {
         return Some(Place::Item { slot });
     }
-    if len > ENTRIES {
+    if given > ENTRIES {
         return Some(Place::Entries { slot });
     }
-    let mut codes = row[..len].iter();
-    let entry = codes.position(|code| is_bad(sheet, -1, Some(*code)))?;
+    let mut entries = (0..len).zip(row);
+    let (entry, _) = entries.find(|(_, code)| is_bad(sheet, -1, Some(**code)))?;
     Some(Place::Entry { slot, entry })
 }
 
-/// The first place in a save that does not fit the sheet.
-fn in_save(sheet: &Sheet, number: usize, save: &Save) -> Option<Place> {
-    let lengths = [
-        (Part::Items, save.items.len(), sheet.items()),
-        (Part::Atcs, save.atcs.len(), sheet.atcs()),
-        (Part::Flags, save.flags.len(), FLAGS),
-        (Part::Times, save.times.len(), TIMES),
-        (Part::Variables, save.variables.len(), VARIABLES),
-    ];
-    if let Some((part, ..)) = lengths.iter().find(|(_, len, due)| len != due) {
-        let part = *part;
-        return Some(Place::Length { save: number, part });
-    }
+/// The first value in a save that is outside its range.
+fn wrong_value(save: &Save) -> Option<(Part, usize)> {
     let values = [
         (Part::Items, save.items.iter().position(|count| *count < 0)),
         (Part::Atcs, save.atcs.iter().position(|held| *held > 1)),
         (Part::Flags, save.flags.iter().position(|flag| *flag > 1)),
     ];
-    let mut wrong = values
-        .into_iter()
-        .filter_map(|(part, at)| Some((part, at?)));
-    let (part, at) = wrong.next()?;
-    Some(Place::Value {
-        save: number,
-        part,
-        at,
-    })
+    let mut wrong = values.into_iter();
+    wrong.find_map(|(part, at)| Some((part, at?)))
+}
+
+/// The first place in a save that does not fit the sheet.
+fn in_save(sheet: &Sheet, save: u16, given: &Save) -> Option<Place> {
+    if let Some(part) = given.wrong_length(sheet) {
+        return Some(Place::Length { save, part });
+    }
+    let (part, at) = wrong_value(given)?;
+    let at = u16::try_from(at).ok()?;
+    Some(Place::Value { save, part, at })
 }
 
 impl Refused {
     /// With the place in a slot, as the library takes it, if it is the shop that is refused.
-    pub(crate) fn in_slot(self, sheet: &Sheet, slot: usize, item: i32, row: &Row, len: u8) -> Self {
-        self.met(Refusal::BadShop, || in_slot(sheet, slot, item, row, len))
+    pub(crate) fn in_slot(self, sheet: &Sheet, slot: u32, item: i32, row: &Row, len: u8) -> Self {
+        self.met(Refusal::BadShop, || {
+            let slot = u8::try_from(slot).ok()?;
+            in_slot(sheet, slot, item, row, len)
+        })
     }
 
     /// With the place in the shop, if it is the shop that is refused.
     pub(crate) fn in_shop(self, sheet: &Sheet, shop: &ShopArrays) -> Self {
-        let place = |slot: usize| {
-            let (row, len) = shop.entries(slot);
-            in_slot(sheet, slot, shop.items[slot], row, len)
-        };
-        self.met(Refusal::BadShop, || (0..NUM_SLOTS).find_map(place))
+        self.met(Refusal::BadShop, || {
+            let mut slots = (0..).zip(shop.items).enumerate();
+            slots.find_map(|(i, (slot, item))| {
+                let (row, len) = shop.entries(i);
+                in_slot(sheet, slot, item, row, len)
+            })
+        })
     }
 
     /// With the place in one of the saves, if it is a save that is refused.
     pub(crate) fn in_saves(self, sheet: &Sheet, saves: &[Save]) -> Self {
-        let mut saves = saves.iter().enumerate();
         self.met(Refusal::BadSave, || {
+            let mut saves = (0..=u16::MAX).zip(saves);
             saves.find_map(|(number, save)| in_save(sheet, number, save))
         })
     }

@@ -83,7 +83,9 @@ impl Refusal {
     /// The refusal of a number, if there is one.
     #[must_use]
     pub fn from_number(number: u8) -> Option<Self> {
-        Self::ALL.iter().copied().find(|r| r.number() == number)
+        // They have the numbers from 1 on.
+        let place = usize::from(number).checked_sub(1)?;
+        Self::ALL.get(place).copied()
     }
 }
 
@@ -134,6 +136,7 @@ impl Refused {
     }
 
     /// The refusal of the library's number, which is not 0.
+    #[cold]
     pub(crate) fn of(number: u8) -> Self {
         let refusal = Refusal::from_number(number);
         refusal.expect("the library answers 0 or a refusal").into()

@@ -174,8 +174,8 @@ impl Shop {
         let EditWords {
             item, entries, len, ..
         } = words;
-        let slot = edit.slot as usize;
-        Refused::check(refusal).map_err(|refused| refused.in_slot(sheet, slot, item, &entries, len))
+        Refused::check(refusal)
+            .map_err(|refused| refused.in_slot(sheet, edit.slot, item, &entries, len))
     }
 
     /// The shop as a user is shown it: a slot that the user may see as it stands, any other as an empty one. Where there is

@@ -1,6 +1,6 @@
 //! The save that a run meets.
 
-use crate::{Atc, Item, NUM_SLOTS, Sheet};
+use crate::{Atc, Item, NUM_SLOTS, Part, Sheet};
 
 /// How many flags a save has.
 pub const FLAGS: usize = 2_048;
@@ -108,6 +108,21 @@ impl Save {
             self.variables[ITEM_FIRST + slot],
             self.variables[COUNT_FIRST + slot],
         )
+    }
+}
+
+impl Save {
+    /// The first part that has another length than the sheet and document 01 ask for.
+    pub(crate) fn wrong_length(&self, sheet: &Sheet) -> Option<Part> {
+        let lengths = [
+            (Part::Items, self.items.len(), sheet.items()),
+            (Part::Atcs, self.atcs.len(), sheet.atcs()),
+            (Part::Flags, self.flags.len(), FLAGS),
+            (Part::Times, self.times.len(), TIMES),
+            (Part::Variables, self.variables.len(), VARIABLES),
+        ];
+        let mut wrong = lengths.iter().filter(|(_, len, due)| len != due);
+        wrong.next().map(|(part, ..)| *part)
     }
 }
 

@@ -26,9 +26,10 @@ pub const BUDGET: u32 = 82;
 
 /// What is to load a compiled script. The demo disc loads at most 512 blocks and 2,048 commands; it has no limit of
 /// nodes.
-#[derive(Debug, Copy, Clone, PartialEq, Eq, Hash)]
+#[derive(Debug, Copy, Clone, Default, PartialEq, Eq, Hash)]
 pub enum Loader {
     /// The disc, with the limits of a script alone.
+    #[default]
     Disc,
     /// The demo disc.
     Demo,
