@@ -6,6 +6,9 @@ use std::fmt;
 
 /// Where a shop (8) or a save (12) was refused: the first such place. Slots and entries are counted from 0; where a single slot
 /// or save was given, it is number 0.
+///
+/// It is a help for the reader, looked for after the refusal, and decides nothing: in a shop the library is asked again about each
+/// item and entry alone, in a save the ranges are looked at.
 #[derive(Debug, Copy, Clone, PartialEq, Eq, Hash)]
 #[non_exhaustive]
 pub enum Place {
