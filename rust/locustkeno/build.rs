@@ -1,4 +1,7 @@
 //! Links the proved static library, `liblocustkeno.a`.
+//!
+//! Without it the crate is still checked and documented; a build then says that it is not found, and `tools/library` at the top of
+//! the repository makes it.
 
 use std::path::{Path, PathBuf};
 use std::{env, fs};
@@ -7,11 +10,6 @@ fn main() {
     println!("cargo:rerun-if-env-changed=LOCUSTKENO_LIB");
     let folder = folder();
     let library = folder.join("liblocustkeno.a");
-    assert!(
-        library.is_file(),
-        "{} is not there: run `tools/library` at the top of the repository",
-        library.display()
-    );
     println!("cargo:rerun-if-changed={}", library.display());
     println!("cargo:rustc-link-search=native={}", folder.display());
     println!("cargo:rustc-link-lib=static=locustkeno");

@@ -56,7 +56,7 @@ pub fn case(case: &Case) {
             || saves.to_vec(),
             |saves| {
                 for save in saves {
-                    black_box(case.script.run(&sheet, 0, black_box(save), 4_096));
+                    let _ = black_box(case.script.run(&sheet, 0, black_box(save), 4_096));
                 }
             },
         );

@@ -83,7 +83,7 @@ fn read(case: &Case) {
         || (),
         |()| drop(black_box(image::read(black_box(&case.bytes)))),
     );
-    let mut script = Script::default();
+    let mut script = Script::empty();
     let again = time(
         40,
         || (),
@@ -148,7 +148,7 @@ fn placed_run(place: usize) -> [Times; 2] {
         1,
         save,
         |save| {
-            black_box(script.run(&sheet, 0, save, black_box(100_000)));
+            let _ = black_box(script.run(&sheet, 0, save, black_box(100_000)));
         },
         save,
         |save| {
@@ -168,7 +168,7 @@ fn run(case: &Case) {
         200,
         save,
         |save| {
-            black_box(case.script.run(&sheet, 0, save, black_box(82)));
+            let _ = black_box(case.script.run(&sheet, 0, save, black_box(82)));
         },
         save,
         |save| {

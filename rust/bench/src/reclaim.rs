@@ -58,7 +58,10 @@ fn beside(call: &str, [reclaimed, one]: [Times; 2]) {
 
 fn parse(case: &Case, [reclaimed, one]: [&Script; 2]) {
     let sheet = convert::sheet(&case.sheet);
-    let parse = |script: &Script| drop(black_box(script.parse(&sheet, 0).map(|shop| shop.slots())));
+    let parse = |script: &Script| {
+        let shop = script.parse(&sheet, 0).expect("it can be parsed");
+        black_box(shop.slots());
+    };
     let times = by_turns(20, || (), |()| parse(reclaimed), || (), |()| parse(one));
     beside("parse", times);
 }
@@ -82,11 +85,11 @@ fn run(case: &Case, [reclaimed, one]: [&Script; 2]) {
         200,
         save,
         |save| {
-            black_box(reclaimed.run(&sheet, 0, save, black_box(82)));
+            let _ = black_box(reclaimed.run(&sheet, 0, save, black_box(82)));
         },
         save,
         |save| {
-            black_box(one.run(&sheet, 0, save, black_box(82)));
+            let _ = black_box(one.run(&sheet, 0, save, black_box(82)));
         },
     );
     beside("run", times);

@@ -38,7 +38,7 @@ fn judged(sheet: &Sheet, shop: &Shop) -> Times {
         || (),
         |()| {
             for _ in 0..WISHES {
-                black_box(script.run(sheet, u32::MAX, &mut save, 82));
+                let _ = black_box(script.run(sheet, u32::MAX, &mut save, 82));
             }
         },
     )

@@ -24,9 +24,8 @@ fn parse(case: &Case) {
         20,
         || (),
         |()| {
-            drop(black_box(
-                case.script.parse(&sheet, 0).map(|shop| shop.slots()),
-            ))
+            let shop = case.script.parse(&sheet, 0).expect("it can be parsed");
+            black_box(shop.slots());
         },
         || (),
         |()| drop(black_box(original.parse(0))),

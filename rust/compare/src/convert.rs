@@ -1,6 +1,6 @@
 //! The oracle's plain records as those of the library.
 
-use locustkeno::{Atc, Item, Requirement, Sheet, Slot};
+use locustkeno::{Atc, Item, Requirement, Sheet, Shop, ShopArrays, Slot};
 use oracle::plain;
 
 /// The library's sheet.
@@ -27,4 +27,9 @@ pub fn slot(slot: &plain::Slot) -> Slot {
         limit: slot.limit,
         requirements: slot.requirements.iter().map(|r| requirement(*r)).collect(),
     }
+}
+
+/// A shop's words, which tell more than its equality does, and its slots in words, entry by entry.
+pub fn exact(shop: &Shop) -> (ShopArrays, String) {
+    (shop.arrays().clone(), format!("{shop:?}"))
 }

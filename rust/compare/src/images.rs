@@ -37,7 +37,7 @@ fn marked(script: &Script, mark: u32) -> Script {
 pub fn check(tally: &mut Tally, script: &mut Script, bytes: &[u8]) {
     let case = || format!("image {bytes:02X?}");
     let theirs = image::read(bytes);
-    let ours = script.read_again(bytes).map_err(|refused| refused.0);
+    let ours = script.read_again(bytes).map_err(|refused| refused.number());
     tally.count("read", ours.err().unwrap_or(0));
     let answer = theirs.as_ref().map(|_| ()).map_err(|refusal| refusal.0);
     tally.same("read", &ours, &answer, case);
@@ -62,7 +62,9 @@ fn check_write(tally: &mut Tally, script: &Script, bytes: &[u8]) {
     let len = bytes.len();
     for (room, filler) in [(len - 1, 0xA5), (len, 0x5A), (len + 3, 0xFF)] {
         let mut out = vec![filler; room];
-        let answer = script.write_into(&mut out).map_err(|refused| refused.0);
+        let answer = script
+            .write_into(&mut out)
+            .map_err(|refused| refused.number());
         tally.count("write", answer.err().unwrap_or(0));
         let mut expected = vec![filler; room];
         let written = if room < len { Err(16) } else { Ok(len) };
@@ -77,7 +79,7 @@ fn check_write(tally: &mut Tally, script: &Script, bytes: &[u8]) {
 
 /// Random images, damaged ones and inputs of the program `slots` taken as images.
 pub fn random(tally: &mut Tally, random: &mut Random, count: usize) {
-    let mut script = Script::default();
+    let mut script = Script::empty();
     for index in 0..count {
         let bytes = match index % 4 {
             0 => parse_cases::input(random, index / 4),
@@ -98,7 +100,7 @@ pub fn random(tally: &mut Tally, random: &mut Random, count: usize) {
 
 /// Every string of at most `longest` bytes of the alphabet.
 pub fn exhaustive(tally: &mut Tally, longest: usize) {
-    let mut script = Script::default();
+    let mut script = Script::empty();
     for len in 0..=longest {
         let mut places = vec![0; len];
         loop {
@@ -146,7 +148,7 @@ pub fn numbers(tally: &mut Tally) {
         0, 1, 2, 3, 5, 6, 18, 19, 127, 128, 4_096, 4_097, 16_383, 16_384, 16_385,
     ];
     let wide = [65_535, 65_536, 65_537, (1 << 32) - 1, 1 << 32, 1 << 35];
-    let mut script = Script::default();
+    let mut script = Script::empty();
     for number in edges.into_iter().chain(wide) {
         for (before, behind) in places {
             let bytes = [before, &groups(number), behind].concat();
@@ -161,7 +163,7 @@ pub fn numbers(tally: &mut Tally) {
 
 /// Images at and just past each limit.
 pub fn limits(tally: &mut Tally) {
-    let mut script = Script::default();
+    let mut script = Script::empty();
     for input in record::limits::parse_inputs() {
         check(tally, &mut script, &input[record::limits::image_start()..]);
     }

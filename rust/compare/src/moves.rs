@@ -75,9 +75,8 @@ impl Stage {
     /// A block, mostly one of the start.
     fn block(&self, random: &mut Random) -> u32 {
         let blocks = self.script.blocks();
-        let of_start: Vec<u32> = (0..blocks)
+        let of_start: Vec<u32> = (0..blocks as u32)
             .filter(|block| self.script.birth(*block) == Some(0))
-            .map(|block| block as u32)
             .collect();
         if of_start.is_empty() || random.once_in(8) {
             return random.below(blocks.max(1)) as u32;
@@ -122,7 +121,7 @@ impl Stage {
         let ran = self
             .script
             .run(&sheet, setup, &mut save, random.pick(&BUDGETS));
-        (save, ran.refusal.map_or(0, |refused| refused.0))
+        (save, ran.refusal.map_or(0, |refused| refused.number()))
     }
 
     /// "The counts of slots of that item with limit above 1" and variable 0.
@@ -186,8 +185,10 @@ impl Stage {
         tally.count("one more held, counts that are lower", differ.len() as u8);
         let sheet = convert::sheet(&self.sheet);
         let shop = Shop::with_slots(slots.iter().map(convert::slot));
-        let [ours, theirs] =
-            saves.map(|save| shop.preview(&sheet, save).map_err(|refused| refused.0));
+        let [ours, theirs] = saves.map(|save| {
+            shop.preview(&sheet, save)
+                .map_err(|refused| refused.number())
+        });
         let shown: Vec<usize> = (0..NUM_SLOTS)
             .filter(|slot| few.pair(*slot) != more.pair(*slot))
             .collect();

@@ -3,7 +3,7 @@
 
 use crate::convert;
 use crate::tally::Tally;
-use locustkeno::{Content, Edit, NUM_SLOTS, Right, Rights, Shop, USERS};
+use locustkeno::{Content, Edit, NUM_SLOTS, Right, Rights, Shop, ShopArrays, USERS};
 use oracle::plain::{Requirement, Sheet, Slot};
 use record::random::Random;
 
@@ -91,7 +91,7 @@ fn after(start: &[Slot], made: &[Made], slot: usize) -> Slot {
 }
 
 /// The slots with that right of a user as they stand, the others empty.
-fn shown(granted: &[Granted], user: u32, slots: &[Slot]) -> Result<Shop, u8> {
+fn shown(granted: &[Granted], user: u32, slots: &[Slot]) -> Result<(ShopArrays, String), u8> {
     let empty = Slot {
         item: None,
         limit: 0,
@@ -102,7 +102,11 @@ fn shown(granted: &[Granted], user: u32, slots: &[Slot]) -> Result<Shop, u8> {
         convert::slot(if see { slot } else { &empty })
     };
     let shop = Shop::with_slots(slots.iter().enumerate().map(seen));
-    if user < 16 { Ok(shop) } else { Err(20) }
+    if user < 16 {
+        Ok(convert::exact(&shop))
+    } else {
+        Err(20)
+    }
 }
 
 // ---- cases
@@ -224,12 +228,18 @@ fn edited(
     let mut shop = Shop::with_slots(start.iter().map(convert::slot));
     for (i, edit) in made.iter().enumerate() {
         let answer = shop.edit(&convert::sheet(sheet), rights, edit.user, &given(edit));
-        let answer = answer.map_or_else(|refused| refused.0, |()| 0);
+        let answer = answer.map_or_else(|refused| refused.number(), |()| 0);
         tally.count("edit", answer);
         let case = || format!("user {}, {:?}, sheet {sheet:?}", edit.user, given(edit));
         tally.same("edit", &answer, &edit.answer, case);
         let slots = (0..NUM_SLOTS).map(|slot| convert::slot(&after(start, &made[..=i], slot)));
-        tally.same("shop after an edit", &shop, &Shop::with_slots(slots), case);
+        let expected = convert::exact(&Shop::with_slots(slots));
+        tally.same(
+            "shop after an edit",
+            &convert::exact(&shop),
+            &expected,
+            case,
+        );
     }
     shop
 }
@@ -243,7 +253,10 @@ fn check_shown(
     slots: &[Slot],
 ) {
     for user in (0..18).chain([u32::MAX]) {
-        let seen = shop.shown_to(rights, user).map_err(|refused| refused.0);
+        let seen = shop
+            .shown_to(rights, user)
+            .map(|shop| convert::exact(&shop))
+            .map_err(|refused| refused.number());
         tally.count("show", seen.as_ref().err().copied().unwrap_or(0));
         let case = || format!("user {user}, rights {rights:?}, shop {shop:?}");
         tally.same("show", &seen, &shown(granted, user, slots), case);
@@ -277,7 +290,11 @@ pub fn lists(tally: &mut Tally, random: &mut Random, count: usize) {
             }
         }
         let twin = edited(tally, &sheet, &rights, &other, &made);
-        let [ours, theirs] = [&twin, &shop].map(|shop| shop.shown_to(&rights, user));
+        let seen = |shop: &Shop| {
+            shop.shown_to(&rights, user)
+                .map(|shop| convert::exact(&shop))
+        };
+        let [ours, theirs] = [&twin, &shop].map(seen);
         tally.count("show of two starts", 0);
         tally.same("show of two starts", &ours, &theirs, || {
             format!("user {user}")

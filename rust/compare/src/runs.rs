@@ -38,7 +38,7 @@ pub fn check(
 ) -> (Save, u8, u32) {
     let (mut ours, mut theirs) = (save.clone(), save.clone());
     let ran = script.run(&convert::sheet(sheet), start, &mut ours, budget);
-    let refusal = ran.refusal.map_or(0, |refused| refused.0);
+    let refusal = ran.refusal.map_or(0, |refused| refused.number());
     tally.count("run", refusal);
     let answer = interpret::run(sheet, script.arrays(), start, &mut theirs, budget);
     let case = || {
@@ -72,7 +72,7 @@ pub fn broken_sheet(random: &mut Random, mut sheet: Sheet) -> Sheet {
 
 /// Random scripts, compiled ones and changed ones, with saves that fit and saves that do not.
 pub fn random(tally: &mut Tally, random: &mut Random, count: usize) {
-    let mut script = Script::default();
+    let mut script = Script::empty();
     for index in 0..count {
         let input = parse_cases::whole(random, index % 8);
         if script.read_again(&image::write(&input.script)).is_err() {
@@ -149,7 +149,7 @@ pub fn records(tally: &mut Tally, random: &mut Random, count: usize) {
         let judged = crate::judge::judge(script.arrays())
             .err()
             .map(|refusal| refusal.0);
-        let written = script.write().err().map(|refused| refused.0);
+        let written = script.write().err().map(|refused| refused.number());
         tally.count("write of a record", written.unwrap_or(0));
         tally.same("write of a record", &written, &judged, || {
             format!("input {input:?}")
@@ -182,7 +182,7 @@ pub fn check_meaning(
 
 /// Shops that the original compiled, run by the library and held against the meaning.
 pub fn compiled(tally: &mut Tally, random: &mut Random, count: usize) {
-    let mut script = Script::default();
+    let mut script = Script::empty();
     for _ in 0..count {
         let sheet = make::sheet(random);
         let mut maker = Maker {
@@ -232,7 +232,7 @@ pub fn operators(tally: &mut Tally, random: &mut Random) {
 /// Every small script, each with another save.
 pub fn small(tally: &mut Tally, random: &mut Random) {
     let sheet = small::sheet();
-    let mut script = Script::default();
+    let mut script = Script::empty();
     for plain in small::scripts() {
         script
             .read_again(&image::write(&plain))

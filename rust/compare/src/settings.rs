@@ -172,7 +172,7 @@ fn run(tally: &mut Tally, sheet: &Sheet, slot: &Slot, settings: Settings, script
         let ran = script.run(&ours, 0, &mut save, 82);
         tally.count(
             "run of a setting",
-            ran.refusal.map_or(0, |refused| refused.0),
+            ran.refusal.map_or(0, |refused| refused.number()),
         );
         let (item, expected) = (save.pair(0).0, looked.lists(&answers));
         let left = if expected { looked.item.into() } else { -1 };
@@ -189,7 +189,7 @@ fn run(tally: &mut Tally, sheet: &Sheet, slot: &Slot, settings: Settings, script
 fn check(tally: &mut Tally, sheet: &Sheet, slot: &Slot, script: &mut Script) {
     let ours = convert::slot(slot)
         .settings(&convert::sheet(sheet))
-        .map_err(|refused| refused.0);
+        .map_err(|refused| refused.number());
     tally.count("settings", ours.err().unwrap_or(0));
     tally.same("settings", &ours, &counted(sheet, slot), || {
         format!("{slot:?} on {sheet:?}")
@@ -251,7 +251,7 @@ pub(crate) fn slot(random: &mut Random, sheet: &Sheet) -> Slot {
 
 /// Random slots, few of them refused.
 pub fn random(tally: &mut Tally, random: &mut Random, count: usize) {
-    let mut script = Script::default();
+    let mut script = Script::empty();
     for _ in 0..count {
         let mut sheet = make::sheet(random);
         let slot = slot(random, &sheet);
@@ -278,7 +278,7 @@ pub fn slowest() -> f64 {
     let round = || {
         let start = Instant::now();
         for _ in 0..1_000 {
-            black_box(black_box(&slot).settings(black_box(&sheet))).expect("it fits");
+            let _ = black_box(black_box(&slot).settings(black_box(&sheet))).expect("it fits");
         }
         start.elapsed().as_secs_f64() * 1_000.0
     };

@@ -25,9 +25,10 @@ fn check_parse(
 ) {
     let ours = script
         .parse(&convert::sheet(sheet), setup)
-        .map_err(|refused| refused.0);
+        .map(|shop| convert::exact(&shop))
+        .map_err(|refused| refused.number());
     tally.count("parse", ours.as_ref().err().copied().unwrap_or(0));
-    let theirs = theirs.map(|slots| shop(&slots));
+    let theirs = theirs.map(|slots| convert::exact(&shop(&slots)));
     tally.same("parse", &ours, &theirs, || {
         format!(
             "setup {setup}, sheet {sheet:?}, image {:02X?}",
@@ -38,7 +39,7 @@ fn check_parse(
 
 /// Inputs of the program `slots`, those that can be read.
 pub fn parses(tally: &mut Tally, random: &mut Random, count: usize) {
-    let mut script = Script::default();
+    let mut script = Script::empty();
     for index in 0..count {
         let Ok(input) = slots::read(&parse_cases::input(random, index)) else {
             continue;
@@ -77,7 +78,7 @@ pub fn targets(tally: &mut Tally) {
 /// Every small script.
 pub fn small(tally: &mut Tally) {
     let sheet = small::sheet();
-    let mut script = Script::default();
+    let mut script = Script::empty();
     for plain in small::scripts() {
         script
             .read_again(&image::write(&plain))
@@ -139,7 +140,7 @@ pub fn check_compile(
     let before = ours.clone();
     let answer = ours
         .compile(&convert::sheet(sheet), loader, setup, &shop(slots))
-        .map_err(|refused| refused.0);
+        .map_err(|refused| refused.number());
     tally.count("compile", answer.err().unwrap_or(0));
     let expected = their_compile(theirs, sheet, loader, setup, slots);
     let case = || {
@@ -308,7 +309,7 @@ pub fn compile_limits(tally: &mut Tally, random: &mut Random) {
 fn check_preview(tally: &mut Tally, sheet: &Sheet, slots: &[Slot], save: &locustkeno::Save) {
     let ours = shop(slots)
         .preview(&convert::sheet(sheet), save)
-        .map_err(|refused| refused.0);
+        .map_err(|refused| refused.number());
     tally.count("preview", ours.as_ref().err().copied().unwrap_or(0));
     let expected = meaning(sheet, slots, save);
     let theirs = match <[_; NUM_SLOTS]>::try_from(expected.pairs) {

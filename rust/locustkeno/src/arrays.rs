@@ -25,13 +25,19 @@ pub type MovedWords = [u16; BLOCKS];
 /// What lies past the kept counts means nothing, marks past the block count included.
 #[derive(Debug, PartialEq, Eq)]
 pub struct Arrays {
+    /// The nodes of all expressions.
     pub ws: Box<NodeWords>,
+    /// Their numbers.
     pub val: Box<Values>,
+    /// The commands.
     pub cw: Box<CommandWords>,
+    /// The blocks.
     pub bw: Box<BlockWords>,
-    /// How many nodes, commands and blocks there are.
+    /// How many nodes there are.
     pub nodes: u16,
+    /// How many commands there are.
     pub commands: u16,
+    /// How many blocks there are.
     pub blocks: u16,
     /// For each block 0 if it was read or built at the start, else the ordinal of the accepted compile
     /// that appended it.

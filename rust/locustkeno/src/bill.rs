@@ -8,11 +8,15 @@ use std::fmt;
 /// 30,000, and a discount of at most 1,000.
 #[derive(Debug, Clone, PartialEq, Eq)]
 pub struct Tariff {
+    /// The price of each item in coins.
     pub prices: Vec<u16>,
+    /// The discount in thousandths.
     pub discount: u16,
 }
 
 impl Tariff {
+    /// A tariff of these prices and this discount.
+    #[must_use]
     pub fn new(prices: impl Into<Vec<u16>>, discount: u16) -> Self {
         Self {
             prices: prices.into(),
@@ -27,11 +31,13 @@ pub struct Basket(pub [i32; NUM_SLOTS]);
 
 impl Basket {
     /// A basket of nothing.
+    #[must_use]
     pub fn empty() -> Self {
         Self([0; NUM_SLOTS])
     }
 
     /// All that a run left: from each slot its count.
+    #[must_use]
     pub fn counts(save: &Save) -> Self {
         Self(std::array::from_fn(|slot| save.pair(slot).1))
     }
@@ -48,11 +54,14 @@ impl Basket {
     }
 }
 
-/// A line of a bill: the item number that the run left, -1 for a hidden slot, the slot, and the coins.
+/// A line of a bill.
 #[derive(Debug, Copy, Clone, PartialEq, Eq)]
 pub struct Line {
+    /// The item number that the run left, -1 for a hidden slot.
     pub item: i32,
+    /// The slot.
     pub slot: u8,
+    /// What its number of the basket costs.
     pub coins: u64,
 }
 
@@ -79,8 +88,11 @@ pub struct Line {
 /// # Ok::<(), Refused>(())
 /// ```
 #[derive(Debug, Copy, Clone, PartialEq, Eq)]
+#[must_use]
 pub struct Bill {
+    /// A line for each slot, by item.
     pub lines: [Line; NUM_SLOTS],
+    /// The sum of the lines.
     pub total: u64,
 }
 
@@ -101,9 +113,9 @@ impl Save {
     /// the sheet.
     ///
     /// ```
-    /// use locustkeno::{Basket, Item, Loader, Refused, Save, Script, Sheet, Shop, Slot, Tariff};
+    /// use locustkeno::{Basket, Item, Loader, Refusal, Refused, Save, Script, Sheet, Shop, Slot, Tariff};
     /// let sheet = Sheet::new(&[None; 8], 0, [Item(0), Item(1), Item(2)]);
-    /// let slot = |item, limit| Slot { item: Some(Item(item)), limit, requirements: vec![] };
+    /// let slot = |item, limit| Slot { item: Some(Item(item)), limit, ..Slot::new() };
     /// let mut script = Script::read(&[1, 1, 1, 0, 0, 0])?;
     /// script.compile(&sheet, Loader::Disc, 0, &Shop::with_slots([slot(5, 3), slot(4, 3)]))?;
     /// let mut save = Save::new(&sheet);
@@ -115,49 +127,24 @@ impl Save {
     /// assert_eq!(last.collect::<Vec<_>>(), [(4, 1, 2), (5, 0, 2)]);
     /// assert_eq!(bill.total, 4);
     /// let four = Basket::empty().with(0, 4);
-    /// assert_eq!(save.bill(&sheet, &tariff, &four), Err(Refused(25)));
-    /// assert_eq!(save.bill(&sheet, &Tariff::new([1; 8], 1_001), &four), Err(Refused(24)));
+    /// assert_eq!(save.bill(&sheet, &tariff, &four), Err(Refusal::BadBasket.into()));
+    /// assert_eq!(save.bill(&sheet, &Tariff::new([1; 8], 1_001), &four), Err(Refusal::BadTariff.into()));
     /// # Ok::<(), Refused>(())
     /// ```
     pub fn bill(&self, sheet: &Sheet, tariff: &Tariff, basket: &Basket) -> Result<Bill, Refused> {
-        let mut items = [0; NUM_SLOTS];
-        let mut slots = [0; NUM_SLOTS];
-        let mut coins = [0; NUM_SLOTS];
-        let [timer5, timer10, timer15] = sheet.timers.map(|timer| timer.0);
-        // SAFETY: the slices and the arrays are as the library takes them, and none overlaps.
-        let billed = unsafe {
-            ffi::lk_bill(
-                sheet.attached.as_ptr(),
-                sheet.attached.len(),
-                sheet.atcs,
-                timer5,
-                timer10,
-                timer15,
-                self.items.as_ptr(),
-                self.items.len(),
-                self.atcs.as_ptr(),
-                self.atcs.len(),
-                self.flags.as_ptr(),
-                self.flags.len(),
-                self.times.as_ptr(),
-                self.times.len(),
-                self.variables.as_ptr(),
-                self.variables.len(),
-                tariff.prices.as_ptr(),
-                tariff.prices.len(),
-                tariff.discount,
-                &basket.0,
-                &mut items,
-                &mut slots,
-                &mut coins,
-            )
+        let mut by_item = ffi::Lines {
+            items: [0; NUM_SLOTS],
+            slots: [0; NUM_SLOTS],
+            coins: [0; NUM_SLOTS],
         };
-        Refused::check(billed.refusal)?;
+        let billed = ffi::bill(sheet, self, tariff, &basket.0, &mut by_item);
+        let saves = std::slice::from_ref(self);
+        Refused::check(billed.refusal).map_err(|refused| refused.in_saves(sheet, saves))?;
         Ok(Bill {
             lines: std::array::from_fn(|at| Line {
-                item: items[at],
-                slot: slots[at],
-                coins: coins[at],
+                item: by_item.items[at],
+                slot: by_item.slots[at],
+                coins: by_item.coins[at],
             }),
             total: billed.total,
         })

@@ -1,11 +1,12 @@
 //! What the people who sign a shop are told before it is compiled.
 
 use crate::shop::requirement;
-use crate::{Item, Refused, Requirement, Save, Sheet, Shop, Slot, ffi};
+use crate::{Refused, Requirement, Save, Sheet, Shop, Slot, ffi};
 use std::fmt;
 
 /// What is told of a slot, with the sentence to read out.
 #[derive(Debug, Clone, PartialEq, Eq)]
+#[must_use]
 pub struct Finding {
     /// The slot's number, from 0.
     pub slot: usize,
@@ -62,6 +63,7 @@ pub enum Found {
 
 impl Finding {
     /// Whether what is printed and what runs differ.
+    #[must_use]
     pub fn differs(&self) -> bool {
         self.settings().is_some()
     }
@@ -76,16 +78,15 @@ impl Finding {
     }
 
     /// A save under which what is printed lists the slot and what runs hides it, where there is one.
+    #[must_use]
     pub fn save(&self, sheet: &Sheet) -> Option<Save> {
-        let mut save = Save::new(sheet);
-        for setting in self.settings()? {
-            match *setting {
-                Requirement::HaveItem(item) => save.items[usize::from(item.0)] = 1,
-                Requirement::HaveAtc(atc) => save.atcs[usize::from(atc.0)] = 1,
-                Requirement::HaveFlag(flag) => save.flags[flag as usize] = 1,
-                _ => {}
-            }
-        }
+        let settings = self.settings()?.iter();
+        let save = settings.fold(Save::new(sheet), |save, setting| match *setting {
+            Requirement::HaveItem(item) => save.with_item(item, 1),
+            Requirement::HaveAtc(atc) => save.with_atc(atc),
+            Requirement::HaveFlag(flag) => save.with_flag(flag as usize),
+            _ => save,
+        });
         Some(save)
     }
 }
@@ -106,17 +107,6 @@ impl fmt::Display for Words {
     }
 }
 
-fn negated(requirement: Requirement) -> Requirement {
-    match requirement {
-        Requirement::HaveItem(item) => Requirement::MissingItem(item),
-        Requirement::MissingItem(item) => Requirement::HaveItem(item),
-        Requirement::HaveAtc(atc) => Requirement::MissingAtc(atc),
-        Requirement::MissingAtc(atc) => Requirement::HaveAtc(atc),
-        Requirement::HaveFlag(flag) => Requirement::MissingFlag(flag),
-        Requirement::MissingFlag(flag) => Requirement::HaveFlag(flag),
-    }
-}
-
 impl fmt::Display for Finding {
     fn fmt(&self, f: &mut fmt::Formatter<'_>) -> fmt::Result {
         write!(f, "slot {}: ", self.slot)?;
@@ -126,7 +116,7 @@ impl fmt::Display for Finding {
                 acquired,
                 ..
             } => {
-                let (one, other) = (Words(*requirement), Words(negated(*requirement)));
+                let (one, other) = (Words(*requirement), Words(requirement.negate()));
                 let listed = if *acquired {
                     "listed only once acquired"
                 } else {
@@ -210,34 +200,18 @@ impl Shop {
     /// use locustkeno::Requirement::{HaveFlag, HaveItem, MissingFlag};
     /// use locustkeno::{Item, Refused, Sheet, Shop, Slot};
     /// let sheet = Sheet::new(&[None; 8], 0, [Item(0), Item(1), Item(2)]);
-    /// let pair = Slot { item: Some(Item(7)), limit: 3, requirements: vec![HaveFlag(2), MissingFlag(2)] };
-    /// let own = Slot { item: Some(Item(7)), limit: 1, requirements: vec![HaveItem(Item(7))] };
+    /// let pair = Slot { item: Some(Item(7)), limit: 3, requirements: [HaveFlag(2), MissingFlag(2)].into() };
+    /// let own = Slot { item: Some(Item(7)), limit: 1, requirements: [HaveItem(Item(7))].into() };
     /// let told = Shop::with_slots([pair, own]).check(&sheet)?;
     /// assert_eq!(told[0].to_string(), "slot 0: flag 2 and !flag 2 contradict: never listed, and the printed slot will not show it");
     /// assert!(told[1].differs());
     /// # Ok::<(), Refused>(())
     /// ```
     pub fn check(&self, sheet: &Sheet) -> Result<Vec<Finding>, Refused> {
-        let [Item(five), Item(ten), Item(fifteen)] = sheet.timers;
         let shop = self.arrays();
-        // SAFETY: the slice and the arrays are as the library takes them; it writes to none.
-        let answer = unsafe {
-            ffi::lk_check(
-                sheet.attached.as_ptr(),
-                sheet.attached.len(),
-                sheet.atcs,
-                five,
-                ten,
-                fifteen,
-                &shop.items,
-                &shop.limits,
-                &shop.codes,
-                &shop.lens,
-            )
-        };
-        Refused::check(answer.refusal)?;
-        let slots = self.slots();
-        let told = answer.slots.iter().zip(&slots).enumerate();
+        let answer = ffi::check(sheet, shop);
+        Refused::check(answer.refusal).map_err(|refused| refused.in_shop(sheet, shop))?;
+        let told = answer.slots.iter().zip(self.slots()).enumerate();
         Ok(told
             .flat_map(|(slot, (told, given))| {
                 findings(told, given)

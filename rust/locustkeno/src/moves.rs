@@ -13,7 +13,7 @@ impl Preview {
     /// ```
     /// use locustkeno::{Item, Refused, Save, Sheet, Shop, Slot};
     /// let sheet = Sheet::new(&[None; 8], 0, [Item(0), Item(1), Item(2)]);
-    /// let slot = |item, limit| Slot { item: Some(Item(item)), limit, requirements: vec![] };
+    /// let slot = |item, limit| Slot { item: Some(Item(item)), limit, ..Slot::new() };
     /// let shop = Shop::with_slots([slot(7, 3), slot(7, 1), slot(7, 9), slot(0, 1)]);
     /// let holding = |item: usize, count| {
     ///     let mut save = Save::new(&sheet);
@@ -28,6 +28,7 @@ impl Preview {
     /// assert_eq!(holding(1, 0)?.differences(&holding(1, 1)?), [3]);
     /// # Ok::<(), Refused>(())
     /// ```
+    #[must_use]
     pub fn differences(&self, other: &Self) -> Vec<usize> {
         let pairs = self.pairs.iter().zip(&other.pairs);
         pairs

@@ -1,7 +1,7 @@
 //! Taking back the blocks of a script that nothing reaches.
 
 use crate::arrays::{MovedWords, zeros};
-use crate::{Refused, Script, ffi};
+use crate::{BlockId, Refused, Script, ffi};
 
 /// Where an accepted reclaim left each block.
 #[derive(Debug, Clone, PartialEq, Eq)]
@@ -12,8 +12,9 @@ pub struct Moved {
 impl Moved {
     /// The new number of the block that had this number before, or `None` where it is gone or was not
     /// there.
-    pub fn now(&self, block: u32) -> Option<u32> {
-        let word = self.words.get(usize::try_from(block).ok()?)?;
+    #[must_use]
+    pub fn now(&self, block: impl Into<BlockId>) -> Option<u32> {
+        let word = self.words.get(block.into().index())?;
         word.checked_sub(1).map(u32::from)
     }
 }
@@ -33,11 +34,12 @@ impl Script {
     ///
     /// Roots may repeat and may be blocks of any kind; without roots no block is left. Over 256 roots, or
     /// one that is not a block, are refusal 18 before any other check. Refused, the script stays as it was.
+    /// A reclaim needs up to 768 kilobytes of stack.
     ///
     /// ```
-    /// use locustkeno::{Item, Loader, Refused, Script, Sheet, Shop, Slot};
+    /// use locustkeno::{Item, Loader, Refusal, Refused, Script, Sheet, Shop, Slot};
     /// let sheet = Sheet::new(&[None; 8], 0, [Item(0), Item(1), Item(2)]);
-    /// let slot = Slot { item: Some(Item(7)), limit: 3, requirements: vec![] };
+    /// let slot = Slot { item: Some(Item(7)), limit: 3, ..Slot::new() };
     /// let (empty, shop) = (Shop::with_slots([]), Shop::with_slots([slot]));
     /// // A data block, and a Return block at which a shop is compiled, and then another.
     /// let mut script = Script::read(&[2, 2, 1, 1, 0, 0, 0])?;
@@ -51,8 +53,8 @@ impl Script {
     /// assert_eq!(script.parse(&sheet, 0)?, shop);
     /// // Block 23 was appended by the second compile, and is block 1 now.
     /// assert_eq!((script.birth(0), script.birth(1), script.compiles()), (Some(0), Some(2), 2));
-    /// assert_eq!(script.compile(&sheet, Loader::Disc, 1, &empty), Err(Refused(17)));
-    /// assert_eq!(script.reclaim(&[0, blocks as u32]), Err(Refused(18)));
+    /// assert_eq!(script.compile(&sheet, Loader::Disc, 1, &empty), Err(Refusal::BornLater.into()));
+    /// assert_eq!(script.reclaim(&[0, blocks as u32]), Err(Refusal::BadRoots.into()));
     /// # Ok::<(), Refused>(())
     /// ```
     pub fn reclaim(&mut self, roots: &[u32]) -> Result<Moved, Refused> {
@@ -65,23 +67,7 @@ impl Script {
     /// as it was.
     pub fn reclaim_into(&mut self, roots: &[u32], moved: &mut Moved) -> Result<(), Refused> {
         let a = &mut self.arrays;
-        // SAFETY: the slice and the arrays are as the library takes them, and none overlaps.
-        let kept = unsafe {
-            ffi::lk_reclaim(
-                &mut *a.ws,
-                &mut *a.val,
-                &mut *a.cw,
-                &mut *a.bw,
-                &mut *a.births,
-                a.nodes,
-                a.commands,
-                a.blocks,
-                a.compiles,
-                roots.as_ptr(),
-                roots.len(),
-                &mut *moved.words,
-            )
-        };
+        let kept = ffi::reclaim(a, roots, &mut moved.words);
         a.keep(kept)
     }
 }

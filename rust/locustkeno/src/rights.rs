@@ -1,8 +1,8 @@
 //! Who may edit what: rights of users in the slots of a shop, their edits, and what a user is shown.
 
-use crate::ffi::{self, RightsBytes};
-use crate::shop::{Row, item_number, row};
-use crate::{Item, NUM_SLOTS, Refused, Requirement, Sheet, Shop};
+use crate::ffi::{self, EditWords, RightsBytes};
+use crate::shop::{item_number, row};
+use crate::{Item, NUM_SLOTS, Refused, Requirements, Sheet, Shop};
 use std::fmt;
 
 /// Up to so many users, from 0 on, work on one shop.
@@ -39,6 +39,7 @@ pub struct Rights {
 impl Rights {
     /// The rights in these bytes, one for each slot of user 0, then those of user 1 and so on. A byte is the sum of its
     /// [`Right`]s; its four higher bits mean nothing.
+    #[must_use]
     pub fn from_bytes(bytes: [u8; USERS * NUM_SLOTS]) -> Self {
         Self { bytes }
     }
@@ -58,6 +59,7 @@ impl Rights {
     }
 
     /// Whether a user has a right in a slot.
+    #[must_use]
     pub fn has(&self, user: u32, slot: u32, right: Right) -> bool {
         place(user, slot).is_some_and(|at| self.bytes[at] & right as u8 != 0)
     }
@@ -91,23 +93,33 @@ pub enum Content {
     /// The limit.
     Limit(i16),
     /// The requirements, kept as they are given: repeats and order too.
-    Requirements(Vec<Requirement>),
+    Requirements(Requirements),
 }
 
 /// An edit: the new content of one field of one slot. Which field it is, the content says.
 #[derive(Debug, Clone, PartialEq, Eq)]
 pub struct Edit {
+    /// The slot, from 0.
     pub slot: u32,
+    /// The field's new content.
     pub content: Content,
 }
 
 impl Edit {
-    /// The field's number and its content as the library takes it; of the others it reads nothing.
-    fn numbers(&self) -> (u8, i32, i16, (Row, u8)) {
-        match &self.content {
+    /// The edit as the library takes it.
+    fn words(&self) -> EditWords {
+        let (field, item, limit, (entries, len)) = match &self.content {
             Content::Item(item) => (0, item_number(*item), 0, row(&[])),
             Content::Limit(limit) => (1, -1, *limit, row(&[])),
             Content::Requirements(requirements) => (2, -1, 0, row(requirements)),
+        };
+        EditWords {
+            slot: self.slot,
+            field,
+            item,
+            limit,
+            entries,
+            len,
         }
     }
 }
@@ -122,7 +134,7 @@ impl Shop {
     /// A session of two users: the buyer fills slot 0, the clerk sees it and may only change its limit.
     ///
     /// ```
-    /// use locustkeno::{Content, Edit, Item, Refused, Right, Rights, Sheet, Shop, Slot};
+    /// use locustkeno::{Content, Edit, Item, Refusal, Refused, Right, Rights, Sheet, Shop, Slot};
     /// let sheet = Sheet::new(&[None; 8], 0, [Item(0), Item(1), Item(2)]);
     /// let (buyer, clerk) = (0, 1);
     /// let mut rights = Rights::default();
@@ -130,7 +142,7 @@ impl Shop {
     /// rights.give(clerk, 0, Right::See);
     /// rights.give(clerk, 0, Right::ChangeLimit);
     ///
-    /// let hidden = Slot { item: Some(Item(5)), limit: 9, requirements: vec![] };
+    /// let hidden = Slot { item: Some(Item(5)), limit: 9, ..Slot::new() };
     /// let mut shop = Shop::with_slots([Slot::default(), hidden.clone()]);
     /// let item = |item| Edit { slot: 0, content: Content::Item(Some(Item(item))) };
     /// let limit = |slot, limit| Edit { slot, content: Content::Limit(limit) };
@@ -138,12 +150,12 @@ impl Shop {
     /// shop.edit(&sheet, &rights, buyer, &item(7))?;
     /// shop.edit(&sheet, &rights, clerk, &limit(0, 3))?;
     /// // Item 8 is not on the sheet, the clerk may not change the item, and there are sixteen users.
-    /// assert_eq!(shop.edit(&sheet, &rights, buyer, &item(8)), Err(Refused(8)));
-    /// assert_eq!(shop.edit(&sheet, &rights, clerk, &item(8)), Err(Refused(21)));
-    /// assert_eq!(shop.edit(&sheet, &rights, clerk, &limit(1, 3)), Err(Refused(21)));
-    /// assert_eq!(shop.edit(&sheet, &rights, 16, &item(8)), Err(Refused(20)));
+    /// assert_eq!(shop.edit(&sheet, &rights, buyer, &item(8)), Err(Refusal::BadShop.into()));
+    /// assert_eq!(shop.edit(&sheet, &rights, clerk, &item(8)), Err(Refusal::NoRight.into()));
+    /// assert_eq!(shop.edit(&sheet, &rights, clerk, &limit(1, 3)), Err(Refusal::NoRight.into()));
+    /// assert_eq!(shop.edit(&sheet, &rights, 16, &item(8)), Err(Refusal::NoUser.into()));
     ///
-    /// let slot = Slot { item: Some(Item(7)), limit: 3, requirements: vec![] };
+    /// let slot = Slot { item: Some(Item(7)), limit: 3, ..Slot::new() };
     /// assert_eq!(shop.slots()[..2], [slot.clone(), hidden]);
     /// // The clerk sees slot 0 and no other, the buyer none.
     /// assert_eq!(shop.shown_to(&rights, clerk)?, Shop::with_slots([slot]));
@@ -157,51 +169,20 @@ impl Shop {
         user: u32,
         edit: &Edit,
     ) -> Result<(), Refused> {
-        let [timer5, timer10, timer15] = sheet.timers.map(|item| item.0);
-        let (field, item, limit, (entries, len)) = edit.numbers();
-        let shop = self.arrays_mut();
-        // SAFETY: the slice and the arrays are as the library takes them, and none overlaps.
-        let refusal = unsafe {
-            ffi::lk_edit(
-                sheet.attached.as_ptr(),
-                sheet.attached.len(),
-                sheet.atcs,
-                timer5,
-                timer10,
-                timer15,
-                &rights.bytes,
-                &mut shop.items,
-                &mut shop.limits,
-                &mut shop.codes,
-                &mut shop.lens,
-                user,
-                edit.slot,
-                field,
-                item,
-                limit,
-                &entries,
-                len,
-            )
-        };
+        let words = edit.words();
+        let refusal = self.change(|shop| ffi::edit(sheet, &rights.bytes, shop, user, &words));
+        let EditWords {
+            item, entries, len, ..
+        } = words;
         Refused::check(refusal)
+            .map_err(|refused| refused.in_slot(sheet, edit.slot, item, &entries, len))
     }
 
     /// The shop as a user is shown it: a slot that the user may see as it stands, any other as an empty one. Where there is
     /// no such user it is refusal 20. See [`Shop::edit`] for a session.
     pub fn shown_to(&self, rights: &Rights, user: u32) -> Result<Shop, Refused> {
         let mut shown = self.clone();
-        let shop = shown.arrays_mut();
-        // SAFETY: as in `edit`.
-        let refusal = unsafe {
-            ffi::lk_show(
-                &rights.bytes,
-                &mut shop.items,
-                &mut shop.limits,
-                &mut shop.codes,
-                &mut shop.lens,
-                user,
-            )
-        };
+        let refusal = shown.change(|shop| ffi::show(&rights.bytes, shop, user));
         Refused::check(refusal).map(|()| shown)
     }
 }

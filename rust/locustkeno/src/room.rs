@@ -6,7 +6,9 @@ use crate::arrays::{BLOCKS, COMMANDS, NODES};
 /// How much a script may hold of something, and how much of that is used.
 #[derive(Debug, Copy, Clone, PartialEq, Eq)]
 pub struct Use {
+    /// How much is used.
     pub used: usize,
+    /// How much it may be.
     pub limit: usize,
 }
 
@@ -19,6 +21,7 @@ impl Use {
     }
 
     /// How many more there is room for.
+    #[must_use]
     pub fn left(self) -> usize {
         self.limit.saturating_sub(self.used)
     }
@@ -27,7 +30,9 @@ impl Use {
 /// How much of each limit a script uses. A compile that would pass one of them is refusal 9.
 #[derive(Debug, Copy, Clone, PartialEq, Eq)]
 pub struct Room {
+    /// The blocks.
     pub blocks: Use,
+    /// The commands.
     pub commands: Use,
     /// The nodes of all expressions.
     pub nodes: Use,
@@ -52,6 +57,7 @@ impl Script {
     /// assert_eq!(script.room().blocks.left(), 4_096 - 22);
     /// # Ok::<(), Refused>(())
     /// ```
+    #[must_use]
     pub fn room(&self) -> Room {
         let a = &self.arrays;
         Room {

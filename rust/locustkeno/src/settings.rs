@@ -9,6 +9,7 @@ use std::fmt;
 /// A setting answers each subject of the slot with yes or no: the items, attachments and flags of its requirements,
 /// at limit 1 also the item or attachment that is acquired, and for a timer whether `time[2]` is its rate.
 #[derive(Debug, Copy, Clone, PartialEq, Eq, Hash)]
+#[must_use]
 pub struct Settings {
     /// How many subjects the slot has, at most 16.
     pub subjects: u8,
@@ -20,6 +21,7 @@ pub struct Settings {
 
 impl Settings {
     /// How many settings there are: 2 to the number of subjects.
+    #[must_use]
     pub fn all(self) -> u32 {
         1 << self.subjects
     }
@@ -45,37 +47,24 @@ impl Slot {
     /// subjects, and is hidden in the only setting.
     ///
     /// ```
-    /// use locustkeno::{Item, Refused, Requirement, Sheet, Slot};
+    /// use locustkeno::{Item, Refusal, Refused, Requirement, Sheet, Slot};
     /// let sheet = Sheet::new(&[None; 8], 0, [Item(0), Item(1), Item(2)]);
     /// let slot = Slot { item: Some(Item(7)), limit: 3, requirements: (0..10).map(Requirement::HaveFlag).collect() };
     /// assert_eq!(slot.settings(&sheet)?.to_string(), "listed in 1 of 1,024 settings");
     /// // At limit 1 the item itself is a subject: held, the slot is listed whatever the flag is.
-    /// let slot = Slot { item: Some(Item(7)), limit: 1, requirements: vec![Requirement::HaveFlag(4)] };
+    /// let slot = Slot { item: Some(Item(7)), limit: 1, requirements: [Requirement::HaveFlag(4)].into() };
     /// let settings = slot.settings(&sheet)?;
     /// assert_eq!((settings.subjects, settings.listed, settings.hidden), (2, 3, 1));
     /// let slot = Slot { item: Some(Item(8)), ..slot };
-    /// assert_eq!(slot.settings(&sheet), Err(Refused(8)));
+    /// assert_eq!(slot.settings(&sheet), Err(Refusal::BadShop.into()));
     /// # Ok::<(), Refused>(())
     /// ```
     pub fn settings(&self, sheet: &Sheet) -> Result<Settings, Refused> {
         let (codes, len) = row(&self.requirements);
-        let [five, ten, fifteen] = sheet.timers;
-        // SAFETY: the slice and the row are as the library takes them; it writes to neither.
-        let answer = unsafe {
-            ffi::lk_settings(
-                sheet.attached.as_ptr(),
-                sheet.attached.len(),
-                sheet.atcs,
-                five.0,
-                ten.0,
-                fifteen.0,
-                item_number(self.item),
-                self.limit,
-                &codes,
-                len,
-            )
-        };
-        Refused::check(answer.refusal)?;
+        let item = item_number(self.item);
+        let answer = ffi::settings(sheet, item, self.limit, &codes, len);
+        Refused::check(answer.refusal)
+            .map_err(|refused| refused.in_slot(sheet, 0, item, &codes, len))?;
         Ok(Settings {
             subjects: answer.subjects,
             listed: answer.listed,

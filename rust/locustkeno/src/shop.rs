@@ -1,39 +1,13 @@
-//! Requirements, slots and shops.
+//! Slots and shops.
 
-use crate::{Atc, FLAGS, Item};
+use crate::{BlockId, FLAGS, Item, Loader, Refused, Requirements, Script, Sheet};
 use std::fmt;
+use std::sync::OnceLock;
 
 /// The number of slots in a shop.
 pub const NUM_SLOTS: usize = 20;
 /// The most entries that a slot may be given.
 pub const ENTRIES: usize = 14;
-
-/// A requirement for an item to be visible in the shop; the order is by kind, then by number.
-#[derive(Debug, Copy, Clone, PartialEq, Eq, PartialOrd, Ord, Hash)]
-pub enum Requirement {
-    /// The player must have an item.
-    HaveItem(Item),
-    /// The player must not have an item.
-    MissingItem(Item),
-    /// The player must have an attachment.
-    HaveAtc(Atc),
-    /// The player must not have an attachment.
-    MissingAtc(Atc),
-    /// A flag must be set.
-    HaveFlag(i32),
-    /// A flag must not be set.
-    MissingFlag(i32),
-}
-
-impl Requirement {
-    /// The flag that it asks about.
-    pub(crate) fn flag(self) -> Option<i32> {
-        match self {
-            Self::HaveFlag(flag) | Self::MissingFlag(flag) => Some(flag),
-            _ => None,
-        }
-    }
-}
 
 /// Whether a save has the flag.
 fn is_flag(number: i32) -> bool {
@@ -49,44 +23,100 @@ pub struct Slot {
     pub limit: i16,
     /// The requirements for the slot to be visible, in any order; one that is given twice counts
     /// once, but both count for the [`ENTRIES`] that may be given.
-    pub requirements: Vec<Requirement>,
+    pub requirements: Requirements,
 }
 
-/// A shop: twenty slots, held as the four arrays that the library takes.
+impl Slot {
+    /// An empty slot.
+    #[must_use]
+    pub fn new() -> Self {
+        Self::default()
+    }
+}
+
+/// A shop: twenty slots. Two shops are equal where their slots are, in which requirements compare as sets.
 ///
 /// ```
-/// use locustkeno::{Item, Shop, Slot};
-/// let slot = Slot { item: Some(Item(7)), limit: 3, requirements: vec![] };
-/// let shop = Shop::with_slots([slot.clone()]);
-/// assert_eq!(shop.slots().len(), 20);
-/// assert_eq!(shop.slots()[0], slot);
-/// assert_eq!(shop.slots()[19], Slot::default());
+/// use locustkeno::{Item, Loader, Refused, Requirement, Script, Sheet, Shop};
+/// let sheet = Sheet::new(&[None; 8], 0, [Item(0), Item(1), Item(2)]);
+/// let mut shop = Shop::new();
+/// let slot = &mut shop.slots_mut()[0];
+/// (slot.item, slot.limit) = (Some(Item(7)), 3);
+/// slot.requirements.extend([Requirement::HaveFlag(2), Requirement::HaveFlag(1)]);
+/// let mut script = Script::new();
+/// shop.compile(&mut script, &sheet, Loader::Disc, 0)?;
+/// assert_eq!(Shop::parse(&script, &sheet, 0)?, shop);
+/// # Ok::<(), Refused>(())
 /// ```
-#[derive(Clone, PartialEq, Eq)]
+#[derive(Clone)]
 pub struct Shop {
-    arrays: Box<ShopArrays>,
+    // One of the two is always there, and where both are they are the same shop. The library's calls need only the arrays, and
+    // who looks at a shop or changes it by hand only the slots.
+    arrays: OnceLock<Box<ShopArrays>>,
+    slots: OnceLock<Vec<Slot>>,
 }
 
 impl Shop {
-    /// A shop with these slots, however many: the library drops those past the twentieth unchecked and
-    /// makes missing ones empty.
-    pub fn with_slots(slots: impl IntoIterator<Item = Slot>) -> Self {
-        let mut given = Given::new();
-        // Slots may come without end, as in the source.
-        let mut slots = slots.into_iter();
-        while given.has_room() {
-            let Some(slot) = slots.next() else { break };
-            given.push(&slot);
-        }
-        let mut arrays = Box::new(ShopArrays::new());
-        given.put(&mut arrays);
-        Self { arrays }
+    /// An empty shop.
+    #[must_use]
+    pub fn new() -> Self {
+        Self::with_slots([])
     }
 
-    /// The twenty slots. A slot that was given over [`ENTRIES`] entries, with which every call refuses the
-    /// shop (8), shows the first of them.
-    pub fn slots(&self) -> Vec<Slot> {
-        (0..NUM_SLOTS).map(|i| self.arrays.slot(i)).collect()
+    /// A shop with these slots, however many: the library drops those past the twentieth unchecked and
+    /// makes missing ones empty.
+    ///
+    /// ```
+    /// use locustkeno::{Item, Shop, Slot};
+    /// let slot = Slot { item: Some(Item(7)), limit: 3, ..Slot::new() };
+    /// let shop = Shop::with_slots([slot.clone()]);
+    /// assert_eq!(shop.slots().len(), 20);
+    /// assert_eq!((&shop.slots()[0], &shop.slots()[19]), (&slot, &Slot::new()));
+    /// ```
+    pub fn with_slots(slots: impl IntoIterator<Item = Slot>) -> Self {
+        // Slots may come without end, as in the source; one that is dropped stands for all.
+        let mut slots: Vec<Slot> = slots.into_iter().take(GIVEN).collect();
+        let arrays = ShopArrays::of(&slots);
+        slots.resize(NUM_SLOTS, Slot::new());
+        Self {
+            arrays: arrays.into(),
+            slots: slots.into(),
+        }
+    }
+
+    /// Reads the shop that starts at a block of a script: [`Script::parse`].
+    pub fn parse(
+        script: &Script,
+        sheet: &Sheet,
+        setup: impl Into<BlockId>,
+    ) -> Result<Self, Refused> {
+        script.parse(sheet, setup)
+    }
+
+    /// Compiles the shop into a script and links it at a block: [`Script::compile`].
+    pub fn compile(
+        &self,
+        script: &mut Script,
+        sheet: &Sheet,
+        loader: Loader,
+        setup: impl Into<BlockId>,
+    ) -> Result<(), Refused> {
+        script.compile(sheet, loader, setup, self)
+    }
+
+    /// The twenty slots.
+    #[must_use]
+    pub fn slots(&self) -> &[Slot] {
+        self.slots.get_or_init(|| self.arrays().slots())
+    }
+
+    /// The twenty slots, to be changed. They are judged by the calls that take the shop, with refusal 8.
+    #[must_use]
+    pub fn slots_mut(&mut self) -> &mut [Slot] {
+        let _ = self.slots();
+        // What was made of the slots before is no longer theirs.
+        self.arrays.take();
+        self.slots.get_mut().expect("they were made above")
     }
 
     /// Each flag outside 0 to 2,047 that a slot with an item asks about, with the slot's number: what was probably typed
@@ -95,14 +125,15 @@ impl Shop {
     ///
     /// ```
     /// use locustkeno::{Item, Requirement, Shop, Slot};
-    /// let requirements = vec![Requirement::HaveFlag(40), Requirement::MissingFlag(20_480)];
+    /// let requirements = [Requirement::HaveFlag(40), Requirement::MissingFlag(20_480)].into();
     /// let typo = Slot { item: Some(Item(7)), limit: 3, requirements };
     /// let unused = Slot { item: None, ..typo.clone() };
     /// assert_eq!(Shop::with_slots([unused, typo]).stray_flags(), [(1, 20_480)]);
     /// ```
+    #[must_use]
     pub fn stray_flags(&self) -> Vec<(usize, i32)> {
         let mut strays = Vec::new();
-        for (i, slot) in self.slots().into_iter().enumerate() {
+        for (i, slot) in self.slots().iter().enumerate() {
             if slot.item.is_none() {
                 continue;
             }
@@ -112,19 +143,50 @@ impl Shop {
         strays
     }
 
-    /// The shop that the library left in the arrays.
+    /// The shop as the library takes it. Where a slot was given over [`ENTRIES`] entries, its first are there.
+    #[must_use]
+    pub fn arrays(&self) -> &ShopArrays {
+        self.arrays.get_or_init(|| ShopArrays::of(self.slots()))
+    }
+
+    /// The shop that the library left in the arrays; no slot of it has over `ENTRIES` entries.
     pub(crate) fn from_arrays(arrays: Box<ShopArrays>) -> Self {
-        Self { arrays }
+        Self {
+            arrays: arrays.into(),
+            slots: OnceLock::new(),
+        }
     }
 
-    pub(crate) fn arrays(&self) -> &ShopArrays {
-        &self.arrays
-    }
-
-    pub(crate) fn arrays_mut(&mut self) -> &mut ShopArrays {
-        &mut self.arrays
+    /// Lets the library change the arrays, and brings what it changed into the slots. The rest of them stays as it is, since of
+    /// over `ENTRIES` entries the arrays hold the first only.
+    pub(crate) fn change(&mut self, call: impl FnOnce(&mut ShopArrays) -> u8) -> u8 {
+        let before = self.arrays().clone();
+        let arrays = self.arrays.get_mut().expect("they were made above");
+        let refusal = call(arrays);
+        let slots = self.slots.get_mut().into_iter().flatten();
+        for (i, slot) in slots.enumerate() {
+            (slot.item, slot.limit) = (arrays.item(i), arrays.limits[i]);
+            if arrays.entries(i) != before.entries(i) {
+                slot.requirements = arrays.requirements(i);
+            }
+        }
+        refusal
     }
 }
+
+impl Default for Shop {
+    fn default() -> Self {
+        Self::new()
+    }
+}
+
+impl PartialEq for Shop {
+    fn eq(&self, other: &Self) -> bool {
+        self.slots() == other.slots()
+    }
+}
+
+impl Eq for Shop {}
 
 impl fmt::Debug for Shop {
     fn fmt(&self, f: &mut fmt::Formatter<'_>) -> fmt::Result {
@@ -132,31 +194,36 @@ impl fmt::Debug for Shop {
     }
 }
 
-use crossing::Given;
-pub(crate) use crossing::{Codes, Row, ShopArrays, item_number, requirement, row};
+use crossing::GIVEN;
+pub use crossing::{Codes, ShopArrays};
+pub(crate) use crossing::{Given, Row, item_number, requirement, row};
 
 /// Slots as the library takes them, there and back.
 mod crossing {
-    use super::{ENTRIES, NUM_SLOTS, Requirement, Slot};
-    use crate::{Atc, Item, ffi};
+    use super::{ENTRIES, NUM_SLOTS, Slot};
+    use crate::{Atc, Item, Requirement, Requirements, ffi};
 
-    /// The codes of the requirements, as many for each slot as it may be given.
+    /// Codes of requirements, [`ENTRIES`] for each slot: the kind, 0 to 5 in sorting order, times 2^32, plus the number, plus 2^31.
     pub type Codes = [u64; NUM_SLOTS * ENTRIES];
 
     /// The codes of one slot.
     pub type Row = [u64; ENTRIES];
 
-    /// A shop as four arrays: no item is -1, and a length over `ENTRIES` counts as that many entries.
-    #[derive(Clone, PartialEq, Eq)]
+    /// A shop as the four arrays that the library takes.
+    #[derive(Debug, Clone, PartialEq, Eq)]
     pub struct ShopArrays {
+        /// The item of each slot, -1 for none.
         pub items: [i32; NUM_SLOTS],
+        /// The limit of each slot.
         pub limits: [i16; NUM_SLOTS],
+        /// The codes of each slot's entries.
         pub codes: Codes,
+        /// How many entries each slot was given. Over [`ENTRIES`] is refusal 8.
         pub lens: [u8; NUM_SLOTS],
     }
 
     /// How many slots are handed to the library at most: one that it drops stands for all past the twentieth.
-    const GIVEN: usize = NUM_SLOTS + 1;
+    pub const GIVEN: usize = NUM_SLOTS + 1;
 
     /// The slots given, each with `ENTRIES` codes, where they lie: nothing is allocated.
     pub struct Given {
@@ -206,7 +273,7 @@ mod crossing {
     impl ShopArrays {
         /// The arrays of an empty shop.
         #[inline]
-        pub fn new() -> Self {
+        pub(crate) fn new() -> Self {
             Self {
                 items: [-1; NUM_SLOTS],
                 limits: [0; NUM_SLOTS],
@@ -215,17 +282,44 @@ mod crossing {
             }
         }
 
+        /// The twenty slots that the library makes of these, at most `GIVEN`.
+        pub(crate) fn of(slots: &[Slot]) -> Box<Self> {
+            let mut given = Given::new();
+            slots.iter().for_each(|slot| given.push(slot));
+            let mut arrays = Box::new(Self::new());
+            ffi::with_slots(&given, &mut arrays);
+            arrays
+        }
+
+        /// All slots.
+        pub(crate) fn slots(&self) -> Vec<Slot> {
+            (0..NUM_SLOTS).map(|i| self.slot(i)).collect()
+        }
+
+        /// The codes of slot i and how many were given.
+        pub(crate) fn entries(&self, i: usize) -> (&[u64], u8) {
+            (&self.codes[ENTRIES * i..][..ENTRIES], self.lens[i])
+        }
+
         /// Slot i.
-        pub fn slot(&self, i: usize) -> Slot {
-            let len = ENTRIES.min(self.lens[i].into());
+        pub(crate) fn slot(&self, i: usize) -> Slot {
             Slot {
-                item: u16::try_from(self.items[i]).ok().map(Item),
+                item: self.item(i),
                 limit: self.limits[i],
-                requirements: self.codes[ENTRIES * i..][..len]
-                    .iter()
-                    .map(|code| requirement(*code))
-                    .collect(),
+                requirements: self.requirements(i),
             }
+        }
+
+        /// The item of slot i.
+        pub(crate) fn item(&self, i: usize) -> Option<Item> {
+            u16::try_from(self.items[i]).ok().map(Item)
+        }
+
+        /// The requirements of slot i.
+        pub(crate) fn requirements(&self, i: usize) -> Requirements {
+            let (codes, len) = self.entries(i);
+            let given = &codes[..ENTRIES.min(len.into())];
+            given.iter().map(|code| requirement(*code)).collect()
         }
     }
 
@@ -245,10 +339,6 @@ mod crossing {
             }
         }
 
-        pub fn has_room(&self) -> bool {
-            self.count < GIVEN
-        }
-
         /// One slot more.
         pub fn push(&mut self, slot: &Slot) {
             let i = self.count;
@@ -260,25 +350,15 @@ mod crossing {
             self.count += 1;
         }
 
-        /// The twenty slots of a shop into its arrays.
-        pub fn put(&self, to: &mut ShopArrays) {
-            // SAFETY: the parts handed in lie in the arrays, the library writes to arrays of its lengths, and none overlaps.
-            unsafe {
-                ffi::lk_with_slots(
-                    self.items.as_ptr(),
-                    self.count,
-                    self.limits.as_ptr(),
-                    self.count,
-                    self.codes.as_ptr(),
-                    self.count * ENTRIES,
-                    self.lens.as_ptr(),
-                    self.count,
-                    &mut to.items,
-                    &mut to.limits,
-                    &mut to.codes,
-                    &mut to.lens,
-                );
-            }
+        /// What was given, one behind another: items, limits, codes and lengths.
+        pub fn words(&self) -> (&[i32], &[i16], &[u64], &[u8]) {
+            let count = self.count;
+            (
+                &self.items[..count],
+                &self.limits[..count],
+                &self.codes[..count * ENTRIES],
+                &self.lens[..count],
+            )
         }
     }
 }

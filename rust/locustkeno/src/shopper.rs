@@ -24,7 +24,7 @@ impl Step {
             0 => Self::Bought(coins),
             1 => Self::SoldOut,
             2 => Self::TooDear,
-            refusal => Self::Stopped(Refused(refusal)),
+            refusal => Self::Stopped(Refused::of(refusal)),
         }
     }
 }
@@ -32,9 +32,9 @@ impl Step {
 /// A shopper: a save, and money of 0 to 1,000,000 coins.
 ///
 /// ```
-/// use locustkeno::{Item, Refused, Save, Sheet, Shop, Shopper, Slot, Step, Tariff};
+/// use locustkeno::{Item, Refusal, Refused, Save, Sheet, Shop, Shopper, Slot, Step, Tariff};
 /// let sheet = Sheet::new(&[None; 8], 0, [Item(0), Item(1), Item(2)]);
-/// let slot = |item, limit| Slot { item: Some(Item(item)), limit, requirements: vec![] };
+/// let slot = |item, limit| Slot { item: Some(Item(item)), limit, ..Slot::new() };
 /// let shop = Shop::with_slots([slot(5, 2), slot(6, 1)]);
 /// // Each piece costs 40 coins, a quarter less today.
 /// let tariff = Tariff::new([40; 8], 250);
@@ -43,12 +43,14 @@ impl Step {
 /// assert_eq!(steps, [Step::Bought(30), Step::Bought(30), Step::SoldOut, Step::TooDear]);
 /// assert_eq!(shopper.money, 20);
 /// assert_eq!(shopper.save.items[5], 2);
-/// assert_eq!(shopper.shop(&sheet, &shop, &tariff, &[20]), Err(Refused(27)));
+/// assert_eq!(shopper.shop(&sheet, &shop, &tariff, &[20]), Err(Refusal::NoSuchWish.into()));
 /// # Ok::<(), Refused>(())
 /// ```
 #[derive(Debug, Clone, PartialEq, Eq)]
 pub struct Shopper {
+    /// The save, which a purchase changes.
     pub save: Save,
+    /// The money in coins.
     pub money: u32,
 }
 
@@ -60,6 +62,7 @@ impl Shopper {
     ///
     /// Refusals 1, 8, 12 and 24, then 26 for more than [`WISHES`] wishes, 27 for a slot past the last and 28
     /// for money above 1,000,000, in this order and all before the first step: then nothing changes.
+    /// The call needs up to 768 kilobytes of stack.
     pub fn shop(
         &mut self,
         sheet: &Sheet,
@@ -69,42 +72,12 @@ impl Shopper {
     ) -> Result<Vec<Step>, Refused> {
         let mut answers = [0; WISHES];
         let mut coins = [0; WISHES];
-        let [timer5, timer10, timer15] = sheet.timers.map(|timer| timer.0);
-        let (arrays, save) = (shop.arrays(), &mut self.save);
-        // SAFETY: the slices and the arrays are as the library takes them, and none that is written overlaps another.
-        let shopped = unsafe {
-            ffi::lk_shopper(
-                sheet.attached.as_ptr(),
-                sheet.attached.len(),
-                sheet.atcs,
-                timer5,
-                timer10,
-                timer15,
-                &arrays.items,
-                &arrays.limits,
-                &arrays.codes,
-                &arrays.lens,
-                save.items.as_mut_ptr(),
-                save.items.len(),
-                save.atcs.as_mut_ptr(),
-                save.atcs.len(),
-                save.flags.as_ptr(),
-                save.flags.len(),
-                save.times.as_ptr(),
-                save.times.len(),
-                save.variables.as_mut_ptr(),
-                save.variables.len(),
-                tariff.prices.as_ptr(),
-                tariff.prices.len(),
-                tariff.discount,
-                self.money,
-                wishes.as_ptr(),
-                wishes.len(),
-                &mut answers,
-                &mut coins,
-            )
-        };
-        Refused::check(shopped.refusal)?;
+        let arrays = shop.arrays();
+        let told = (&mut answers, &mut coins);
+        let shopped = ffi::shopper(sheet, arrays, self, tariff, wishes, told);
+        let saves = std::slice::from_ref(&self.save);
+        Refused::check(shopped.refusal)
+            .map_err(|refused| refused.in_shop(sheet, arrays).in_saves(sheet, saves))?;
         self.money = shopped.money;
         let made = answers.iter().zip(&coins).take(shopped.steps.into());
         Ok(made.map(|(a, c)| Step::from_parts(*a, *c)).collect())

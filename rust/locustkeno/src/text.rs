@@ -93,7 +93,7 @@ impl FromStr for Requirement {
 ///
 /// ```
 /// use locustkeno::{Item, Requirement, Slot};
-/// let slot = Slot { item: Some(Item(7)), limit: 3, requirements: vec![Requirement::HaveFlag(40)] };
+/// let slot = Slot { item: Some(Item(7)), limit: 3, requirements: [Requirement::HaveFlag(40)].into() };
 /// assert_eq!(slot.to_string(), "7 3 F40");
 /// assert_eq!("7 3 F40".parse(), Ok(slot));
 /// assert_eq!("- 0".parse(), Ok(Slot::default()));
@@ -133,7 +133,7 @@ impl FromStr for Slot {
 ///
 /// ```
 /// use locustkeno::{Item, Shop, Slot};
-/// let shop = Shop::with_slots([Slot { item: Some(Item(7)), limit: 3, requirements: vec![] }]);
+/// let shop = Shop::with_slots([Slot { item: Some(Item(7)), limit: 3, ..Slot::new() }]);
 /// let text = shop.to_string();
 /// assert!(text.starts_with("0 7 3\n1 - 0\n"));
 /// assert_eq!(text.parse(), Ok(shop));
@@ -141,9 +141,8 @@ impl FromStr for Slot {
 /// ```
 impl fmt::Display for Shop {
     fn fmt(&self, f: &mut fmt::Formatter<'_>) -> fmt::Result {
-        let slots = self.slots();
         (0..)
-            .zip(&slots)
+            .zip(self.slots())
             .try_for_each(|(i, slot): (usize, _)| writeln!(f, "{i} {slot}"))
     }
 }

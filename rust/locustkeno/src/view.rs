@@ -7,35 +7,55 @@ use std::fmt;
 /// An operator of two operands. And and Or are bitwise in a run.
 #[derive(Debug, Copy, Clone, PartialEq, Eq, Hash)]
 pub enum Op2 {
+    /// `==`
     Equal,
+    /// `!=`
     NotEqual,
+    /// `<`
     Less,
+    /// `<=`
     LessEqual,
+    /// `>`
     Greater,
+    /// `>=`
     GreaterEqual,
+    /// `+`
     Add,
+    /// `-`
     Subtract,
+    /// `&`
     BitAnd,
+    /// `|`
     BitOr,
 }
 
 /// An operator of one operand: Not, or a read of the save at the operand's number.
 #[derive(Debug, Copy, Clone, PartialEq, Eq, Hash)]
 pub enum Op1 {
+    /// 1 for 0, and 0 for any other number.
     Not,
+    /// A flag.
     Flag,
+    /// A variable.
     Variable,
+    /// The count of an item.
     Item,
+    /// An attachment.
     Atc,
+    /// A time.
     Time,
 }
 
 /// An expression.
 #[derive(Debug, Clone, PartialEq, Eq, Hash)]
 pub enum Expr {
+    /// Two operands.
     Two(Op2, Box<Expr>, Box<Expr>),
+    /// One operand.
     One(Op1, Box<Expr>),
+    /// A number of 16 bits.
     Imm16(i16),
+    /// A number of 32 bits.
     Imm32(i32),
     /// Any other: no run evaluates it, and no parse reads it.
     Other,
@@ -44,7 +64,9 @@ pub enum Expr {
 /// A command of a block.
 #[derive(Debug, Clone, PartialEq, Eq, Hash)]
 pub enum Command {
+    /// Ends the run.
     Return,
+    /// Goes on at a block.
     Goto(u16),
     /// The number of the variable, and its value.
     Set(Expr, Expr),
@@ -52,19 +74,27 @@ pub enum Command {
     SetOther(Expr),
     /// The condition, and where to go where it is 0.
     If(Expr, u16),
+    /// Goes on at a block, past an If.
     EndIf(u16),
+    /// Any other: no run goes past it.
     Other,
 }
 
 /// A block of a script.
 #[derive(Debug, Clone, PartialEq, Eq, Hash)]
 pub enum Block {
+    /// A place without a block.
     Placeholder,
+    /// Code.
     Code {
+        /// Its commands.
         commands: Vec<Command>,
+        /// Where a run goes on after the last command, or where an If is met.
         next: Option<u16>,
+        /// What a parse takes for the way on where the last If is not met; a run takes the If's own.
         otherwise: Option<u16>,
     },
+    /// Data.
     Data,
 }
 

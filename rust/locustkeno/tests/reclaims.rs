@@ -1,7 +1,7 @@
 //! Taking back dead blocks (document 02, A.4) over the crate.
 
 use locustkeno::{
-    Arrays, Item, Loader, Moved, Refused, Requirement, Save, Script, Sheet, Shop, Slot,
+    Arrays, Item, Loader, Moved, Refusal, Requirement, Save, Script, Sheet, Shop, Slot,
 };
 
 /// The most roots that a reclaim is given.
@@ -21,7 +21,7 @@ fn slot(item: u16, limit: i16, requirements: &[Requirement]) -> Slot {
     Slot {
         item: Some(Item(item)),
         limit,
-        requirements: requirements.to_vec(),
+        requirements: requirements.into(),
     }
 }
 
@@ -71,8 +71,10 @@ fn refused(script: &mut Script, roots: &[u32], number: u8) {
     let (before, table) = (script.clone(), full());
     let mut moved = table.clone();
     assert_eq!(
-        script.reclaim_into(roots, &mut moved),
-        Err(Refused(number)),
+        script
+            .reclaim_into(roots, &mut moved)
+            .map_err(|refused| refused.number()),
+        Err(number),
         "{} roots",
         roots.len()
     );
@@ -94,7 +96,7 @@ fn eighteen() {
     }
     refused(&mut script, &[0; ROOTS + 1], 18);
     refused(&mut script, &vec![0; 70_000], 18);
-    refused(&mut Script::default(), &[0], 18);
+    refused(&mut Script::empty(), &[0], 18);
 }
 
 #[test]
@@ -133,7 +135,7 @@ fn no_roots_leave_no_block() {
         (a.nodes, a.commands, a.blocks) = (before.nodes, before.commands, before.blocks);
     });
     assert_eq!(*emptied.arrays(), before);
-    assert_eq!(Script::default().reclaim(&[]), Ok(Moved::default()));
+    assert_eq!(Script::empty().reclaim(&[]), Ok(Moved::default()));
 }
 
 #[test]
@@ -207,7 +209,7 @@ fn a_script_full_of_dead_shops() {
     assert_eq!(script.blocks(), 1 + 43 * 95);
     assert_eq!(
         script.compile(&sheet(), Loader::Disc, 0, &large()),
-        Err(Refused(9))
+        Err(Refusal::NoRoom.into())
     );
     let moved = script.reclaim(&[0]).unwrap();
     let last = 1 + 42 * 95;
@@ -250,7 +252,7 @@ fn marks_are_kept() {
     for block in 2..23 {
         assert_eq!(
             script.compile(&sheet(), Loader::Disc, block, &empty()),
-            Err(Refused(17)),
+            Err(Refusal::BornLater.into()),
             "an appended block stays one"
         );
     }
@@ -298,7 +300,7 @@ fn shared_commands_are_written_apart() {
 #[test]
 fn the_sentence_of_eighteen() {
     assert_eq!(
-        Refused(18).to_string(),
+        Refusal::BadRoots.to_string(),
         "over 256 roots are given, or one that is not a block (refusal 18)"
     );
 }

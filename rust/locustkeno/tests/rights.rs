@@ -1,7 +1,7 @@
 //! Edits of a shop by users with rights, and what they are shown: each refusal, their order, and the cases of document 02.
 
 use locustkeno::{
-    Atc, Content, ENTRIES, Edit, Item, NUM_SLOTS, Refused, Requirement, Right, Rights, Sheet, Shop,
+    Atc, Content, ENTRIES, Edit, Item, NUM_SLOTS, Refusal, Requirement, Right, Rights, Sheet, Shop,
     Slot, USERS,
 };
 
@@ -38,8 +38,14 @@ fn limit(slot: u32, limit: i16) -> Edit {
 }
 
 fn requirements(slot: u32, entries: &[Requirement]) -> Edit {
-    let content = Content::Requirements(entries.to_vec());
+    let content = Content::Requirements(entries.into());
     Edit { slot, content }
+}
+
+/// The same shop in every word and in the order of its entries.
+fn exactly(one: &Shop, other: &Shop) {
+    assert_eq!(one.arrays(), other.arrays());
+    assert_eq!(format!("{one:?}"), format!("{other:?}"));
 }
 
 /// Every slot is full and bad: an item that no sheet has, and an entry for an atc that the sheet has not.
@@ -47,7 +53,7 @@ fn bad_shop() -> Shop {
     let slot = |i: usize| Slot {
         item: Some(Item(60_000)),
         limit: i as i16,
-        requirements: vec![Requirement::HaveAtc(Atc(9)); i % 15],
+        requirements: vec![Requirement::HaveAtc(Atc(9)); i % 15].into(),
     };
     Shop::with_slots((0..NUM_SLOTS).map(slot))
 }
@@ -58,15 +64,36 @@ fn in_order() {
     let rights = one(15, 19, Right::ChangeItem);
     let mut shop = bad_shop();
     let mut said = |sheet: &Sheet, user, edit: Edit| shop.edit(sheet, &rights, user, &edit);
-    assert_eq!(said(&bad_sheet, 16, item(20, 9)), Err(Refused(1)));
-    assert_eq!(said(&sheet(), 16, item(20, 9)), Err(Refused(20)));
-    assert_eq!(said(&sheet(), u32::MAX, item(19, 1)), Err(Refused(20)));
-    assert_eq!(said(&sheet(), 15, item(20, 9)), Err(Refused(21)));
-    assert_eq!(said(&sheet(), 15, item(u32::MAX, 1)), Err(Refused(21)));
-    assert_eq!(said(&sheet(), 14, item(19, 9)), Err(Refused(21)));
-    assert_eq!(said(&sheet(), 15, item(19, 4)), Err(Refused(8)));
+    assert_eq!(
+        said(&bad_sheet, 16, item(20, 9)),
+        Err(Refusal::BadSheet.into())
+    );
+    assert_eq!(said(&sheet(), 16, item(20, 9)), Err(Refusal::NoUser.into()));
+    assert_eq!(
+        said(&sheet(), u32::MAX, item(19, 1)),
+        Err(Refusal::NoUser.into())
+    );
+    assert_eq!(
+        said(&sheet(), 15, item(20, 9)),
+        Err(Refusal::NoRight.into())
+    );
+    assert_eq!(
+        said(&sheet(), 15, item(u32::MAX, 1)),
+        Err(Refusal::NoRight.into())
+    );
+    assert_eq!(
+        said(&sheet(), 14, item(19, 9)),
+        Err(Refusal::NoRight.into())
+    );
+    assert_eq!(
+        said(&sheet(), 15, item(19, 4)),
+        Err(Refusal::BadShop.into())
+    );
     assert_eq!(said(&sheet(), 15, item(19, 3)), Ok(()));
-    assert_eq!(bad_shop().shown_to(&rights, 16), Err(Refused(20)));
+    assert_eq!(
+        bad_shop().shown_to(&rights, 16),
+        Err(Refusal::NoUser.into())
+    );
 }
 
 /// Each field asks for its own right; seeing is no right to change, and is not needed.
@@ -78,7 +105,11 @@ fn own_rights() {
         for (edit, own) in edits.iter().zip(&EVERY[1..]) {
             let mut shop = bad_shop();
             let accepted = right == *own;
-            let answer = if accepted { Ok(()) } else { Err(Refused(21)) };
+            let answer = if accepted {
+                Ok(())
+            } else {
+                Err(Refusal::NoRight.into())
+            };
             assert_eq!(shop.edit(&sheet(), &rights, 7, edit), answer);
             assert_eq!(shop == bad_shop(), !accepted);
         }
@@ -90,7 +121,7 @@ fn own_rights() {
 fn nothing_else() {
     for slot in 0..NUM_SLOTS as u32 {
         let mut shop = bad_shop();
-        let mut slots = shop.slots();
+        let mut slots = shop.slots().to_vec();
         shop.edit(
             &sheet(),
             &one(0, slot, Right::ChangeLimit),
@@ -99,7 +130,7 @@ fn nothing_else() {
         )
         .unwrap();
         slots[slot as usize].limit = -7;
-        assert_eq!(shop.slots(), slots);
+        exactly(&shop, &Shop::with_slots(slots.clone()));
         shop.edit(
             &sheet(),
             &one(0, slot, Right::ChangeItem),
@@ -108,13 +139,13 @@ fn nothing_else() {
         )
         .unwrap();
         slots[slot as usize].item = Some(Item(2));
-        assert_eq!(shop.slots(), slots);
+        exactly(&shop, &Shop::with_slots(slots.clone()));
         let given = [2, 1, 1].map(Requirement::HaveFlag);
         let rights = one(0, slot, Right::ChangeRequirements);
         shop.edit(&sheet(), &rights, 0, &requirements(slot, &given))
             .unwrap();
-        slots[slot as usize].requirements = given.to_vec();
-        assert_eq!(shop.slots(), slots);
+        slots[slot as usize].requirements = given.into();
+        exactly(&shop, &Shop::with_slots(slots.clone()));
     }
 }
 
@@ -128,7 +159,10 @@ fn content() {
     let many = |n| vec![Requirement::MissingFlag(-1); n];
     assert_eq!(said(requirements(4, &many(ENTRIES))), Ok(()));
     for count in [ENTRIES + 1, 255, 256, 300] {
-        assert_eq!(said(requirements(4, &many(count))), Err(Refused(8)));
+        assert_eq!(
+            said(requirements(4, &many(count))),
+            Err(Refusal::BadShop.into())
+        );
     }
     let known = [
         Requirement::HaveItem(Item(3)),
@@ -140,7 +174,10 @@ fn content() {
         Requirement::HaveAtc(Atc(1)),
     ];
     for one in unknown {
-        assert_eq!(said(requirements(4, &[known[0], one])), Err(Refused(8)));
+        assert_eq!(
+            said(requirements(4, &[known[0], one])),
+            Err(Refusal::BadShop.into())
+        );
     }
     for most in [i16::MIN, i16::MAX] {
         assert_eq!(said(limit(4, most)), Ok(()));
@@ -150,7 +187,7 @@ fn content() {
         content: Content::Item(None),
     };
     assert_eq!(said(none), Ok(()));
-    assert_eq!(said(item(4, 65_535)), Err(Refused(8)));
+    assert_eq!(said(item(4, 65_535)), Err(Refusal::BadShop.into()));
 }
 
 /// With see as it stands, without as an empty slot, whatever other rights there are.
@@ -164,17 +201,17 @@ fn shown() {
             }
         }
     }
-    let mut slots = bad_shop().slots();
+    let mut slots = bad_shop().slots().to_vec();
     for (i, slot) in slots.iter_mut().enumerate() {
         if i % 3 != 0 {
             *slot = Slot::default();
         }
     }
     let seen = bad_shop().shown_to(&rights, 9).unwrap();
-    assert_eq!(seen, Shop::with_slots(slots));
+    exactly(&seen, &Shop::with_slots(slots));
     for user in (0..USERS as u32).filter(|user| *user != 9) {
         let seen = bad_shop().shown_to(&rights, user).unwrap();
-        assert_eq!(seen, Shop::with_slots([]));
+        exactly(&seen, &Shop::new());
     }
 }
 
@@ -186,7 +223,7 @@ fn hidden_stays_hidden() {
         rights.give(3, slot, right);
     }
     let start = |item, count| {
-        let requirements = vec![Requirement::HaveAtc(Atc(9)); count];
+        let requirements = vec![Requirement::HaveAtc(Atc(9)); count].into();
         let hidden = Slot {
             item,
             limit: 1,
@@ -204,18 +241,23 @@ fn hidden_stays_hidden() {
     let starts = [start(None, 0), start(Some(Item(9)), 20)];
     let [one, other] = starts.map(session);
     assert_eq!(one, other);
-    assert_eq!(one.0, [Ok(()), Err(Refused(21)), Ok(()), Err(Refused(8))]);
+    assert_eq!(
+        one.0,
+        [
+            Ok(()),
+            Err(Refusal::NoRight.into()),
+            Ok(()),
+            Err(Refusal::BadShop.into())
+        ]
+    );
 }
 
 /// The four higher bits of a byte mean nothing.
 #[test]
 fn any_table() {
     let rights = Rights::from_bytes([0xF0; USERS * NUM_SLOTS]);
-    assert_eq!(
-        bad_shop().shown_to(&rights, 0).unwrap(),
-        Shop::with_slots([])
-    );
+    exactly(&bad_shop().shown_to(&rights, 0).unwrap(), &Shop::new());
     let rights = Rights::from_bytes([0xFF; USERS * NUM_SLOTS]);
-    assert_eq!(bad_shop().shown_to(&rights, 15).unwrap(), bad_shop());
+    exactly(&bad_shop().shown_to(&rights, 15).unwrap(), &bad_shop());
     assert_eq!(bad_shop().edit(&sheet(), &rights, 15, &item(0, 1)), Ok(()));
 }

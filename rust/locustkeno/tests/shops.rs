@@ -1,6 +1,6 @@
 //! Document 01's cases P1 to P10 over the crate, and compile, parse and preview on a small stack.
 
-use locustkeno::{Atc, Item, Loader, Refused, Requirement, Save, Script, Sheet, Shop, Slot};
+use locustkeno::{Atc, Item, Loader, Refusal, Requirement, Save, Script, Sheet, Shop, Slot};
 use std::thread;
 
 /// What a thread gets where nobody asks for more.
@@ -24,7 +24,7 @@ fn slot(item: u16, limit: i16, requirements: &[Requirement]) -> Slot {
     Slot {
         item: Some(Item(item)),
         limit,
-        requirements: requirements.to_vec(),
+        requirements: requirements.into(),
     }
 }
 
@@ -72,11 +72,11 @@ fn p4_limits() {
 fn p5_the_acquired_test() {
     let [have, flag] = [Requirement::HaveItem(Item(7)), Requirement::HaveFlag(9)];
     assert_eq!(
-        first(&compiled(&slot(7, 1, &[have, flag]))).requirements,
+        *first(&compiled(&slot(7, 1, &[have, flag]))).requirements,
         [flag]
     );
     assert_eq!(
-        first(&compiled(&slot(7, 3, &[have, flag]))).requirements,
+        *first(&compiled(&slot(7, 3, &[have, flag]))).requirements,
         [have, flag]
     );
 }
@@ -101,7 +101,7 @@ fn p8_timer5() {
     for (held, count) in [(0, 0), (1, 1)] {
         let mut save = Save::new(&sheet());
         save.items[2] = held;
-        script.run(&sheet(), 0, &mut save, BUDGET);
+        assert_eq!(script.run(&sheet(), 0, &mut save, BUDGET).refusal, None);
         assert_eq!(save.pair(0), (1, count));
     }
 }
@@ -113,13 +113,13 @@ fn p9_the_shortest_form() {
     assert_eq!(Script::read(&short).unwrap().write().unwrap(), short);
     assert_eq!(
         Script::read(&image(&[0xB0, 0x89, 0])).unwrap_err(),
-        Refused(2)
+        Refusal::BadImage
     );
 }
 
 #[test]
 fn p10_an_empty_shop_adds_21_blocks() {
-    for (blocks, answer) in [(4_075u32, Ok(())), (4_076, Err(Refused(9)))] {
+    for (blocks, answer) in [(4_075u32, Ok(())), (4_076, Err(Refusal::NoRoom.into()))] {
         let mut image = vec![blocks as u8 | 0x80, (blocks >> 7) as u8, 1, 0, 0, 0];
         image.resize(image.len() + blocks as usize - 1, 0);
         let mut script = Script::read(&image).unwrap();
@@ -154,7 +154,7 @@ fn on_a_small_stack() {
         let script = Script::read(&long_chain()).unwrap();
         script.parse(&sheet(), 0).unwrap();
         let script = compiled(&slot(7, 3, &[Requirement::HaveFlag(1); 14]));
-        assert_eq!(first(&script).requirements, [Requirement::HaveFlag(1)]);
+        assert_eq!(*first(&script).requirements, [Requirement::HaveFlag(1)]);
     };
     let builder = thread::Builder::new().stack_size(SMALL_STACK);
     builder.spawn(work).unwrap().join().unwrap();
@@ -166,12 +166,12 @@ fn too_many_entries() {
     let many = Shop::with_slots([slot(7, 3, &[Requirement::HaveFlag(1); 300])]);
     assert_eq!(
         script.compile(&sheet(), Loader::Disc, 0, &many),
-        Err(Refused(8))
+        Err(Refusal::BadShop.into())
     );
     let unknown = Shop::with_slots([slot(65_535, 3, &[])]);
     assert_eq!(
         script.compile(&sheet(), Loader::Disc, 0, &unknown),
-        Err(Refused(8))
+        Err(Refusal::BadShop.into())
     );
 }
 
@@ -179,13 +179,13 @@ fn too_many_entries() {
 #[test]
 fn fourteen_entries() {
     let flags: Vec<_> = (0..14).map(Requirement::HaveFlag).collect();
-    assert_eq!(first(&compiled(&slot(7, 3, &flags))).requirements, flags);
+    assert_eq!(*first(&compiled(&slot(7, 3, &flags))).requirements, flags);
     for fifteenth in [flags[0], Requirement::MissingFlag(0)] {
         let given = [&flags[..], &[fifteenth]].concat();
         let shop = Shop::with_slots([slot(7, 3, &given)]);
         assert_eq!(
             one_return().compile(&sheet(), Loader::Disc, 0, &shop),
-            Err(Refused(8))
+            Err(Refusal::BadShop.into())
         );
     }
 }
@@ -202,9 +202,9 @@ fn hidden_under(flags: u8) -> Script {
 #[test]
 fn fourteen_requirements() {
     let flags: Vec<_> = (0..14).map(Requirement::MissingFlag).collect();
-    assert_eq!(first(&hidden_under(14)).requirements, flags);
+    assert_eq!(*first(&hidden_under(14)).requirements, flags);
     let refused = hidden_under(15).parse(&sheet(), 0).unwrap_err();
-    assert_eq!(refused, Refused(11));
+    assert_eq!(refused, Refusal::ParseTooMany);
 }
 
 /// Further slots are dropped unchecked, missing ones are empty.
@@ -226,7 +226,9 @@ fn any_number_of_slots() {
     let mut slots = vec![given.clone(); 21];
     slots[20] = bad.clone();
     let dropped = Shop::with_slots(slots.clone());
-    assert_eq!(dropped, Shop::with_slots(vec![given; 20]));
+    let twenty = Shop::with_slots(vec![given; 20]);
+    assert_eq!(dropped.arrays(), twenty.arrays());
+    assert_eq!(dropped.slots(), twenty.slots());
     assert_eq!(
         one_return().compile(&sheet(), Loader::Disc, 0, &dropped),
         Ok(())
@@ -235,6 +237,6 @@ fn any_number_of_slots() {
     let kept = Shop::with_slots(slots);
     assert_eq!(
         one_return().compile(&sheet(), Loader::Disc, 0, &kept),
-        Err(Refused(8))
+        Err(Refusal::BadShop.into())
     );
 }

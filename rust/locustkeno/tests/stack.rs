@@ -1,7 +1,7 @@
 //! Each call on a thread with just the stack that the header promises to be enough, on the largest and nastiest scripts.
 
 use locustkeno::{
-    Basket, Content, Edit, Item, Loader, Refused, Requirement, Rights, Save, Script, Sheet, Shop,
+    Basket, Content, Edit, Item, Loader, Refusal, Requirement, Rights, Save, Script, Sheet, Shop,
     Shopper, Slot, Tariff, USERS,
 };
 use std::thread;
@@ -95,7 +95,7 @@ fn downwards() -> Vec<u8> {
 /// Commands that all blocks share, over nodes that all commands share: judged step by step, and written apart they are nearly as
 /// many as a script may have.
 fn webbed() -> Script {
-    let mut arrays = Script::default().arrays().clone();
+    let mut arrays = Script::empty().arrays().clone();
     arrays.ws[0] = 11;
     for node in 1..15 {
         let below = node as u16 - 1;
@@ -142,13 +142,23 @@ fn scripts_are_judged_fine() {
         .iter()
         .map(|script| script.parse(&sheet(), 0).err())
         .collect();
-    assert_eq!(answers, [None, None, Some(Refused(11)), None, None, None]);
+    assert_eq!(
+        answers,
+        [
+            None,
+            None,
+            Some(Refusal::ParseTooMany.into()),
+            None,
+            None,
+            None
+        ]
+    );
 }
 
 #[test]
 fn read() {
     for image in [deep(), largest(), conditions()] {
-        let mut script = Script::default();
+        let mut script = Script::empty();
         on_stack(READ, || script.read_again(&image).unwrap());
     }
 }
@@ -183,7 +193,7 @@ fn compile() {
     let slot = Slot {
         item: Some(Item(0)),
         limit: 1,
-        requirements: vec![],
+        requirements: [].into(),
     };
     let shop = Shop::with_slots(vec![slot; 20]);
     for mut script in scripts() {
@@ -226,7 +236,7 @@ fn edit_and_show() {
     let contents = [
         Content::Item(Some(Item(2))),
         Content::Limit(1),
-        Content::Requirements(vec![Requirement::HaveItem(Item(2)); 14]),
+        Content::Requirements([Requirement::HaveItem(Item(2)); 14].into()),
     ];
     let edits = contents.map(|content| Edit { slot: 19, content });
     on_stack(EDIT, || {
@@ -250,7 +260,7 @@ fn shopper() {
     let slot = Slot {
         item: Some(Item(0)),
         limit: 1,
-        requirements: vec![Requirement::MissingItem(Item(1)); 14],
+        requirements: vec![Requirement::MissingItem(Item(1)); 14].into(),
     };
     let shop = Shop::with_slots(vec![slot; 20]);
     let tariff = Tariff::new([1; 3], 0);

@@ -38,7 +38,8 @@ fn what_is_printed_reads_back() {
     for _ in 0..2_000 {
         let count = next(21) as usize;
         let shop = Shop::with_slots((0..count).map(|_| slot(&mut next)).collect::<Vec<_>>());
-        assert_eq!(shop.to_string().parse(), Ok(shop));
+        let read: Shop = shop.to_string().parse().unwrap();
+        assert_eq!(read.arrays(), shop.arrays());
     }
 }
 

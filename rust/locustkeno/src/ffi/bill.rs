@@ -1,6 +1,7 @@
 //! The bill's function, of the crate `capi_bill`.
 
 use crate::shop::NUM_SLOTS;
+use crate::{Save, Sheet, Tariff};
 
 /// The refusal or 0, and the total.
 #[repr(C)]
@@ -11,7 +12,7 @@ pub struct Billed {
 }
 
 unsafe extern "C" {
-    pub fn lk_bill(
+    fn lk_bill(
         attached: *const u8,
         attached_len: usize,
         atcs: u16,
@@ -36,4 +37,51 @@ unsafe extern "C" {
         to_slots: *mut [u8; NUM_SLOTS],
         to_coins: *mut [u64; NUM_SLOTS],
     ) -> Billed;
+}
+
+/// The lines of a bill, by item: the items, the slots and the coins.
+#[derive(Debug, Copy, Clone)]
+pub struct Lines {
+    pub items: [i32; NUM_SLOTS],
+    pub slots: [u8; NUM_SLOTS],
+    pub coins: [u64; NUM_SLOTS],
+}
+
+/// Writes the lines of the bill of a basket.
+pub fn bill(
+    sheet: &Sheet,
+    save: &Save,
+    tariff: &Tariff,
+    basket: &[i32; NUM_SLOTS],
+    lines: &mut Lines,
+) -> Billed {
+    let [timer5, timer10, timer15] = sheet.timers.map(|timer| timer.0);
+    // SAFETY: the slices and the arrays are as the library takes them, and none overlaps.
+    unsafe {
+        lk_bill(
+            sheet.attached.as_ptr(),
+            sheet.attached.len(),
+            sheet.atcs,
+            timer5,
+            timer10,
+            timer15,
+            save.items.as_ptr(),
+            save.items.len(),
+            save.atcs.as_ptr(),
+            save.atcs.len(),
+            save.flags.as_ptr(),
+            save.flags.len(),
+            save.times.as_ptr(),
+            save.times.len(),
+            save.variables.as_ptr(),
+            save.variables.len(),
+            tariff.prices.as_ptr(),
+            tariff.prices.len(),
+            tariff.discount,
+            basket,
+            &mut lines.items,
+            &mut lines.slots,
+            &mut lines.coins,
+        )
+    }
 }

@@ -1,6 +1,7 @@
 //! What is told of a shop before it is signed.
 
-use crate::shop::{Codes, NUM_SLOTS, Row};
+use crate::Sheet;
+use crate::shop::{Codes, NUM_SLOTS, Row, ShopArrays};
 
 /// What is told of a slot, by numbers.
 #[repr(C)]
@@ -25,7 +26,7 @@ pub struct Checked {
 }
 
 unsafe extern "C" {
-    pub fn lk_check(
+    fn lk_check(
         attached: *const u8,
         attached_len: usize,
         atcs: u16,
@@ -37,4 +38,24 @@ unsafe extern "C" {
         codes: *const Codes,
         lens: *const [u8; NUM_SLOTS],
     ) -> Checked;
+}
+
+/// What is told of a shop.
+pub fn check(sheet: &Sheet, shop: &ShopArrays) -> Checked {
+    let [timer5, timer10, timer15] = sheet.timers.map(|timer| timer.0);
+    // SAFETY: the slice and the arrays are as the library takes them; it writes to none.
+    unsafe {
+        lk_check(
+            sheet.attached.as_ptr(),
+            sheet.attached.len(),
+            sheet.atcs,
+            timer5,
+            timer10,
+            timer15,
+            &shop.items,
+            &shop.limits,
+            &shop.codes,
+            &shop.lens,
+        )
+    }
 }
