@@ -123,3 +123,7 @@ highest-more {ps} {top} {k} {r} {r′} h g = record {
 
 pub highest-all : {ps : List ℕ} {top k l r : ℕ} → Highest ps top l r → l ≤ k → k ≤ l → Highest ps top k r
 highest-all {k = k} {l = l} g a b = let w : k ≡ l = omega arith in rw w g
+
+-- the highest of all where it is low enough
+pub highest-under : {ps : List ℕ} {all top k r : ℕ} → Highest ps all k r → top ≤ all → r ≤ top → Highest ps top k r
+highest-under g a b = record { low = b; most = λ l h t. g .most l h (omega arith); is = g .is }

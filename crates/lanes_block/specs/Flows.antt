@@ -23,7 +23,7 @@ use Rattle.lanes_block.specs.declared.Way.{Way}
 use Rattle.lanes_block.specs.declared.Exit.{Exit}
 use Rattle.lanes_block.specs.declared.Flow.{Flow}
 use Rattle.lanes_block.specs.declared.Flow.the-variants.{On, Out}
-use Rattle.lanes_block.specs.Ways.{Absent, Kept, KeptParts, carry, goes, wayOf, leave, followed, chosen, sameWay, storedPart, StoredAll, onward, Flows, Does, Leaves, stateOf, stateIn, Written, Settled, Visited}
+use Rattle.lanes_block.specs.Ways.{Absent, Kept, KeptParts, carry, goes, wayOf, leave, followed, chosen, sameWay, storedPart, Worth, StoredAll, onward, Flows, Does, Leaves, stateOf, stateIn, Written, Settled, Visited}
 use Rattle.lanes_block.specs.Laws.{parts-same, parts-on}
 
 -- ---- one lane
@@ -85,17 +85,19 @@ if-flows s v c n k (suc j) r′ z p = record { is = λ cs. rw (stopped r′ z j 
 
 -- ---- all lanes
 
+-- evaluated, with the values in an array
+pub valued-worth : {save : ℕ → Save} {ls : List ℕ} {s : ℕ} {vs : List ℤ} {e : Expr} {rs rs′ : List ℕ} {xs : List ℤ} → Valued s (λ j. eval (save (getD ls j 0)) (part variableCount (getD ls j 0) vs) e) rs rs′ xs → Worth save ls s vs e rs rs′ (λ j. getD xs j (pos 0))
+valued-worth p = record { is = p .is }
+
 module _ {save : ℕ → Save} {nx : Option ℕ} {ls : List ℕ} {s : ℕ} {vs : List ℤ} {rs : List ℕ} where
   pub does-as : {f : Flow} {vs′ xs′ : List ℤ} {rs′ : List ℕ} (x y : Command) → x ≡ y → Does save nx y ls s vs rs f vs′ xs′ rs′ → Does save nx x ls s vs rs f vs′ xs′ rs′
   does-as {f} {vs′} {xs′} {rs′} x y e d = subst (λ z. Does save nx z ls s vs rs f vs′ xs′ rs′) (sym e) d
 
-  pub set-does : {t e : Expr} {ks xs vs′ : List ℤ} {rs₁ rs₂ : List ℕ}
-      → Valued s (λ j. eval (save (getD ls j 0)) (part variableCount (getD ls j 0) vs) t) rs rs₁ ks
-      → Valued s (λ j. eval (save (getD ls j 0)) (part variableCount (getD ls j 0) vs) e) rs₁ rs₂ xs
-      → StoredAll ls ks xs rs₂ vs s vs′ → Does save nx (setVariable t e) ls s vs rs On vs′ xs rs₂
-  set-does {t} {e} {ks} {xs} {vs′} {rs₁} {rs₂} p q w = record {
+  pub set-does : {t e : Expr} {ks xs : ℕ → ℤ} {zs vs′ : List ℤ} {rs₁ rs₂ : List ℕ} → Worth save ls s vs t rs rs₁ ks → Worth save ls s vs e rs₁ rs₂ xs → StoredAll ls ks xs rs₂ vs s vs′
+      → Does save nx (setVariable t e) ls s vs rs On vs′ zs rs₂
+  set-does {t} {e} {ks} {xs} {zs} {vs′} {rs₁} {rs₂} p q w = record {
     kept = w .kept;
-    each = λ j h. set-flows (save (getD ls j 0)) nx (part variableCount (getD ls j 0) vs) t e (getD ks j (pos 0)) (getD xs j (pos 0)) (getD xs j (pos 0)) (getD rs j 0) (getD rs₁ j 0) (getD rs₂ j 0) (part variableCount (getD ls j 0) vs′) (p .is j h) (q .is j h) (w .each j h);
+    each = λ j h. set-flows (save (getD ls j 0)) nx (part variableCount (getD ls j 0) vs) t e (ks j) (xs j) (getD zs j (pos 0)) (getD rs j 0) (getD rs₁ j 0) (getD rs₂ j 0) (part variableCount (getD ls j 0) vs′) (p .is j h) (q .is j h) (w .each j h);
   }
 
   -- a command that leads all lanes out of the block the same way

@@ -78,12 +78,12 @@ parts-on p q = record { long = q .long ∙ p .long; others = λ l a. q .others l
 pub before-absent : {ls : List ℕ} {s : ℕ} → Rising ls s → (j : ℕ) → j < s → Absent ls j (getD ls j 0)
 before-absent r j h i l e = let q = r .rises i j l h in omega arith
 
-module _ (ls : List ℕ) (ks xs : List ℤ) (rs : List ℕ) (vs : List ℤ) where
+module _ (ls : List ℕ) (ks xs : ℕ → ℤ) (rs : List ℕ) (vs : List ℤ) where
   pub stored-none : StoredAll ls ks xs rs vs 0 vs
   stored-none = record { kept = parts-same ls 0 vs; each = λ j h. absurd (omega arith) }
 
   pub stored-more : (s j : ℕ) (vs′ vs″ : List ℤ) → Rising ls s → j < s → StoredAll ls ks xs rs vs j vs′
-      → vs″ ≡ storedIn (getD rs j 0) vs′ (getD ls j 0) (getD ks j (pos 0)) (getD xs j (pos 0)) → StoredAll ls ks xs rs vs (j + 1) vs″
+      → vs″ ≡ storedIn (getD rs j 0) vs′ (getD ls j 0) (ks j) (xs j) → StoredAll ls ks xs rs vs (j + 1) vs″
   stored-more s j vs′ vs″ r h p e = rw e (record {
     kept = record {
       long = stored-length (getD rs j 0) vs′ (getD ls j 0) k x ∙ p .kept .long;
@@ -93,17 +93,21 @@ module _ (ls : List ℕ) (ks xs : List ℤ) (rs : List ℕ) (vs : List ℤ) wher
   })
     where
       k : ℤ
-      k = getD ks j (pos 0)
+      k = ks j
 
       x : ℤ
-      x = getD xs j (pos 0)
+      x = xs j
 
-      by : (i : ℕ) → i < j + 1 → Dec (j ≤ i) → part variableCount (getD ls i 0) (storedIn (getD rs j 0) vs′ (getD ls j 0) k x) ≡ storedPart (getD rs i 0) (part variableCount (getD ls i 0) vs) (getD ks i (pos 0)) (getD xs i (pos 0))
+      by : (i : ℕ) → i < j + 1 → Dec (j ≤ i) → part variableCount (getD ls i 0) (storedIn (getD rs j 0) vs′ (getD ls j 0) k x) ≡ storedPart (getD rs i 0) (part variableCount (getD ls i 0) vs) (ks i) (xs i)
       by i g (yes q) = let w : i ≡ j = omega arith in rw w (stored-here (getD rs j 0) vs′ (getD ls j 0) k x ∙ ap (λ v. storedPart (getD rs j 0) v k x) (p .kept .others (getD ls j 0) (before-absent r j h)))
       by i g (no q) = stored-other (getD rs j 0) vs′ (getD ls j 0) (getD ls i 0) k x (before-absent r j h i (omega arith)) ∙ p .each i (omega arith)
 
   pub stored-all : (s j : ℕ) (vs′ : List ℤ) → StoredAll ls ks xs rs vs j vs′ → j ≤ s → s ≤ j → StoredAll ls ks xs rs vs s vs′
   stored-all s j vs′ p a b = let w : s ≡ j = omega arith in rw w p
+
+-- by other names of places and values
+pub stored-as : {ls : List ℕ} {ks ks′ xs xs′ : ℕ → ℤ} {rs : List ℕ} {vs : List ℤ} {s : ℕ} {vs′ : List ℤ} → StoredAll ls ks xs rs vs s vs′ → ((j : ℕ) → ks j ≡ ks′ j) → ((j : ℕ) → xs j ≡ xs′ j) → StoredAll ls ks′ xs′ rs vs s vs′
+stored-as p f g = record { kept = p .kept; each = λ j h. rw (← f j, ← g j) (p .each j h) }
 
 -- ---- arrays by lane
 

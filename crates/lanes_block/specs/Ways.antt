@@ -11,10 +11,12 @@ use Rattle.model.specs.Limits.{variableCount, mostSaves}
 use Rattle.model.specs.Refusal.{noNext}
 use Rattle.model.specs.Signed.{isZero}
 use Rattle.model.specs.Save.{Save}
+use Rattle.model.specs.Expr.{Expr, ok, eval}
 use Rattle.model.specs.Script.{Command, Block}
 use Rattle.model.specs.Run.{Outcome, next, done, halt, store, execute, step}
 use Rattle.lanes_model.specs.Flat.{part}
 use Rattle.lanes_model.specs.Lanes.{State, at, ended, moved}
+use Rattle.lanes_expr.specs.Lanes.{laneValue, firstStop}
 use Rattle.lanes_block.specs.declared.Way.{Way}
 use Rattle.lanes_block.specs.declared.Exit.{Exit}
 use Rattle.lanes_block.specs.declared.Flow.{Flow}
@@ -86,11 +88,20 @@ storedIn (suc n) vs l k x = vs
 storedIn zero vs l (negsuc k) x = vs
 storedIn zero vs l (pos k) x = cond (ltb k variableCount) (set vs (l * variableCount + k) x) vs
 
+-- e has the value k whatever the save and the variables hold
+abbrev pub Always : Expr → ℤ → Type 0
+Always e k = (f : Save) (v : List ℤ) → eval f v e ≡ ok k
+
 -- ---- all lanes: rs, rs′ are the refusals of those that stopped, xs′ the last values, by place; vs, vs′ the variables one behind another
 
-pub record StoredAll (ls : List ℕ) (ks xs : List ℤ) (rs : List ℕ) (vs : List ℤ) (s : ℕ) (vs′ : List ℤ) : Type 0 where
+-- the lanes have the value of e, xs by place, after the refusals in rs
+pub record Worth (save : ℕ → Save) (ls : List ℕ) (s : ℕ) (vs : List ℤ) (e : Expr) (rs rs′ : List ℕ) (xs : ℕ → ℤ) : Type 0 where
+  pub is : (j : ℕ) → j < s → laneValue (getD rs′ j 0) (xs j) ≡ firstStop (getD rs j 0) (eval (save (getD ls j 0)) (part variableCount (getD ls j 0) vs) e)
+
+-- the lane at place j has its variable ks j set to xs j, unless it has stopped
+pub record StoredAll (ls : List ℕ) (ks xs : ℕ → ℤ) (rs : List ℕ) (vs : List ℤ) (s : ℕ) (vs′ : List ℤ) : Type 0 where
   pub kept : KeptParts ls s vs vs′
-  pub each : (j : ℕ) → j < s → part variableCount (getD ls j 0) vs′ ≡ storedPart (getD rs j 0) (part variableCount (getD ls j 0) vs) (getD ks j (pos 0)) (getD xs j (pos 0))
+  pub each : (j : ℕ) → j < s → part variableCount (getD ls j 0) vs′ ≡ storedPart (getD rs j 0) (part variableCount (getD ls j 0) vs) (ks j) (xs j)
 
 -- what follows a command
 abbrev pub onward : Save → Option ℕ → List Command → Flow → ℤ → List ℤ → Outcome

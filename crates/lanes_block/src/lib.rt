@@ -1,10 +1,12 @@
 // One block for many lanes (02, A.8): it is decoded once, and each of its commands is applied to all the lanes that stand at it.
 ghost use mathlib.Core.Path.{_≡_};
 ghost use Prim.Native.Nat.{ℕ, _+_, _*_, _≤_, _<_};
+ghost use lib.IntN.{pos};
 ghost use lib.ListN.{getD, length};
 ghost use Rattle.model.specs.Limits.{nodeLimit, variableCount, mostSaves};
 ghost use Rattle.model.specs.Run.{execute, step};
 ghost use Rattle.model.specs.Memory.{nodesIn, codedIn, tree, commandIn, commandsIn, linkIn, scriptOf};
+ghost use Rattle.model.specs.Expr.{Expr};
 ghost use Rattle.model.specs.Script.{setVariable};
 ghost use mathlib.Core.Option.{Option};
 ghost use Rattle.memory.specs.View.{memoryOf};
@@ -12,7 +14,9 @@ ghost use Rattle.expr.specs.Value.{reads};
 ghost use Rattle.runner.specs.Steps.{Readable, Readables, Ready};
 ghost use Rattle.lanes_model.specs.Flat.{saveIn};
 ghost use Rattle.lanes_expr.specs.Lanes.{Stand};
-ghost use Rattle.lanes_block.specs.Ways.{Rising, Held, Countable, chosen, followed, sameWay, storedIn, StoredAll, Does, Leaves, Settled, Visited};
+ghost use Rattle.lanes_block.specs.Ways.{Rising, Held, Countable, chosen, followed, sameWay, storedIn, Always, StoredAll, Does, Leaves, Settled, Visited};
+use expr::MaybeNumber;
+use expr::number_below;
 use lanes_expr::LANES;
 use lanes_expr::evaluate_lanes;
 use memory::BlockWords;
@@ -105,7 +109,7 @@ fn store_lanes(
     vars: &mut [i32],
 )
     requires { ⌜ Rising (now lanes) s × Held (now lanes) s (now vars) ⌝ }
-    ensures { λ _. ⌜ StoredAll (now (lanes .entry)) (now (targets .entry)) (now (values .entry)) (now (stops .entry)) (now (vars .entry)) s (now (vars .exit)) ⌝ }
+    ensures { λ _. ⌜ StoredAll (now (lanes .entry)) (λ j. getD (now (targets .entry)) j (pos 0)) (λ j. getD (now (values .entry)) j (pos 0)) (now (stops .entry)) (now (vars .entry)) s (now (vars .exit)) ⌝ }
 {
     let mut j = 0;
     while j < s {
@@ -114,8 +118,46 @@ fn store_lanes(
     }
 }
 
-// Set evaluates target, then value, then writes, each for all lanes.
-fn set_variable(
+// The same with one place for all lanes, as a target that is an Imm has it.
+fn store_same(
+    lanes: &[u8; LANES],
+    s: usize,
+    k: i32,
+    values: &[i32; LANES],
+    stops: &[u8; LANES],
+    vars: &mut [i32],
+)
+    requires { ⌜ Rising (now lanes) s × Held (now lanes) s (now vars) ⌝ }
+    ensures { λ _. ⌜ StoredAll (now (lanes .entry)) (λ _. k) (λ j. getD (now (values .entry)) j (pos 0)) (now (stops .entry)) (now (vars .entry)) s (now (vars .exit)) ⌝ }
+{
+    let mut j = 0;
+    while j < s {
+        store_lane(vars, lanes[j], k, values[j], stops[j]);
+        j += 1;
+    }
+}
+
+// And with one number, as a value that is an Imm has it.
+fn store_number(
+    lanes: &[u8; LANES],
+    s: usize,
+    k: i32,
+    x: i32,
+    stops: &[u8; LANES],
+    vars: &mut [i32],
+)
+    requires { ⌜ Rising (now lanes) s × Held (now lanes) s (now vars) ⌝ }
+    ensures { λ _. ⌜ StoredAll (now (lanes .entry)) (λ _. k) (λ _. x) (now (stops .entry)) (now (vars .entry)) s (now (vars .exit)) ⌝ }
+{
+    let mut j = 0;
+    while j < s {
+        store_lane(vars, lanes[j], k, x, stops[j]);
+        j += 1;
+    }
+}
+
+// A Set whose target is no Imm: target and value are evaluated for each lane.
+fn set_each(
     ws: &NodeWords,
     val: &Values,
     target: u16,
@@ -171,6 +213,113 @@ fn set_variable(
         stops,
     );
     store_lanes(lanes, s, &targets, out, stops, vars);
+}
+
+// A Set whose target is the Imm k. Where the value is one too, as most are, nothing is evaluated.
+fn set_same(
+    ws: &NodeWords,
+    val: &Values,
+    k: i32,
+    value: u16,
+    lanes: &[u8; LANES],
+    s: usize,
+    n: usize,
+    m: usize,
+    items: &[i16],
+    atcs: &[u8],
+    flags: &[u8],
+    times: &[i16],
+    vars: &mut [i32],
+    out: &mut [i32; LANES],
+    stops: &mut [u8; LANES],
+)
+    requires { ⌜ (value < nodeLimit) × Stand n m (reads (now items) (now atcs) (now flags) (now times)) (now vars) (now lanes) s × Rising (now lanes) s ⌝ }
+    ensures { λ _. ⌜ ((c : ℕ) (nx : Option ℕ) (t : Expr) → Always t k → Does (saveIn n m (reads (now (items .entry)) (now (atcs .entry)) (now (flags .entry)) (now (times .entry)))) nx (setVariable t (tree (nodesIn (now (ws .entry)) (now (val .entry)) c) value)) (now (lanes .entry)) s (now (vars .entry)) (now (stops .entry)) Flow.On (now (vars .exit)) (now (out .exit)) (now (stops .exit))) ⌝ }
+{
+    let v = number_below(ws, val, value + 1, value);
+    match v {
+        MaybeNumber::Is(x) => store_number(lanes, s, k, x, stops, vars),
+        MaybeNumber::Nothing => {
+            evaluate_lanes(
+                ws,
+                val,
+                value + 1,
+                value,
+                lanes,
+                s,
+                n,
+                m,
+                items,
+                atcs,
+                flags,
+                times,
+                vars,
+                out,
+                stops,
+            );
+            store_same(lanes, s, k, out, stops, vars);
+        }
+    }
+}
+
+// Set evaluates target, then value, then writes, each for all lanes. Every target of a compiled shop is an Imm.
+fn set_variable(
+    ws: &NodeWords,
+    val: &Values,
+    target: u16,
+    value: u16,
+    lanes: &[u8; LANES],
+    s: usize,
+    n: usize,
+    m: usize,
+    items: &[i16],
+    atcs: &[u8],
+    flags: &[u8],
+    times: &[i16],
+    vars: &mut [i32],
+    out: &mut [i32; LANES],
+    stops: &mut [u8; LANES],
+)
+    requires { ⌜ (target < nodeLimit) × (value < nodeLimit) × Stand n m (reads (now items) (now atcs) (now flags) (now times)) (now vars) (now lanes) s × Rising (now lanes) s ⌝ }
+    ensures { λ _. ⌜ ((c : ℕ) (nx : Option ℕ) → Does (saveIn n m (reads (now (items .entry)) (now (atcs .entry)) (now (flags .entry)) (now (times .entry)))) nx (setVariable (tree (nodesIn (now (ws .entry)) (now (val .entry)) c) target) (tree (nodesIn (now (ws .entry)) (now (val .entry)) c) value)) (now (lanes .entry)) s (now (vars .entry)) (now (stops .entry)) Flow.On (now (vars .exit)) (now (out .exit)) (now (stops .exit))) ⌝ }
+{
+    let t = number_below(ws, val, target + 1, target);
+    match t {
+        MaybeNumber::Is(k) => set_same(
+            ws,
+            val,
+            k,
+            value,
+            lanes,
+            s,
+            n,
+            m,
+            items,
+            atcs,
+            flags,
+            times,
+            vars,
+            out,
+            stops,
+        ),
+        MaybeNumber::Nothing => set_each(
+            ws,
+            val,
+            target,
+            value,
+            lanes,
+            s,
+            n,
+            m,
+            items,
+            atcs,
+            flags,
+            times,
+            vars,
+            out,
+            stops,
+        ),
+    }
 }
 
 // One command of a block whose next is link.

@@ -1,2 +1,2 @@
 mod Places
-mod Values
+pub mod Values

@@ -32,7 +32,7 @@ same-at (suc n) (suc j) a = same-at n j a
 -- ---- one lane: its refusals before, between and after the operands
 
 -- an Imm is worth its number
-imm-worth : (s : Save) (v : List ℤ) (e : Expr) (z : ℤ) → some z ≡ value e → ok z ≡ eval s v e
+pub imm-worth : (s : Save) (v : List ℤ) (e : Expr) (z : ℤ) → some z ≡ value e → ok z ≡ eval s v e
 imm-worth s v (two o a b) z p = let q : _≡_ {A = ℕ} 0 1 = cc in absurd (omega arith)
 imm-worth s v (one o a) z p = let q : _≡_ {A = ℕ} 0 1 = cc in absurd (omega arith)
 imm-worth s v (imm16 x) z p = cc
@@ -64,7 +64,8 @@ stop-lane : (r₀ r : ℕ) (x : ℤ) → laneValue (firstOf2 r₀ (suc r)) x ≡
 stop-lane zero r x = refl
 stop-lane (suc r₀) r x = refl
 
-ok-lane : (r : ℕ) (z : ℤ) → laneValue r z ≡ firstStop r (ok z)
+-- a number that is there for every lane stops none
+pub ok-lane : (r : ℕ) (z : ℤ) → laneValue r z ≡ firstStop r (ok z)
 ok-lane zero z = refl
 ok-lane (suc r) z = refl
 

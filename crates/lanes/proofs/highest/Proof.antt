@@ -1,52 +1,21 @@
--- `highest` meets its contract. The loop's invariant: the highest of the lanes passed. The measure is the lanes left. Assumes nothing.
+-- `highest` meets its contract: the highest of all lanes is at most top, or they are looked at again. Assumes nothing.
 use native.Mathlib.Omega.{arith}
-use Prim.Native.Nat.{_≤_, _-_}
-use Rattle.lanes.specs.Standing.{Highest, highest-none, highest-more, highest-all}
+use Rattle.lanes.specs.Standing.{highest-under}
 use borrow.Author.Needs.{needs}
 use Rattle.lanes.proofs.highest.Statement.{statement}
 use Rattle.lanes.proofs.highest.Tie as tie
 
-abbrev Inv-loop : tie.InvT-loop
-Inv-loop at k top most₀ l₀ most l = (l ≤ k) × Highest at top l most
+highest-below-requires : tie.Need-highest-below-requires
+highest-below-requires c κs = search needs
 
-abbrev μ-loop : tie.MeasureT-loop
-μ-loop at k top most₀ l₀ most l = k - l
+returns : tie.Need-returns
+returns c = highest-under (c .before .highest-below .ensures) (omega (arith, c .before .before .fits .top)) (c .if1 .taken)
 
-loop-holds : tie.Need-loop-holds Inv-loop μ-loop
-loop-holds c = (omega arith, highest-none _ _)
+highest-below-requires-2 : tie.Need-highest-below-requires-2
+highest-below-requires-2 c κs = search needs
 
-mul-higher : tie.Need-mul-higher Inv-loop μ-loop
-mul-higher c = search needs
-
-element-copy-out-higher : tie.Need-element-copy-out-higher Inv-loop μ-loop
-element-copy-out-higher c = search needs
-
-higher-requires : tie.Need-higher-requires Inv-loop μ-loop
-higher-requires c κs = search needs
-
-add-l : tie.Need-add-l Inv-loop μ-loop
-add-l c = search needs
-
-loop-less : tie.Need-loop-less Inv-loop μ-loop
-loop-less c = omega arith
-
-loop-again : tie.Need-loop-again Inv-loop μ-loop
-loop-again c = (omega arith, highest-more (c .before .before .before .loop .inv .1) (c .higher .ensures))
-
-returns : tie.Need-returns Inv-loop μ-loop
-returns c = highest-all (c .before .loop .inv .1) (c .before .loop .inv .0) (c .loop-test .left)
+returns-2 : tie.Need-returns-2
+returns-2 c = search needs
 
 pub highest-spec : {M : Type 1} → statement M
-highest-spec =
-    tie.close
-    (tie.spec
-    Inv-loop
-    μ-loop
-    loop-holds
-    mul-higher
-    element-copy-out-higher
-    higher-requires
-    add-l
-    loop-less
-    loop-again
-    returns)
+highest-spec = tie.close (tie.spec highest-below-requires returns highest-below-requires-2 returns-2)

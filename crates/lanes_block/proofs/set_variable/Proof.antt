@@ -1,43 +1,61 @@
--- `set_variable` meets its contract: target, value and write, lane by lane. Assumes nothing.
-use native.Mathlib.Omega.{arith}
-use Rattle.model.specs.Memory.{nodesIn}
+-- `set_variable` meets its contract: the target is an Imm, or is evaluated lane by lane. Assumes nothing.
+use mathlib.Core.Path.{sym, ap, _∙_}
+use mathlib.Core.Option.{some}
+use mir.Facts.{toZ-ofZ}
+use mir.Syntax.{w32}
+use Rattle.model.specs.Memory.{nodesIn, tree}
+use Rattle.expr.specs.Requirement.{numberOf}
 use Rattle.expr.specs.Tree.{below-root}
-use Rattle.lanes_block.specs.Flows.{set-does}
+use Rattle.lanes_block.proofs.Sets.{imm-always}
 use borrow.Author.Needs.{needs}
 use Rattle.lanes_block.proofs.set_variable.Statement.{statement}
 use Rattle.lanes_block.proofs.set_variable.Tie as tie
 
-add-evaluate-lanes : tie.Need-add-evaluate-lanes
-add-evaluate-lanes c = search needs
+add-number-below : tie.Need-add-number-below
+add-number-below c = search needs
 
-evaluate-lanes-requires : tie.Need-evaluate-lanes-requires
-evaluate-lanes-requires c κs = search needs
+number-below-requires : tie.Need-number-below-requires
+number-below-requires c κs = search needs
 
-add-evaluate-lanes-2 : tie.Need-add-evaluate-lanes-2
-add-evaluate-lanes-2 c = search needs
+enum-known-t : tie.Need-enum-known-t
+enum-known-t c = search needs
 
-evaluate-lanes-requires-2 : tie.Need-evaluate-lanes-requires-2
-evaluate-lanes-requires-2 c κs = search needs
+set-same-requires : tie.Need-set-same-requires
+set-same-requires c κs = search needs
 
-store-lanes-requires : tie.Need-store-lanes-requires
-store-lanes-requires c κs = (c .before .before .before .before .before .before .before .before .before .before .before .before .before .before .pre .3, λ j h. c .before .before .before .before .before .before .before .before .before .before .before .before .before .before .pre .2 .lie j h .variables)
+enum-told : tie.Need-enum-told
+enum-told c = search needs
+
+set-each-requires : tie.Need-set-each-requires
+set-each-requires c κs = search needs
 
 same-length : tie.Need-same-length
 same-length c = search needs
 
 returns : tie.Need-returns
 returns c =
-    let a = c .before .before .before .before .before .before .before .before .before .before .before .before .before .before .before .before in
-    λ d nx. set-does (rw (below-root (nodesIn (a .args .ws .now) (a .args .val .now) d) (a .args .target)) at (c .before .before .before .before .before .before .before .before .before .before .evaluate-lanes .ensures d)) (rw (below-root (nodesIn (a .args .ws .now) (a .args .val .now) d) (a .args .value)) at (c .before .before .before .before .before .before .evaluate-lanes2 .ensures d)) (c .before .store-lanes .ensures)
+    let a = c .before .before .before .before .before .before .before .before .before .before .before in
+    λ d nx.
+    let ns = nodesIn (a .args .ws .now) (a .args .val .now) d in
+    c .before .set-same .ensures d nx (tree ns (a .args .target)) (imm-always (tree ns (a .args .target)) _ (ap some (toZ-ofZ {w = w32} (record { sfits = c .before .before .before .before .before .known-told .given .0 .1 })) ∙ ap numberOf (sym (c .before .before .before .before .before .before .t .given .1)) ∙ (rw (below-root ns (a .args .target)) at (c .before .before .before .before .before .before .before .before .number-below .ensures d))))
+
+same-length-2 : tie.Need-same-length-2
+same-length-2 c = search needs
+
+returns-2 : tie.Need-returns-2
+returns-2 c = search needs
 
 pub set-variable-spec : {M : Type 1} → statement M
 set-variable-spec =
     tie.close
     (tie.spec
-    add-evaluate-lanes
-    evaluate-lanes-requires
-    add-evaluate-lanes-2
-    evaluate-lanes-requires-2
-    store-lanes-requires
+    add-number-below
+    number-below-requires
+    enum-known-t
+    set-same-requires
+    enum-told
+    set-each-requires
     same-length
-    returns)
+    returns
+    same-length-2
+    returns-2)

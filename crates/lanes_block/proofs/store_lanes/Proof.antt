@@ -13,66 +13,53 @@ use Rattle.lanes_block.proofs.store_lanes.Statement.{statement}
 use Rattle.lanes_block.proofs.store_lanes.Tie as tie
 
 abbrev Inv-loop : tie.InvT-loop
-Inv-loop lanes s targets values stops vars₀ j₀ vars j = (j ≤ s) × StoredAll lanes targets values stops vars₀ j vars
+Inv-loop lanes s targets values stops vars₀ j₀ vars j = (j ≤ s) × StoredAll lanes (λ j. getD targets j (pos 0)) (λ j. getD values j (pos 0)) stops vars₀ j vars
 
 abbrev μ-loop : tie.MeasureT-loop
 μ-loop lanes s targets values stops vars₀ j₀ vars j = s - j
 
--- src/lib.rt:130:5
 loop-holds : tie.Need-loop-holds Inv-loop μ-loop
 loop-holds c = (omega arith, stored-none _ _ _ _ _)
 
--- src/lib.rt:131:26
 element-copy-out-store-lane : tie.Need-element-copy-out-store-lane Inv-loop μ-loop
 element-copy-out-store-lane c = search needs
 
--- src/lib.rt:131:36
 mul-store-lane : tie.Need-mul-store-lane Inv-loop μ-loop
 mul-store-lane c = search needs
 
--- src/lib.rt:131:36
 element-copy-out-store-lane-2 : tie.Need-element-copy-out-store-lane-2 Inv-loop μ-loop
 element-copy-out-store-lane-2 c = search needs
 
--- src/lib.rt:131:48
 mul-store-lane-2 : tie.Need-mul-store-lane-2 Inv-loop μ-loop
 mul-store-lane-2 c = search needs
 
--- src/lib.rt:131:48
 element-copy-out-store-lane-3 : tie.Need-element-copy-out-store-lane-3 Inv-loop μ-loop
 element-copy-out-store-lane-3 c = search needs
 
--- src/lib.rt:131:59
 element-copy-out-store-lane-4 : tie.Need-element-copy-out-store-lane-4 Inv-loop μ-loop
 element-copy-out-store-lane-4 c = search needs
 
--- src/lib.rt:131:9
 store-lane-requires : tie.Need-store-lane-requires Inv-loop μ-loop
 store-lane-requires c κs = omega (arith, c .before .before .before .before .before .before .before .pre .1 (c .before .before .before .before .before .before .loop .j) (c .before .before .before .before .before .loop-test .taken), c .before .before .before .before .before .before .loop .inv .1 .kept .long)
 
--- src/lib.rt:132:9
 add-j : tie.Need-add-j Inv-loop μ-loop
 add-j c = search needs
 
--- src/lib.rt:130:5
 loop-less : tie.Need-loop-less Inv-loop μ-loop
 loop-less c = omega arith
 
--- src/lib.rt:130:5
 loop-again : tie.Need-loop-again Inv-loop μ-loop
 loop-again c =
     let a = c .before .before .before .before .before .before .before .before .before in
     let f : SFits w32 (getD (a .args .targets .now) (c .before .before .before .before .before .before .before .before .loop .j) (pos 0)) = record { sfits = c .before .before .before .before .store-lane-arg3 .given } in
     let g : SFits w32 (getD (a .args .values .now) (c .before .before .before .before .before .before .before .before .loop .j) (pos 0)) = record { sfits = c .before .before .before .store-lane-arg4 .given } in
-    (omega arith, stored-more (a .args .lanes .now) (a .args .targets .now) (a .args .values .now) (a .args .stops .now) (a .args .vars .now) (a .args .s) (c .before .before .before .before .before .before .before .before .loop .j) (c .before .before .before .before .before .before .before .before .loop .vars) _ (a .pre .0) (c .before .before .before .before .before .before .before .loop-test .taken) (c .before .before .before .before .before .before .before .before .loop .inv .1) (rw (toZ-ofZ f, toZ-ofZ g) at (c .before .store-lane .ensures)))
+    (omega arith, stored-more (a .args .lanes .now) (λ j. getD (a .args .targets .now) j (pos 0)) (λ j. getD (a .args .values .now) j (pos 0)) (a .args .stops .now) (a .args .vars .now) (a .args .s) (c .before .before .before .before .before .before .before .before .loop .j) (c .before .before .before .before .before .before .before .before .loop .vars) _ (a .pre .0) (c .before .before .before .before .before .before .before .loop-test .taken) (c .before .before .before .before .before .before .before .before .loop .inv .1) (rw (toZ-ofZ f, toZ-ofZ g) at (c .before .store-lane .ensures)))
 
--- src/lib.rt:117:1
 same-length : tie.Need-same-length Inv-loop μ-loop
 same-length c = c .before .loop .inv .1 .kept .long
 
--- src/lib.rt:117:1
 returns : tie.Need-returns Inv-loop μ-loop
-returns c = let a = c .before .before in stored-all (a .args .lanes .now) (a .args .targets .now) (a .args .values .now) (a .args .stops .now) (a .args .vars .now) (a .args .s) (c .before .loop .j) (c .before .loop .vars) (c .before .loop .inv .1) (c .before .loop .inv .0) (c .loop-test .left)
+returns c = let a = c .before .before in stored-all (a .args .lanes .now) (λ j. getD (a .args .targets .now) j (pos 0)) (λ j. getD (a .args .values .now) j (pos 0)) (a .args .stops .now) (a .args .vars .now) (a .args .s) (c .before .loop .j) (c .before .loop .vars) (c .before .loop .inv .1) (c .before .loop .inv .0) (c .loop-test .left)
 
 pub store-lanes-spec : {M : Type 1} → statement M
 store-lanes-spec =

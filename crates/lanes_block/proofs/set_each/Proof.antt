@@ -1,0 +1,45 @@
+-- `set_each` meets its contract: target, value and write, lane by lane. Assumes nothing.
+use native.Mathlib.Omega.{arith}
+use Rattle.model.specs.Memory.{nodesIn}
+use Rattle.expr.specs.Tree.{below-root}
+use Rattle.lanes_block.specs.Flows.{valued-worth, set-does}
+use borrow.Author.Needs.{needs}
+use Rattle.lanes_block.proofs.set_each.Statement.{statement}
+use Rattle.lanes_block.proofs.set_each.Tie as tie
+
+add-evaluate-lanes : tie.Need-add-evaluate-lanes
+add-evaluate-lanes c = search needs
+
+evaluate-lanes-requires : tie.Need-evaluate-lanes-requires
+evaluate-lanes-requires c κs = search needs
+
+add-evaluate-lanes-2 : tie.Need-add-evaluate-lanes-2
+add-evaluate-lanes-2 c = search needs
+
+evaluate-lanes-requires-2 : tie.Need-evaluate-lanes-requires-2
+evaluate-lanes-requires-2 c κs = search needs
+
+store-lanes-requires : tie.Need-store-lanes-requires
+store-lanes-requires c κs = (c .before .before .before .before .before .before .before .before .before .before .before .before .before .before .pre .3, λ j h. c .before .before .before .before .before .before .before .before .before .before .before .before .before .before .pre .2 .lie j h .variables)
+
+same-length : tie.Need-same-length
+same-length c = search needs
+
+returns : tie.Need-returns
+returns c =
+    let a = c .before .before .before .before .before .before .before .before .before .before .before .before .before .before .before .before in
+    λ d nx.
+    let ns = nodesIn (a .args .ws .now) (a .args .val .now) d in
+    set-does (valued-worth (rw (below-root ns (a .args .target)) at (c .before .before .before .before .before .before .before .before .before .before .evaluate-lanes .ensures d))) (valued-worth (rw (below-root ns (a .args .value)) at (c .before .before .before .before .before .before .evaluate-lanes2 .ensures d))) (c .before .store-lanes .ensures)
+
+pub set-each-spec : {M : Type 1} → statement M
+set-each-spec =
+    tie.close
+    (tie.spec
+    add-evaluate-lanes
+    evaluate-lanes-requires
+    add-evaluate-lanes-2
+    evaluate-lanes-requires-2
+    store-lanes-requires
+    same-length
+    returns)
