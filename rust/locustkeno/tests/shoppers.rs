@@ -59,6 +59,24 @@ fn a_purchase_shows_in_the_next_run() {
     assert_eq!(shopper.save.pair(0), (3, 3));
 }
 
+/// Steps that buy nothing need no run; the one after a purchase does, since other slots may ask for the piece.
+#[test]
+fn a_purchase_opens_and_shuts_other_slots() {
+    let mut shopper = shopper(100);
+    let with = slot(5, 2, vec![Requirement::HaveItem(Item(3))]);
+    let without = slot(6, 2, vec![Requirement::MissingItem(Item(3))]);
+    let slots = [slot(3, 1, vec![]), with, without];
+    let steps = shop(&mut shopper, &slots, 10, &[1, 1, 2, 0, 2, 0, 1]).unwrap();
+    let (bought, sold_out) = (Step::Bought(10), Step::SoldOut);
+    assert_eq!(
+        steps,
+        [
+            sold_out, sold_out, bought, bought, sold_out, sold_out, bought
+        ]
+    );
+    assert_eq!(shopper.money, 70);
+}
+
 #[test]
 fn a_step_that_cannot_buy_says_why() {
     let mut shopper = shopper(59);
