@@ -25,7 +25,7 @@ pub entry-number : (k : ℕ) → entryOf (atcEntry k) ≡ k
 entry-number zero = refl
 entry-number (suc a) = refl
 
-entry-back : (x : Option ℕ) → atcEntry (entryOf x) ≡ x
+pub entry-back : (x : Option ℕ) → atcEntry (entryOf x) ≡ x
 entry-back none = refl
 entry-back (some a) = refl
 
