@@ -26,7 +26,7 @@ pub struct Walked {
     pub read: u32,
 }
 
-/// The refusal or 0, and the length of an image.
+/// The refusal or 0, and the length of an image or a heading.
 #[repr(C)]
 #[derive(Debug, Copy, Clone)]
 pub struct Written {
@@ -279,6 +279,7 @@ pub use rights::*;
 pub use settings::*;
 pub use shopper::*;
 pub use shops::*;
+pub use stage::*;
 
 mod bill;
 mod check;
@@ -286,3 +287,4 @@ mod rights;
 mod settings;
 mod shopper;
 mod shops;
+mod stage;

@@ -56,6 +56,7 @@ mod settings;
 mod sheet;
 mod shop;
 mod shopper;
+mod stage;
 mod text;
 mod view;
 
@@ -77,5 +78,6 @@ pub use settings::Settings;
 pub use sheet::{Atc, Item, Sheet};
 pub use shop::{Codes, ENTRIES, NUM_SLOTS, Shop, ShopArrays, Slot};
 pub use shopper::{Shopper, Step, WISHES};
+pub use stage::{STAGE_BYTES, Stage};
 pub use text::BadText;
 pub use view::{Block, Command, Expr, Op1, Op2};
