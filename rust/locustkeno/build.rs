@@ -7,11 +7,6 @@ fn main() {
     println!("cargo:rerun-if-env-changed=LOCUSTKENO_LIB");
     let folder = folder();
     let library = folder.join("liblocustkeno.a");
-    assert!(
-        library.is_file(),
-        "{} is not there: run `tools/library` at the top of the repository",
-        library.display()
-    );
     println!("cargo:rerun-if-changed={}", library.display());
     println!("cargo:rustc-link-search=native={}", folder.display());
     println!("cargo:rustc-link-lib=static=locustkeno");

@@ -146,7 +146,7 @@ fn check(tally: &mut Tally, sheet: &Sheet, slots: &[Slot]) {
     let shop = Shop::with_slots(slots.iter().map(convert::slot));
     let ours = shop
         .check(&convert::sheet(sheet))
-        .map_err(|refused| refused.0);
+        .map_err(|refused| refused.number());
     let theirs = printed(sheet, slots);
     tally.count("check", ours.as_ref().err().copied().unwrap_or(0));
     let case = || format!("{slots:?} on {sheet:?}");

@@ -37,7 +37,7 @@ fn marked(script: &Script, mark: u32) -> Script {
 pub fn check(tally: &mut Tally, script: &mut Script, bytes: &[u8]) {
     let case = || format!("image {bytes:02X?}");
     let theirs = image::read(bytes);
-    let ours = script.read_again(bytes).map_err(|refused| refused.0);
+    let ours = script.read_again(bytes).map_err(|refused| refused.number());
     tally.count("read", ours.err().unwrap_or(0));
     let answer = theirs.as_ref().map(|_| ()).map_err(|refusal| refusal.0);
     tally.same("read", &ours, &answer, case);
@@ -62,7 +62,9 @@ fn check_write(tally: &mut Tally, script: &Script, bytes: &[u8]) {
     let len = bytes.len();
     for (room, filler) in [(len - 1, 0xA5), (len, 0x5A), (len + 3, 0xFF)] {
         let mut out = vec![filler; room];
-        let answer = script.write_into(&mut out).map_err(|refused| refused.0);
+        let answer = script
+            .write_into(&mut out)
+            .map_err(|refused| refused.number());
         tally.count("write", answer.err().unwrap_or(0));
         let mut expected = vec![filler; room];
         let written = if room < len { Err(16) } else { Ok(len) };

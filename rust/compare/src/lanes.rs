@@ -93,11 +93,15 @@ fn check(tally: &mut Tally, random: &mut Random, sheet: &Sheet, script: &Script,
     let mut theirs = ours.clone();
     let answer = match script.run_all(&convert::sheet(sheet), setup, &mut ours) {
         Ok(walk) => {
-            let lane =
-                |ran: &locustkeno::Ran| (ran.refusal.map_or(0, |refused| refused.0), ran.entered);
+            let lane = |ran: &locustkeno::Ran| {
+                (
+                    ran.refusal.map_or(0, |refused| refused.number()),
+                    ran.entered,
+                )
+            };
             (0, walk.runs.iter().map(lane).collect(), walk.read as usize)
         }
-        Err(refused) => (refused.0, vec![], 0),
+        Err(refused) => (refused.number(), vec![], 0),
     };
     tally.count("walk", answer.0);
     for (refusal, _) in &answer.1 {

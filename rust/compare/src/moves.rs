@@ -122,7 +122,7 @@ impl Stage {
         let ran = self
             .script
             .run(&sheet, setup, &mut save, random.pick(&BUDGETS));
-        (save, ran.refusal.map_or(0, |refused| refused.0))
+        (save, ran.refusal.map_or(0, |refused| refused.number()))
     }
 
     /// "The counts of slots of that item with limit above 1" and variable 0.
@@ -186,8 +186,10 @@ impl Stage {
         tally.count("one more held, counts that are lower", differ.len() as u8);
         let sheet = convert::sheet(&self.sheet);
         let shop = Shop::with_slots(slots.iter().map(convert::slot));
-        let [ours, theirs] =
-            saves.map(|save| shop.preview(&sheet, save).map_err(|refused| refused.0));
+        let [ours, theirs] = saves.map(|save| {
+            shop.preview(&sheet, save)
+                .map_err(|refused| refused.number())
+        });
         let shown: Vec<usize> = (0..NUM_SLOTS)
             .filter(|slot| few.pair(*slot) != more.pair(*slot))
             .collect();

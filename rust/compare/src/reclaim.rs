@@ -81,7 +81,7 @@ pub fn check(
     let mut moved = full.clone();
     let answer = script
         .reclaim_into(roots, &mut moved)
-        .map_err(|refused| refused.0);
+        .map_err(|refused| refused.number());
     let what = match judge::judge(before.arrays()) {
         Ok(()) => "reclaim",
         Err(_) => "reclaim of a broken record",
@@ -123,7 +123,7 @@ fn check_left(
     let counts = [left.kept.blocks, left.kept.commands, left.kept.nodes];
     tally.same("counts after a reclaim", &kept, &counts, case);
     tally.same("reclaimed script", &tree::script(a), &left.script, case);
-    let image = script.write().map_err(|refused| refused.0);
+    let image = script.write().map_err(|refused| refused.number());
     let theirs = Ok(image::write(&left.script));
     tally.same("reclaimed image", &image, &theirs, case);
     let same = *a == arrays_after(before, left);
@@ -145,12 +145,15 @@ pub fn check_survivors(
         let (mut was, mut is) = (save.clone(), save.clone());
         let ran = before.run(&sheet_of, *old as u32, &mut was, budget);
         let runs = after.run(&sheet_of, *new as u32, &mut is, budget);
-        tally.count("run after a reclaim", runs.refusal.map_or(0, |r| r.0));
+        tally.count(
+            "run after a reclaim",
+            runs.refusal.map_or(0, |r| r.number()),
+        );
         let case = || format!("block {old}, then {new}, image {:02X?}", before.write());
         tally.same("run after a reclaim", &(runs, is), &(ran, was), case);
         let read = before.parse(&sheet_of, *old as u32);
         let reads = after.parse(&sheet_of, *new as u32);
-        let refusal = reads.as_ref().err().map_or(0, |refused| refused.0);
+        let refusal = reads.as_ref().err().map_or(0, |refused| refused.number());
         tally.count("parse after a reclaim", refusal);
         tally.same("parse after a reclaim", &reads, &read, case);
     }

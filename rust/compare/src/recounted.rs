@@ -52,7 +52,7 @@ fn check(tally: &mut Tally, random: &mut Random, sheet: &Sheet, setup: u32, a: &
         let counts = (a.nodes, a.commands, a.blocks);
         format!("kept {counts:?}, blocks {:?}", &a.bw[..40])
     };
-    let written = script.write().err().map(|refused| refused.0);
+    let written = script.write().err().map(|refused| refused.number());
     tally.count("recounted", written.unwrap_or(0));
     tally.same("write of a recounted record", &written, &judged, case);
     if judged.is_none() {
@@ -67,7 +67,7 @@ fn check(tally: &mut Tally, random: &mut Random, sheet: &Sheet, setup: u32, a: &
             .compile(&sheet_of, Loader::Disc, setup, &Shop::with_slots([]))
             .err(),
     ]
-    .map(|refused| refused.map(|refused| refused.0));
+    .map(|refused| refused.map(|refused| refused.number()));
     tally.same("calls on a recounted record", &answers, &[judged; 3], case);
     tally.same("a refused record", script.arrays(), a, case);
 }

@@ -224,7 +224,7 @@ fn edited(
     let mut shop = Shop::with_slots(start.iter().map(convert::slot));
     for (i, edit) in made.iter().enumerate() {
         let answer = shop.edit(&convert::sheet(sheet), rights, edit.user, &given(edit));
-        let answer = answer.map_or_else(|refused| refused.0, |()| 0);
+        let answer = answer.map_or_else(|refused| refused.number(), |()| 0);
         tally.count("edit", answer);
         let case = || format!("user {}, {:?}, sheet {sheet:?}", edit.user, given(edit));
         tally.same("edit", &answer, &edit.answer, case);
@@ -243,7 +243,9 @@ fn check_shown(
     slots: &[Slot],
 ) {
     for user in (0..18).chain([u32::MAX]) {
-        let seen = shop.shown_to(rights, user).map_err(|refused| refused.0);
+        let seen = shop
+            .shown_to(rights, user)
+            .map_err(|refused| refused.number());
         tally.count("show", seen.as_ref().err().copied().unwrap_or(0));
         let case = || format!("user {user}, rights {rights:?}, shop {shop:?}");
         tally.same("show", &seen, &shown(granted, user, slots), case);

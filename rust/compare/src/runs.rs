@@ -38,7 +38,7 @@ pub fn check(
 ) -> (Save, u8, u32) {
     let (mut ours, mut theirs) = (save.clone(), save.clone());
     let ran = script.run(&convert::sheet(sheet), start, &mut ours, budget);
-    let refusal = ran.refusal.map_or(0, |refused| refused.0);
+    let refusal = ran.refusal.map_or(0, |refused| refused.number());
     tally.count("run", refusal);
     let answer = interpret::run(sheet, script.arrays(), start, &mut theirs, budget);
     let case = || {
@@ -149,7 +149,7 @@ pub fn records(tally: &mut Tally, random: &mut Random, count: usize) {
         let judged = crate::judge::judge(script.arrays())
             .err()
             .map(|refusal| refusal.0);
-        let written = script.write().err().map(|refused| refused.0);
+        let written = script.write().err().map(|refused| refused.number());
         tally.count("write of a record", written.unwrap_or(0));
         tally.same("write of a record", &written, &judged, || {
             format!("input {input:?}")

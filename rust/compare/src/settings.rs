@@ -172,7 +172,7 @@ fn run(tally: &mut Tally, sheet: &Sheet, slot: &Slot, settings: Settings, script
         let ran = script.run(&ours, 0, &mut save, 82);
         tally.count(
             "run of a setting",
-            ran.refusal.map_or(0, |refused| refused.0),
+            ran.refusal.map_or(0, |refused| refused.number()),
         );
         let (item, expected) = (save.pair(0).0, looked.lists(&answers));
         let left = if expected { looked.item.into() } else { -1 };
@@ -189,7 +189,7 @@ fn run(tally: &mut Tally, sheet: &Sheet, slot: &Slot, settings: Settings, script
 fn check(tally: &mut Tally, sheet: &Sheet, slot: &Slot, script: &mut Script) {
     let ours = convert::slot(slot)
         .settings(&convert::sheet(sheet))
-        .map_err(|refused| refused.0);
+        .map_err(|refused| refused.number());
     tally.count("settings", ours.err().unwrap_or(0));
     tally.same("settings", &ours, &counted(sheet, slot), || {
         format!("{slot:?} on {sheet:?}")

@@ -81,7 +81,7 @@ fn check(tally: &mut Tally, random: &mut Random, a: Arrays) {
     let sheet = small::sheet();
     let script = Script::from_arrays(a);
     let judged = judge::judge(script.arrays()).err().map(|refusal| refusal.0);
-    let written = script.write().err().map(|refused| refused.0);
+    let written = script.write().err().map(|refused| refused.number());
     tally.count("write of a record", written.unwrap_or(0));
     let case = || format!("record {:?}", words(script.arrays()));
     tally.same("write of a record", &written, &judged, case);
@@ -89,7 +89,7 @@ fn check(tally: &mut Tally, random: &mut Random, a: Arrays) {
     runs::check(tally, &sheet, &script, 0, &save, 50);
     let ours = script
         .parse(&convert::sheet(&sheet), 0)
-        .map_err(|refused| refused.0);
+        .map_err(|refused| refused.number());
     tally.count("parse", ours.as_ref().err().copied().unwrap_or(0));
     let theirs = match judged {
         Some(refusal) => Err(refusal),

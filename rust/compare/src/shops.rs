@@ -25,7 +25,7 @@ fn check_parse(
 ) {
     let ours = script
         .parse(&convert::sheet(sheet), setup)
-        .map_err(|refused| refused.0);
+        .map_err(|refused| refused.number());
     tally.count("parse", ours.as_ref().err().copied().unwrap_or(0));
     let theirs = theirs.map(|slots| shop(&slots));
     tally.same("parse", &ours, &theirs, || {
@@ -139,7 +139,7 @@ pub fn check_compile(
     let before = ours.clone();
     let answer = ours
         .compile(&convert::sheet(sheet), loader, setup, &shop(slots))
-        .map_err(|refused| refused.0);
+        .map_err(|refused| refused.number());
     tally.count("compile", answer.err().unwrap_or(0));
     let expected = their_compile(theirs, sheet, loader, setup, slots);
     let case = || {
@@ -308,7 +308,7 @@ pub fn compile_limits(tally: &mut Tally, random: &mut Random) {
 fn check_preview(tally: &mut Tally, sheet: &Sheet, slots: &[Slot], save: &locustkeno::Save) {
     let ours = shop(slots)
         .preview(&convert::sheet(sheet), save)
-        .map_err(|refused| refused.0);
+        .map_err(|refused| refused.number());
     tally.count("preview", ours.as_ref().err().copied().unwrap_or(0));
     let expected = meaning(sheet, slots, save);
     let theirs = match <[_; NUM_SLOTS]>::try_from(expected.pairs) {

@@ -101,7 +101,7 @@ impl Save {
     /// the sheet.
     ///
     /// ```
-    /// use locustkeno::{Basket, Item, Loader, Refused, Save, Script, Sheet, Shop, Slot, Tariff};
+    /// use locustkeno::{Basket, Item, Loader, Refusal, Refused, Save, Script, Sheet, Shop, Slot, Tariff};
     /// let sheet = Sheet::new(&[None; 8], 0, [Item(0), Item(1), Item(2)]);
     /// let slot = |item, limit| Slot { item: Some(Item(item)), limit, requirements: vec![] };
     /// let mut script = Script::read(&[1, 1, 1, 0, 0, 0])?;
@@ -115,8 +115,8 @@ impl Save {
     /// assert_eq!(last.collect::<Vec<_>>(), [(4, 1, 2), (5, 0, 2)]);
     /// assert_eq!(bill.total, 4);
     /// let four = Basket::empty().with(0, 4);
-    /// assert_eq!(save.bill(&sheet, &tariff, &four), Err(Refused(25)));
-    /// assert_eq!(save.bill(&sheet, &Tariff::new([1; 8], 1_001), &four), Err(Refused(24)));
+    /// assert_eq!(save.bill(&sheet, &tariff, &four), Err(Refusal::BadBasket.into()));
+    /// assert_eq!(save.bill(&sheet, &Tariff::new([1; 8], 1_001), &four), Err(Refusal::BadTariff.into()));
     /// # Ok::<(), Refused>(())
     /// ```
     pub fn bill(&self, sheet: &Sheet, tariff: &Tariff, basket: &Basket) -> Result<Bill, Refused> {
@@ -152,7 +152,8 @@ impl Save {
                 &mut coins,
             )
         };
-        Refused::check(billed.refusal)?;
+        let saves = std::slice::from_ref(self);
+        Refused::check(billed.refusal).map_err(|refused| refused.in_saves(sheet, saves))?;
         Ok(Bill {
             lines: std::array::from_fn(|at| Line {
                 item: items[at],

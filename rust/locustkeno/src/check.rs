@@ -235,7 +235,7 @@ impl Shop {
                 &shop.lens,
             )
         };
-        Refused::check(answer.refusal)?;
+        Refused::check(answer.refusal).map_err(|refused| refused.in_shop(sheet, shop))?;
         let slots = self.slots();
         let told = answer.slots.iter().zip(&slots).enumerate();
         Ok(told

@@ -69,7 +69,7 @@ impl Script {
     /// written.
     ///
     /// ```
-    /// use locustkeno::{Item, Refused, Save, Script, Sheet};
+    /// use locustkeno::{Item, Refusal, Refused, Save, Script, Sheet};
     /// let sheet = Sheet::new(&[None; 3], 0, [Item(0), Item(1), Item(2)]);
     /// // Variable 600 := variable 5, then Return.
     /// let script = Script::read(&[1, 1, 2, 2, 0, 0x0B, 0xB0, 0x09, 0x0E, 0x0B, 0x0A, 0, 0, 0])?;
@@ -78,14 +78,15 @@ impl Script {
     /// let walk = script.run_all(&sheet, 0, &mut saves)?;
     /// assert_eq!((walk.read, walk.runs.len()), (1, 3));
     /// assert_eq!([0, 1, 2].map(|j: usize| saves[j].variables[600]), [0, 7, 0]);
-    /// assert_eq!(script.run_all(&sheet, 0, &mut []), Err(Refused(22)));
+    /// assert_eq!(script.run_all(&sheet, 0, &mut []), Err(Refusal::BadWalk.into()));
     /// saves[2].flags[0] = 2;
-    /// assert_eq!(script.run_all(&sheet, 0, &mut saves), Err(Refused(12)));
+    /// assert_eq!(script.run_all(&sheet, 0, &mut saves), Err(Refusal::BadSave.into()));
     /// # Ok::<(), Refused>(())
     /// ```
     pub fn run_all(&self, sheet: &Sheet, setup: u32, saves: &mut [Save]) -> Result<Walk, Refused> {
         let mut flat = Saves::of(sheet, saves);
-        let walk = self.run_saves(sheet, setup, &mut flat)?;
+        let walked = self.run_saves(sheet, setup, &mut flat);
+        let walk = walked.map_err(|refused| refused.in_saves(sheet, saves))?;
         for (save, left) in saves.iter_mut().zip(flat.variables.chunks_exact(VARIABLES)) {
             save.variables.copy_from_slice(left);
         }

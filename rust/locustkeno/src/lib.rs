@@ -5,12 +5,12 @@
 //! over. Refusals have the numbers of documents 01 and 02.
 //!
 //! ```
-//! use locustkeno::{Item, Refused, Save, Script, Sheet};
+//! use locustkeno::{Item, Refusal, Refused, Save, Script, Sheet};
 //! let sheet = Sheet::new(&[None; 3], 0, [Item(0), Item(1), Item(2)]);
 //! let script = Script::read(&[1, 1, 1, 0, 0, 0])?;
 //! let mut save = Save::new(&sheet);
 //! assert_eq!(script.run(&sheet, 0, &mut save, 10).entered, 1);
-//! assert_eq!(script.run(&sheet, 1, &mut save, 10).refusal, Some(Refused(6)));
+//! assert_eq!(script.run(&sheet, 1, &mut save, 10).refusal, Some(Refusal::NotBlock.into()));
 //! # Ok::<(), Refused>(())
 //! ```
 
@@ -20,6 +20,7 @@ mod check;
 mod ffi;
 mod lanes;
 mod moves;
+mod place;
 mod reclaim;
 mod refused;
 mod rights;
@@ -37,8 +38,9 @@ pub use arrays::{Arrays, Births, BlockWords, CommandWords, NodeWords, Values};
 pub use bill::{Basket, Bill, Line, Tariff};
 pub use check::{Finding, Found};
 pub use lanes::{LANES, Saves, Walk};
+pub use place::{Part, Place};
 pub use reclaim::Moved;
-pub use refused::Refused;
+pub use refused::{Refusal, Refused};
 pub use rights::{Content, Edit, Right, Rights, USERS};
 pub use room::{Room, Use};
 pub use save::{FLAGS, Save, TIMES, VARIABLES};

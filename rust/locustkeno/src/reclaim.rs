@@ -35,7 +35,7 @@ impl Script {
     /// one that is not a block, are refusal 18 before any other check. Refused, the script stays as it was.
     ///
     /// ```
-    /// use locustkeno::{Item, Loader, Refused, Script, Sheet, Shop, Slot};
+    /// use locustkeno::{Item, Loader, Refusal, Refused, Script, Sheet, Shop, Slot};
     /// let sheet = Sheet::new(&[None; 8], 0, [Item(0), Item(1), Item(2)]);
     /// let slot = Slot { item: Some(Item(7)), limit: 3, requirements: vec![] };
     /// let (empty, shop) = (Shop::with_slots([]), Shop::with_slots([slot]));
@@ -51,8 +51,8 @@ impl Script {
     /// assert_eq!(script.parse(&sheet, 0)?, shop);
     /// // Block 23 was appended by the second compile, and is block 1 now.
     /// assert_eq!((script.birth(0), script.birth(1), script.compiles()), (Some(0), Some(2), 2));
-    /// assert_eq!(script.compile(&sheet, Loader::Disc, 1, &empty), Err(Refused(17)));
-    /// assert_eq!(script.reclaim(&[0, blocks as u32]), Err(Refused(18)));
+    /// assert_eq!(script.compile(&sheet, Loader::Disc, 1, &empty), Err(Refusal::BornLater.into()));
+    /// assert_eq!(script.reclaim(&[0, blocks as u32]), Err(Refusal::BadRoots.into()));
     /// # Ok::<(), Refused>(())
     /// ```
     pub fn reclaim(&mut self, roots: &[u32]) -> Result<Moved, Refused> {

@@ -122,7 +122,7 @@ impl Shop {
     /// A session of two users: the buyer fills slot 0, the clerk sees it and may only change its limit.
     ///
     /// ```
-    /// use locustkeno::{Content, Edit, Item, Refused, Right, Rights, Sheet, Shop, Slot};
+    /// use locustkeno::{Content, Edit, Item, Refusal, Refused, Right, Rights, Sheet, Shop, Slot};
     /// let sheet = Sheet::new(&[None; 8], 0, [Item(0), Item(1), Item(2)]);
     /// let (buyer, clerk) = (0, 1);
     /// let mut rights = Rights::default();
@@ -138,10 +138,10 @@ impl Shop {
     /// shop.edit(&sheet, &rights, buyer, &item(7))?;
     /// shop.edit(&sheet, &rights, clerk, &limit(0, 3))?;
     /// // Item 8 is not on the sheet, the clerk may not change the item, and there are sixteen users.
-    /// assert_eq!(shop.edit(&sheet, &rights, buyer, &item(8)), Err(Refused(8)));
-    /// assert_eq!(shop.edit(&sheet, &rights, clerk, &item(8)), Err(Refused(21)));
-    /// assert_eq!(shop.edit(&sheet, &rights, clerk, &limit(1, 3)), Err(Refused(21)));
-    /// assert_eq!(shop.edit(&sheet, &rights, 16, &item(8)), Err(Refused(20)));
+    /// assert_eq!(shop.edit(&sheet, &rights, buyer, &item(8)), Err(Refusal::BadShop.into()));
+    /// assert_eq!(shop.edit(&sheet, &rights, clerk, &item(8)), Err(Refusal::NoRight.into()));
+    /// assert_eq!(shop.edit(&sheet, &rights, clerk, &limit(1, 3)), Err(Refusal::NoRight.into()));
+    /// assert_eq!(shop.edit(&sheet, &rights, 16, &item(8)), Err(Refusal::NoUser.into()));
     ///
     /// let slot = Slot { item: Some(Item(7)), limit: 3, requirements: vec![] };
     /// assert_eq!(shop.slots()[..2], [slot.clone(), hidden]);
@@ -183,7 +183,8 @@ impl Shop {
                 len,
             )
         };
-        Refused::check(refusal)
+        let slot = edit.slot as usize;
+        Refused::check(refusal).map_err(|refused| refused.in_slot(sheet, slot, item, &entries, len))
     }
 
     /// The shop as a user is shown it: a slot that the user may see as it stands, any other as an empty one. Where there is

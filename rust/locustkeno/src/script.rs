@@ -6,14 +6,14 @@ use crate::{Refused, Save, Sheet, ffi};
 /// A stage script, held on the heap.
 ///
 /// ```
-/// use locustkeno::{Refused, Script};
+/// use locustkeno::{Refusal, Refused, Script};
 /// // One block of code with one Return; no next, no else.
 /// let image = [1, 1, 1, 0, 0, 0];
 /// let script = Script::read(&image)?;
 /// assert_eq!(script.blocks(), 1);
 /// assert_eq!(script.write()?, image);
 /// // A number that is not shortest.
-/// assert_eq!(Script::read(&[0x81, 0x00]).unwrap_err(), Refused(2));
+/// assert_eq!(Script::read(&[0x81, 0x00]).unwrap_err(), Refusal::BadImage);
 /// # Ok::<(), Refused>(())
 /// ```
 #[derive(Clone, Default)]
@@ -51,12 +51,12 @@ impl Script {
     /// that was read has mark 0, and the count of compiles starts at 0.
     ///
     /// ```
-    /// use locustkeno::{Item, Loader, Refused, Script, Sheet, Shop};
+    /// use locustkeno::{Item, Loader, Refusal, Refused, Script, Sheet, Shop};
     /// let sheet = Sheet::new(&[None; 3], 0, [Item(0), Item(1), Item(2)]);
     /// let shop = Shop::with_slots([]);
     /// let mut script = Script::read(&[1, 1, 1, 0, 0, 0])?;
     /// script.compile(&sheet, Loader::Disc, 0, &shop)?;
-    /// assert_eq!(script.compile(&sheet, Loader::Disc, 1, &shop), Err(Refused(17)));
+    /// assert_eq!(script.compile(&sheet, Loader::Disc, 1, &shop), Err(Refusal::BornLater.into()));
     /// // Block 1 is the shop's Return, and after reading it is a block like any other.
     /// let mut anew = Script::read(&script.write()?)?;
     /// assert_eq!((anew.birth(1), anew.compiles()), (Some(0), 0));
@@ -126,7 +126,7 @@ impl Script {
     /// variables.
     ///
     /// ```
-    /// use locustkeno::{Item, Refused, Save, Script, Sheet};
+    /// use locustkeno::{Item, Refusal, Refused, Save, Script, Sheet};
     /// let sheet = Sheet::new(&[None; 3], 0, [Item(0), Item(1), Item(2)]);
     /// // Variable 600 := 2, then Return.
     /// let script = Script::read(&[1, 1, 2, 2, 0, 0x0B, 0xB0, 0x09, 0x0B, 4, 0, 0, 0])?;
@@ -135,7 +135,7 @@ impl Script {
     /// assert_eq!((ran.refusal, ran.entered), (None, 1));
     /// assert_eq!(save.pair(0), (2, 0));
     /// let ran = script.run(&sheet, 0, &mut save, 0);
-    /// assert_eq!((ran.refusal, ran.entered), (Some(Refused(15)), 0));
+    /// assert_eq!((ran.refusal, ran.entered), (Some(Refusal::BudgetSpent.into()), 0));
     /// # Ok::<(), Refused>(())
     /// ```
     pub fn run(&self, sheet: &Sheet, start: u32, save: &mut Save, budget: u32) -> Ran {
@@ -172,7 +172,9 @@ impl Script {
             )
         };
         Ran {
-            refusal: Refused::check(ran.refusal).err(),
+            refusal: Refused::check(ran.refusal)
+                .err()
+                .map(|refused| refused.in_saves(sheet, std::slice::from_ref(save))),
             entered: ran.entered,
         }
     }
@@ -204,14 +206,14 @@ impl Script {
     /// How many compiles were accepted since the script was read or built. At 4,294,967,295 it stays.
     ///
     /// ```
-    /// use locustkeno::{Item, Loader, Refused, Script, Sheet, Shop};
+    /// use locustkeno::{Item, Loader, Refusal, Refused, Script, Sheet, Shop};
     /// let sheet = Sheet::new(&[None; 3], 0, [Item(0), Item(1), Item(2)]);
     /// let shop = Shop::with_slots([]);
     /// let mut script = Script::read(&[1, 1, 1, 0, 0, 0])?;
     /// assert_eq!(script.compiles(), 0);
     /// script.compile(&sheet, Loader::Disc, 0, &shop)?;
     /// // A refused compile is not counted.
-    /// assert_eq!(script.compile(&sheet, Loader::Disc, 1, &shop), Err(Refused(17)));
+    /// assert_eq!(script.compile(&sheet, Loader::Disc, 1, &shop), Err(Refusal::BornLater.into()));
     /// assert_eq!(script.compiles(), 1);
     /// # Ok::<(), Refused>(())
     /// ```
@@ -241,7 +243,7 @@ mod shops {
         /// (see [`Script::birth`]); 19 is for a result that the demo does not load. Refused, the script stays as it was.
         ///
         /// ```
-        /// use locustkeno::{Item, Loader, Refused, Save, Script, Sheet, Shop, Slot};
+        /// use locustkeno::{Item, Loader, Refusal, Refused, Save, Script, Sheet, Shop, Slot};
         /// let sheet = Sheet::new(&[None; 8], 0, [Item(0), Item(1), Item(2)]);
         /// let slot = Slot { item: Some(Item(7)), limit: 3, requirements: vec![] };
         /// let shop = Shop::with_slots([slot]);
@@ -251,14 +253,14 @@ mod shops {
         /// let mut save = Save::new(&sheet);
         /// script.run(&sheet, 0, &mut save, 100);
         /// assert_eq!(save.pair(0), (7, 3));
-        /// assert_eq!(script.compile(&sheet, Loader::Disc, 9_999, &shop), Err(Refused(6)));
+        /// assert_eq!(script.compile(&sheet, Loader::Disc, 9_999, &shop), Err(Refusal::NotBlock.into()));
         /// # Ok::<(), Refused>(())
         /// ```
         ///
         /// An empty shop adds 21 blocks:
         ///
         /// ```
-        /// use locustkeno::{Item, Loader, Refused, Script, Sheet, Shop};
+        /// use locustkeno::{Item, Loader, Refusal, Refused, Script, Sheet, Shop};
         /// let sheet = Sheet::new(&[None; 3], 0, [Item(0), Item(1), Item(2)]);
         /// let shop = Shop::with_slots([]);
         /// // A block of code and 490 or 491 placeholders.
@@ -269,7 +271,7 @@ mod shops {
         /// };
         /// assert_eq!(of_blocks(0xEB, 491)?.compile(&sheet, Loader::Demo, 0, &shop), Ok(()));
         /// let mut script = of_blocks(0xEC, 492)?;
-        /// assert_eq!(script.compile(&sheet, Loader::Demo, 0, &shop), Err(Refused(19)));
+        /// assert_eq!(script.compile(&sheet, Loader::Demo, 0, &shop), Err(Refusal::DemoFull.into()));
         /// assert_eq!(script.blocks(), 492);
         /// assert_eq!(script.compile(&sheet, Loader::Disc, 0, &shop), Ok(()));
         /// # Ok::<(), Refused>(())
@@ -311,6 +313,7 @@ mod shops {
                 )
             };
             a.keep(kept)
+                .map_err(|refused| refused.in_shop(sheet, arrays))
         }
 
         /// Reads the shop that starts at block `setup`. Requirements come out sorted, each once.
@@ -382,7 +385,9 @@ mod shops {
                     save.variables.len(),
                 )
             };
-            Refused::check(seen.refusal)?;
+            let saves = std::slice::from_ref(save);
+            Refused::check(seen.refusal)
+                .map_err(|refused| refused.in_shop(sheet, shop).in_saves(sheet, saves))?;
             Ok(Preview {
                 pairs: std::array::from_fn(|i| (seen.items[i], seen.counts[i])),
                 variable0: seen.temp,

@@ -45,7 +45,7 @@ impl Slot {
     /// subjects, and is hidden in the only setting.
     ///
     /// ```
-    /// use locustkeno::{Item, Refused, Requirement, Sheet, Slot};
+    /// use locustkeno::{Item, Refusal, Refused, Requirement, Sheet, Slot};
     /// let sheet = Sheet::new(&[None; 8], 0, [Item(0), Item(1), Item(2)]);
     /// let slot = Slot { item: Some(Item(7)), limit: 3, requirements: (0..10).map(Requirement::HaveFlag).collect() };
     /// assert_eq!(slot.settings(&sheet)?.to_string(), "listed in 1 of 1,024 settings");
@@ -54,28 +54,15 @@ impl Slot {
     /// let settings = slot.settings(&sheet)?;
     /// assert_eq!((settings.subjects, settings.listed, settings.hidden), (2, 3, 1));
     /// let slot = Slot { item: Some(Item(8)), ..slot };
-    /// assert_eq!(slot.settings(&sheet), Err(Refused(8)));
+    /// assert_eq!(slot.settings(&sheet), Err(Refusal::BadShop.into()));
     /// # Ok::<(), Refused>(())
     /// ```
     pub fn settings(&self, sheet: &Sheet) -> Result<Settings, Refused> {
         let (codes, len) = row(&self.requirements);
-        let [five, ten, fifteen] = sheet.timers;
-        // SAFETY: the slice and the row are as the library takes them; it writes to neither.
-        let answer = unsafe {
-            ffi::lk_settings(
-                sheet.attached.as_ptr(),
-                sheet.attached.len(),
-                sheet.atcs,
-                five.0,
-                ten.0,
-                fifteen.0,
-                item_number(self.item),
-                self.limit,
-                &codes,
-                len,
-            )
-        };
-        Refused::check(answer.refusal)?;
+        let item = item_number(self.item);
+        let answer = ffi::settings(sheet, item, self.limit, &codes, len);
+        Refused::check(answer.refusal)
+            .map_err(|refused| refused.in_slot(sheet, 0, item, &codes, len))?;
         Ok(Settings {
             subjects: answer.subjects,
             listed: answer.listed,

@@ -24,7 +24,7 @@ impl Step {
             0 => Self::Bought(coins),
             1 => Self::SoldOut,
             2 => Self::TooDear,
-            refusal => Self::Stopped(Refused(refusal)),
+            refusal => Self::Stopped(Refused::of(refusal)),
         }
     }
 }
@@ -32,7 +32,7 @@ impl Step {
 /// A shopper: a save, and money of 0 to 1,000,000 coins.
 ///
 /// ```
-/// use locustkeno::{Item, Refused, Save, Sheet, Shop, Shopper, Slot, Step, Tariff};
+/// use locustkeno::{Item, Refusal, Refused, Save, Sheet, Shop, Shopper, Slot, Step, Tariff};
 /// let sheet = Sheet::new(&[None; 8], 0, [Item(0), Item(1), Item(2)]);
 /// let slot = |item, limit| Slot { item: Some(Item(item)), limit, requirements: vec![] };
 /// let shop = Shop::with_slots([slot(5, 2), slot(6, 1)]);
@@ -43,7 +43,7 @@ impl Step {
 /// assert_eq!(steps, [Step::Bought(30), Step::Bought(30), Step::SoldOut, Step::TooDear]);
 /// assert_eq!(shopper.money, 20);
 /// assert_eq!(shopper.save.items[5], 2);
-/// assert_eq!(shopper.shop(&sheet, &shop, &tariff, &[20]), Err(Refused(27)));
+/// assert_eq!(shopper.shop(&sheet, &shop, &tariff, &[20]), Err(Refusal::NoSuchWish.into()));
 /// # Ok::<(), Refused>(())
 /// ```
 #[derive(Debug, Clone, PartialEq, Eq)]
@@ -104,7 +104,9 @@ impl Shopper {
                 &mut coins,
             )
         };
-        Refused::check(shopped.refusal)?;
+        let saves = std::slice::from_ref(&self.save);
+        Refused::check(shopped.refusal)
+            .map_err(|refused| refused.in_shop(sheet, arrays).in_saves(sheet, saves))?;
         self.money = shopped.money;
         let made = answers.iter().zip(&coins).take(shopped.steps.into());
         Ok(made.map(|(a, c)| Step::from_parts(*a, *c)).collect())

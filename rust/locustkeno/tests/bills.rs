@@ -1,7 +1,8 @@
 //! The bill and the bill by item (document 02, A.11 and A.12) over the crate.
 
 use locustkeno::{
-    Basket, Bill, Item, Loader, NUM_SLOTS, Refused, Save, Script, Sheet, Shop, Slot, Tariff,
+    Basket, Bill, Item, Loader, NUM_SLOTS, Refusal, Refused, Save, Script, Sheet, Shop, Slot,
+    Tariff,
 };
 
 fn sheet() -> Sheet {
@@ -76,12 +77,18 @@ fn lines_come_by_item_and_then_by_slot() {
 
 #[test]
 fn tariffs_out_of_range_are_24() {
-    assert_eq!(total(30_001, 0, &[(3, 1)], &[1]), Err(Refused(24)));
-    assert_eq!(total(1, 1_001, &[(3, 1)], &[1]), Err(Refused(24)));
+    assert_eq!(
+        total(30_001, 0, &[(3, 1)], &[1]),
+        Err(Refusal::BadTariff.into())
+    );
+    assert_eq!(
+        total(1, 1_001, &[(3, 1)], &[1]),
+        Err(Refusal::BadTariff.into())
+    );
     for prices in [vec![], vec![1; 7], vec![1; 9]] {
         let tariff = Tariff::new(prices, 0);
         let bill = left(&[]).bill(&sheet(), &tariff, &Basket::empty());
-        assert_eq!(bill, Err(Refused(24)));
+        assert_eq!(bill, Err(Refusal::BadTariff.into()));
     }
 }
 
@@ -94,7 +101,10 @@ fn baskets_that_cannot_be_taken_are_25() {
         ((-1, 1), 1),
         ((8, 1), 1),
     ] {
-        assert_eq!(total(1, 0, &[pair], &[number]), Err(Refused(25)));
+        assert_eq!(
+            total(1, 0, &[pair], &[number]),
+            Err(Refusal::BadBasket.into())
+        );
     }
     assert_eq!(total(1, 0, &[(8, 1)], &[0]), Ok(0));
 }
@@ -109,12 +119,21 @@ fn the_first_of_1_12_24_and_25_answers() {
     broken.flags[0] = 2;
     let dear = Tariff::new([30_001; 8], 0);
     let two = basket(&[2]);
-    assert_eq!(broken.bill(&bad, &dear, &two), Err(Refused(1)));
-    assert_eq!(broken.bill(&good, &dear, &two), Err(Refused(12)));
-    assert_eq!(fits.bill(&good, &dear, &two), Err(Refused(24)));
+    assert_eq!(
+        broken.bill(&bad, &dear, &two),
+        Err(Refusal::BadSheet.into())
+    );
+    assert_eq!(
+        broken.bill(&good, &dear, &two),
+        Err(Refusal::BadSave.into())
+    );
+    assert_eq!(
+        fits.bill(&good, &dear, &two),
+        Err(Refusal::BadTariff.into())
+    );
     assert_eq!(
         fits.bill(&good, &Tariff::new([1; 8], 0), &two),
-        Err(Refused(25))
+        Err(Refusal::BadBasket.into())
     );
 }
 

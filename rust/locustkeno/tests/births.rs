@@ -1,6 +1,6 @@
 //! Birth marks and the count of accepted compiles (document 02, A.2) over the crate.
 
-use locustkeno::{Arrays, Item, Loader, Refused, Script, Sheet, Shop, Slot};
+use locustkeno::{Arrays, Item, Loader, Refusal, Script, Sheet, Shop, Slot};
 
 fn sheet() -> Sheet {
     Sheet::new(&[None; 8], 0, [Item(0), Item(1), Item(2)])
@@ -34,8 +34,10 @@ fn with(script: &Script, change: impl FnOnce(&mut Arrays)) -> Script {
 fn refused(script: &mut Script, setup: u32, shop: &Shop, number: u8) {
     let before = script.clone();
     assert_eq!(
-        script.compile(&sheet(), Loader::Disc, setup, shop),
-        Err(Refused(number))
+        script
+            .compile(&sheet(), Loader::Disc, setup, shop)
+            .map_err(|refused| refused.number()),
+        Err(number)
     );
     assert!(*script == before);
 }
@@ -107,6 +109,6 @@ fn an_image_starts_anew() {
         .unwrap();
     assert_eq!((again.birth(2), again.compiles()), (Some(0), 1));
     // Refused, nothing is handed out.
-    assert_eq!(again.read_again(&image[1..]), Err(Refused(2)));
+    assert_eq!(again.read_again(&image[1..]), Err(Refusal::BadImage.into()));
     assert!(again == Script::default());
 }

@@ -1,6 +1,6 @@
 //! The calls that work on scripts, also on a thread with a small stack.
 
-use locustkeno::{Item, Refused, Save, Script, Sheet};
+use locustkeno::{Item, Refusal, Save, Script, Sheet};
 use std::thread;
 
 /// What a thread gets where nobody asks for more.
@@ -37,12 +37,15 @@ fn largest() -> Vec<u8> {
 
 fn calls() {
     let sheet = sheet();
-    for (image, answer) in [(deep(), 15), (largest(), 13)] {
+    for (image, answer) in [
+        (deep(), Refusal::BudgetSpent),
+        (largest(), Refusal::MetOther),
+    ] {
         let script = Script::read(&image).unwrap();
         assert_eq!(script.write().unwrap(), image);
         let mut save = Save::new(&sheet);
         let ran = script.run(&sheet, 0, &mut save, 50);
-        assert_eq!(ran.refusal, Some(Refused(answer)));
+        assert_eq!(ran.refusal, Some(answer.into()));
     }
 }
 
@@ -63,9 +66,9 @@ fn from_many_threads() {
 #[test]
 fn refused_reads() {
     let cut_short = &deep()[..20];
-    assert_eq!(Script::read(cut_short).unwrap_err(), Refused(2));
+    assert_eq!(Script::read(cut_short).unwrap_err(), Refusal::BadImage);
     let mut script = Script::read(&deep()).unwrap();
-    assert_eq!(script.read_again(cut_short), Err(Refused(2)));
+    assert_eq!(script.read_again(cut_short), Err(Refusal::BadImage.into()));
     assert_eq!(script, Script::default());
 }
 
@@ -74,12 +77,15 @@ fn short_and_long_slices() {
     let image = deep();
     let script = Script::read(&image).unwrap();
     let mut short = vec![7; image.len() - 1];
-    assert_eq!(script.write_into(&mut short), Err(Refused(16)));
+    assert_eq!(
+        script.write_into(&mut short),
+        Err(Refusal::SliceShort.into())
+    );
     assert!(short.iter().all(|byte| *byte == 7));
     let mut long = vec![7; image.len() + 2];
     assert_eq!(script.write_into(&mut long), Ok(image.len()));
     assert_eq!(long[image.len()..], [7, 7]);
-    assert_eq!(script.write_into(&mut []), Err(Refused(16)));
+    assert_eq!(script.write_into(&mut []), Err(Refusal::SliceShort.into()));
 }
 
 #[test]
@@ -90,9 +96,12 @@ fn sheets_and_saves_are_judged() {
     let same_timers = Sheet::new(&[None; 3], 0, [Item(0), Item(1), Item(1)]);
     assert_eq!(
         script.run(&same_timers, 0, &mut save, 9).refusal,
-        Some(Refused(1))
+        Some(Refusal::BadSheet.into())
     );
     save.flags.pop();
     let ran = script.run(&sheet, 0, &mut save, 9);
-    assert_eq!((ran.refusal, ran.entered), (Some(Refused(12)), 0));
+    assert_eq!(
+        (ran.refusal, ran.entered),
+        (Some(Refusal::BadSave.into()), 0)
+    );
 }

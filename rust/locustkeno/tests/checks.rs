@@ -2,7 +2,7 @@
 
 use locustkeno::Requirement::{HaveAtc, HaveFlag, HaveItem, MissingFlag, MissingItem};
 use locustkeno::{
-    Atc, Finding, Found, Item, Loader, Refused, Requirement, Save, Script, Sheet, Shop, Slot,
+    Atc, Finding, Found, Item, Loader, Refusal, Requirement, Save, Script, Sheet, Shop, Slot,
 };
 use std::thread;
 
@@ -116,9 +116,9 @@ fn nothing_shows_a_flag_outside() {
 #[test]
 fn refusals() {
     let bad = Shop::with_slots([slot(8, 1, &[])]);
-    assert_eq!(bad.check(&sheet()), Err(Refused(8)));
+    assert_eq!(bad.check(&sheet()), Err(Refusal::BadShop.into()));
     let two = Sheet::new(&[None; 2], 0, [0, 1, 1].map(Item));
-    assert_eq!(bad.check(&two), Err(Refused(1)));
+    assert_eq!(bad.check(&two), Err(Refusal::BadSheet.into()));
 }
 
 /// With just the stack that the header promises to be enough: too little ends the whole test program.

@@ -1,6 +1,6 @@
 //! Flags that aren't in the save (document 02, A.10), over the crate.
 
-use locustkeno::{Item, Loader, Refused, Requirement, Save, Script, Sheet, Shop, Slot};
+use locustkeno::{Item, Loader, Refusal, Requirement, Save, Script, Sheet, Shop, Slot};
 
 /// The most blocks that the run of a compiled shop enters.
 const BUDGET: u32 = 82;
@@ -56,7 +56,10 @@ fn stops_at_the_first_slot_with_a_stray_flag() {
         let mut after = save();
         let ran = script.run(&sheet(), 0, &mut after, budget);
         // Setup, the two blocks of slot 0, that of slot 1 and the first of slot 2.
-        assert_eq!((ran.refusal, ran.entered), (Some(Refused(23)), 5));
+        assert_eq!(
+            (ran.refusal, ran.entered),
+            (Some(Refusal::NoFlag.into()), 5)
+        );
         let mut expected = save();
         expected.variables[0] = 3;
         expected.variables[600..602].copy_from_slice(&[7, -1]);
@@ -64,8 +67,11 @@ fn stops_at_the_first_slot_with_a_stray_flag() {
         assert_eq!(after, expected);
     }
     let ran = script.run(&sheet(), 0, &mut save(), 4);
-    assert_eq!((ran.refusal, ran.entered), (Some(Refused(15)), 4));
-    assert_eq!(shop.preview(&sheet(), &save()), Err(Refused(23)));
+    assert_eq!(
+        (ran.refusal, ran.entered),
+        (Some(Refusal::BudgetSpent.into()), 4)
+    );
+    assert_eq!(shop.preview(&sheet(), &save()), Err(Refusal::NoFlag.into()));
     // Parsing is as before.
     let normal = script.parse(&sheet(), 0).unwrap();
     assert_eq!(normal.slots()[2], shop.slots()[2]);
@@ -94,13 +100,13 @@ fn earlier_checks_answer_first() {
     let shop = Shop::with_slots([slot(7, 3, &[Requirement::HaveFlag(i32::MIN)])]);
     let mut short = save();
     short.times.pop();
-    assert_eq!(shop.preview(&sheet(), &short), Err(Refused(12)));
+    assert_eq!(shop.preview(&sheet(), &short), Err(Refusal::BadSave.into()));
     let ran = compiled(&shop).run(&sheet(), 0, &mut short, BUDGET);
-    assert_eq!(ran.refusal, Some(Refused(12)));
+    assert_eq!(ran.refusal, Some(Refusal::BadSave.into()));
     let bad = Shop::with_slots([slot(8, 3, &[Requirement::HaveFlag(i32::MAX)])]);
-    assert_eq!(bad.preview(&sheet(), &save()), Err(Refused(8)));
+    assert_eq!(bad.preview(&sheet(), &save()), Err(Refusal::BadShop.into()));
     assert_eq!(
-        Refused(23).to_string(),
+        Refusal::NoFlag.to_string(),
         "the run would read a flag outside 0 to 2,047 (refusal 23)"
     );
 }
@@ -114,7 +120,7 @@ fn a_walk_stops_the_lanes_that_read_a_stray_flag() {
     let by_number: &[u8] = &[
         1, 1, 2, 2, 0, 0x0B, 0xB0, 0x09, 0x0D, 0x0B, 0x80, 0x20, 0, 0, 0,
     ];
-    let stray = Some(Refused(23));
+    let stray = Some(Refusal::NoFlag.into());
     let cases = [
         (by_variable, [None, stray, None, stray, stray]),
         (by_number, [stray; 5]),

@@ -1,7 +1,8 @@
 //! One walk for many saves (document 02, A.8): against single runs of a compiled shop, and each refusal.
 
 use locustkeno::{
-    Arrays, Atc, Item, LANES, Loader, Refused, Requirement, Save, Script, Sheet, Shop, Slot,
+    Arrays, Atc, Item, LANES, Loader, Refusal, Refused, Requirement, Save, Script, Sheet, Shop,
+    Slot,
 };
 
 const BUDGET: u32 = 4_096;
@@ -88,11 +89,14 @@ fn refused_in_order() {
     let mut wrong = saves(65);
     wrong[64].flags[0] = 2;
     let at = |sheet: &Sheet, setup| refusal(&script, sheet, setup, wrong.clone());
-    assert_eq!(at(&no_sheet, 5_000), Some(Refused(1)));
-    assert_eq!(at(&sheet(), 5_000), Some(Refused(6)));
-    assert_eq!(at(&sheet(), 0), Some(Refused(12)));
+    assert_eq!(at(&no_sheet, 5_000), Some(Refusal::BadSheet.into()));
+    assert_eq!(at(&sheet(), 5_000), Some(Refusal::NotBlock.into()));
+    assert_eq!(at(&sheet(), 0), Some(Refusal::BadSave.into()));
     let data = Script::read(&[1, 2]).unwrap();
-    assert_eq!(refusal(&data, &sheet(), 0, wrong), Some(Refused(7)));
+    assert_eq!(
+        refusal(&data, &sheet(), 0, wrong),
+        Some(Refusal::NotCode.into())
+    );
     // A script whose kept counts are under what it holds is refused before its setup block is asked.
     let a = script.arrays();
     let short = Script::from_arrays(Arrays {
@@ -104,7 +108,10 @@ fn refused_in_order() {
         nodes: 1,
         ..*a
     });
-    assert_eq!(refusal(&short, &sheet(), 5_000, saves(1)), Some(Refused(3)));
+    assert_eq!(
+        refusal(&short, &sheet(), 5_000, saves(1)),
+        Some(Refusal::OverLimit.into())
+    );
 }
 
 #[test]
@@ -112,10 +119,10 @@ fn one_to_sixty_four_saves() {
     let script = compiled();
     assert_eq!(LANES, 64);
     for (many, answer) in [
-        (0, Some(Refused(22))),
+        (0, Some(Refusal::BadWalk.into())),
         (1, None),
         (64, None),
-        (65, Some(Refused(22))),
+        (65, Some(Refusal::BadWalk.into())),
     ] {
         assert_eq!(refusal(&script, &sheet(), 0, saves(many)), answer);
     }
@@ -127,13 +134,19 @@ fn a_save_of_another_length() {
     for lane in [0, 1, 63] {
         let mut wrong = saves(64);
         wrong[lane].times.pop();
-        assert_eq!(refusal(&script, &sheet(), 0, wrong), Some(Refused(12)));
+        assert_eq!(
+            refusal(&script, &sheet(), 0, wrong),
+            Some(Refusal::BadSave.into())
+        );
     }
     // Two wrong lengths whose sum is right.
     let mut wrong = saves(2);
     let moved = wrong[0].items.pop().unwrap();
     wrong[1].items.push(moved);
-    assert_eq!(refusal(&script, &sheet(), 0, wrong), Some(Refused(12)));
+    assert_eq!(
+        refusal(&script, &sheet(), 0, wrong),
+        Some(Refusal::BadSave.into())
+    );
 }
 
 #[test]
@@ -150,7 +163,7 @@ fn links_that_do_not_fall() {
         .unwrap()
     };
     let asked = |links: &[[u8; 2]], setup| refusal(&empty(links), &sheet(), setup, saves(2));
-    let no = Some(Refused(22));
+    let no = Some(Refusal::BadWalk.into());
     // Of its own; up to 2 and from there down; to 2 whose else, which no run takes, is itself.
     assert_eq!(asked(&[[1, 0]], 0), no);
     assert_eq!(asked(&[[3, 0], [0, 0], [2, 0]], 0), None);

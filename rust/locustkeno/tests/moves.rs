@@ -1,7 +1,7 @@
 //! Small moves (document 02, A.14) over the crate: one more of an item held, and a shop read back and compiled again.
 
 use locustkeno::{
-    Atc, Item, Loader, Refused, Requirement, Save, Script, Sheet, Shop, Slot, VARIABLES,
+    Atc, Item, Loader, Refusal, Refused, Requirement, Save, Script, Sheet, Shop, Slot, VARIABLES,
 };
 
 /// The blocks that a run of a compiled shop enters at most.
@@ -105,7 +105,7 @@ fn a_flag_outside_the_save() {
         slot(7, 3, &[Requirement::HaveFlag(5_000)]),
         slot(7, 9, &[]),
     ]);
-    let answer = Some(Refused(23));
+    let answer = Some(Refusal::NoFlag.into());
     assert_eq!(lower_answered(&shop, 7, 1, answer), [(0, 1), (620, 1)]);
     assert_eq!(lower_answered(&shop, 7, 3, answer), []);
 }
@@ -116,7 +116,7 @@ fn a_budget_of_23() {
     let (_, refusal, entered) = ran(&shop, 7, 3, 23);
     assert_eq!((refusal, entered), (None, 23));
     let (_, refusal, entered) = ran(&shop, 7, 4, 23);
-    assert_eq!((refusal, entered), (Some(Refused(15)), 23));
+    assert_eq!((refusal, entered), (Some(Refusal::BudgetSpent.into()), 23));
 }
 
 /// A link's word, k + 1 for block k and 0 for none, past the first blocks.

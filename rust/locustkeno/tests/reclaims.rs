@@ -1,7 +1,7 @@
 //! Taking back dead blocks (document 02, A.4) over the crate.
 
 use locustkeno::{
-    Arrays, Item, Loader, Moved, Refused, Requirement, Save, Script, Sheet, Shop, Slot,
+    Arrays, Item, Loader, Moved, Refusal, Requirement, Save, Script, Sheet, Shop, Slot,
 };
 
 /// The most roots that a reclaim is given.
@@ -71,8 +71,10 @@ fn refused(script: &mut Script, roots: &[u32], number: u8) {
     let (before, table) = (script.clone(), full());
     let mut moved = table.clone();
     assert_eq!(
-        script.reclaim_into(roots, &mut moved),
-        Err(Refused(number)),
+        script
+            .reclaim_into(roots, &mut moved)
+            .map_err(|refused| refused.number()),
+        Err(number),
         "{} roots",
         roots.len()
     );
@@ -207,7 +209,7 @@ fn a_script_full_of_dead_shops() {
     assert_eq!(script.blocks(), 1 + 43 * 95);
     assert_eq!(
         script.compile(&sheet(), Loader::Disc, 0, &large()),
-        Err(Refused(9))
+        Err(Refusal::NoRoom.into())
     );
     let moved = script.reclaim(&[0]).unwrap();
     let last = 1 + 42 * 95;
@@ -250,7 +252,7 @@ fn marks_are_kept() {
     for block in 2..23 {
         assert_eq!(
             script.compile(&sheet(), Loader::Disc, block, &empty()),
-            Err(Refused(17)),
+            Err(Refusal::BornLater.into()),
             "an appended block stays one"
         );
     }
@@ -298,7 +300,7 @@ fn shared_commands_are_written_apart() {
 #[test]
 fn the_sentence_of_eighteen() {
     assert_eq!(
-        Refused(18).to_string(),
+        Refusal::BadRoots.to_string(),
         "over 256 roots are given, or one that is not a block (refusal 18)"
     );
 }

@@ -1,7 +1,7 @@
 //! Edits of a shop by users with rights, and what they are shown: each refusal, their order, and the cases of document 02.
 
 use locustkeno::{
-    Atc, Content, ENTRIES, Edit, Item, NUM_SLOTS, Refused, Requirement, Right, Rights, Sheet, Shop,
+    Atc, Content, ENTRIES, Edit, Item, NUM_SLOTS, Refusal, Requirement, Right, Rights, Sheet, Shop,
     Slot, USERS,
 };
 
@@ -58,15 +58,36 @@ fn in_order() {
     let rights = one(15, 19, Right::ChangeItem);
     let mut shop = bad_shop();
     let mut said = |sheet: &Sheet, user, edit: Edit| shop.edit(sheet, &rights, user, &edit);
-    assert_eq!(said(&bad_sheet, 16, item(20, 9)), Err(Refused(1)));
-    assert_eq!(said(&sheet(), 16, item(20, 9)), Err(Refused(20)));
-    assert_eq!(said(&sheet(), u32::MAX, item(19, 1)), Err(Refused(20)));
-    assert_eq!(said(&sheet(), 15, item(20, 9)), Err(Refused(21)));
-    assert_eq!(said(&sheet(), 15, item(u32::MAX, 1)), Err(Refused(21)));
-    assert_eq!(said(&sheet(), 14, item(19, 9)), Err(Refused(21)));
-    assert_eq!(said(&sheet(), 15, item(19, 4)), Err(Refused(8)));
+    assert_eq!(
+        said(&bad_sheet, 16, item(20, 9)),
+        Err(Refusal::BadSheet.into())
+    );
+    assert_eq!(said(&sheet(), 16, item(20, 9)), Err(Refusal::NoUser.into()));
+    assert_eq!(
+        said(&sheet(), u32::MAX, item(19, 1)),
+        Err(Refusal::NoUser.into())
+    );
+    assert_eq!(
+        said(&sheet(), 15, item(20, 9)),
+        Err(Refusal::NoRight.into())
+    );
+    assert_eq!(
+        said(&sheet(), 15, item(u32::MAX, 1)),
+        Err(Refusal::NoRight.into())
+    );
+    assert_eq!(
+        said(&sheet(), 14, item(19, 9)),
+        Err(Refusal::NoRight.into())
+    );
+    assert_eq!(
+        said(&sheet(), 15, item(19, 4)),
+        Err(Refusal::BadShop.into())
+    );
     assert_eq!(said(&sheet(), 15, item(19, 3)), Ok(()));
-    assert_eq!(bad_shop().shown_to(&rights, 16), Err(Refused(20)));
+    assert_eq!(
+        bad_shop().shown_to(&rights, 16),
+        Err(Refusal::NoUser.into())
+    );
 }
 
 /// Each field asks for its own right; seeing is no right to change, and is not needed.
@@ -78,7 +99,11 @@ fn own_rights() {
         for (edit, own) in edits.iter().zip(&EVERY[1..]) {
             let mut shop = bad_shop();
             let accepted = right == *own;
-            let answer = if accepted { Ok(()) } else { Err(Refused(21)) };
+            let answer = if accepted {
+                Ok(())
+            } else {
+                Err(Refusal::NoRight.into())
+            };
             assert_eq!(shop.edit(&sheet(), &rights, 7, edit), answer);
             assert_eq!(shop == bad_shop(), !accepted);
         }
@@ -128,7 +153,10 @@ fn content() {
     let many = |n| vec![Requirement::MissingFlag(-1); n];
     assert_eq!(said(requirements(4, &many(ENTRIES))), Ok(()));
     for count in [ENTRIES + 1, 255, 256, 300] {
-        assert_eq!(said(requirements(4, &many(count))), Err(Refused(8)));
+        assert_eq!(
+            said(requirements(4, &many(count))),
+            Err(Refusal::BadShop.into())
+        );
     }
     let known = [
         Requirement::HaveItem(Item(3)),
@@ -140,7 +168,10 @@ fn content() {
         Requirement::HaveAtc(Atc(1)),
     ];
     for one in unknown {
-        assert_eq!(said(requirements(4, &[known[0], one])), Err(Refused(8)));
+        assert_eq!(
+            said(requirements(4, &[known[0], one])),
+            Err(Refusal::BadShop.into())
+        );
     }
     for most in [i16::MIN, i16::MAX] {
         assert_eq!(said(limit(4, most)), Ok(()));
@@ -150,7 +181,7 @@ fn content() {
         content: Content::Item(None),
     };
     assert_eq!(said(none), Ok(()));
-    assert_eq!(said(item(4, 65_535)), Err(Refused(8)));
+    assert_eq!(said(item(4, 65_535)), Err(Refusal::BadShop.into()));
 }
 
 /// With see as it stands, without as an empty slot, whatever other rights there are.
@@ -204,7 +235,15 @@ fn hidden_stays_hidden() {
     let starts = [start(None, 0), start(Some(Item(9)), 20)];
     let [one, other] = starts.map(session);
     assert_eq!(one, other);
-    assert_eq!(one.0, [Ok(()), Err(Refused(21)), Ok(()), Err(Refused(8))]);
+    assert_eq!(
+        one.0,
+        [
+            Ok(()),
+            Err(Refusal::NoRight.into()),
+            Ok(()),
+            Err(Refusal::BadShop.into())
+        ]
+    );
 }
 
 /// The four higher bits of a byte mean nothing.

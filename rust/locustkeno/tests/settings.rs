@@ -1,7 +1,7 @@
 //! How many settings list a slot: 02's sentences one by one, and both refusals.
 
 use locustkeno::Requirement::{HaveAtc, HaveFlag, HaveItem, MissingFlag, MissingItem};
-use locustkeno::{Atc, Item, Refused, Requirement, Settings, Sheet, Slot};
+use locustkeno::{Atc, Item, Refusal, Requirement, Settings, Sheet, Slot};
 use std::thread;
 
 /// Eight items, item 1, which is Timer10, with atc 0, item 6 with atc 1; items 0, 1 and 2 are the timers.
@@ -92,21 +92,27 @@ fn sixteen_subjects() {
 fn refusals() {
     let refused = |slot: &Slot| slot.settings(&sheet()).unwrap_err();
     let many: Vec<Requirement> = (0..15).map(HaveFlag).collect();
-    assert_eq!(refused(&slot(8, 1, &[])), Refused(8));
-    assert_eq!(refused(&slot(7, 1, &many)), Refused(8));
-    assert_eq!(refused(&slot(7, 1, &[HaveItem(Item(8))])), Refused(8));
-    assert_eq!(refused(&slot(7, 1, &[HaveAtc(Atc(2))])), Refused(8));
+    assert_eq!(refused(&slot(8, 1, &[])), Refusal::BadShop);
+    assert_eq!(refused(&slot(7, 1, &many)), Refusal::BadShop);
+    assert_eq!(refused(&slot(7, 1, &[HaveItem(Item(8))])), Refusal::BadShop);
+    assert_eq!(refused(&slot(7, 1, &[HaveAtc(Atc(2))])), Refusal::BadShop);
     // The entries of a slot without an item are judged too.
     let itemless = |requirements: &[Requirement]| Slot {
         item: None,
         ..slot(0, 0, requirements)
     };
-    assert_eq!(refused(&itemless(&[HaveAtc(Atc(2))])), Refused(8));
-    assert_eq!(refused(&itemless(&many)), Refused(8));
-    assert_eq!(refused(&itemless(&vec![HaveFlag(1); 300])), Refused(8));
+    assert_eq!(refused(&itemless(&[HaveAtc(Atc(2))])), Refusal::BadShop);
+    assert_eq!(refused(&itemless(&many)), Refusal::BadShop);
+    assert_eq!(
+        refused(&itemless(&vec![HaveFlag(1); 300])),
+        Refusal::BadShop
+    );
     // 1 before 8.
     let two = Sheet::new(&[None; 2], 0, [0, 1, 1].map(Item));
-    assert_eq!(slot(8, 1, &[]).settings(&two), Err(Refused(1)));
+    assert_eq!(
+        slot(8, 1, &[]).settings(&two),
+        Err(Refusal::BadSheet.into())
+    );
 }
 
 /// With just the stack that the header promises to be enough: too little ends the whole test program.

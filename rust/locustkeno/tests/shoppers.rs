@@ -1,7 +1,8 @@
 //! The shopper (document 02, A.13) over the crate.
 
 use locustkeno::{
-    Atc, Item, Loader, Refused, Requirement, Save, Script, Sheet, Shop, Shopper, Slot, Step, Tariff,
+    Atc, Item, Loader, Refusal, Refused, Requirement, Save, Script, Sheet, Shop, Shopper, Slot,
+    Step, Tariff,
 };
 
 /// Eight items; item 4 has the one attachment.
@@ -110,14 +111,14 @@ fn a_stray_flag_ends_the_shopping() {
     ];
     let mut shopper = shopper(100);
     let steps = shop(&mut shopper, &slots, 1, &[0; 10]).unwrap();
-    assert_eq!(steps, [Step::Stopped(Refused(23))]);
+    assert_eq!(steps, [Step::Stopped(Refusal::NoFlag.into())]);
     let mut script = Script::read(&[1, 1, 1, 0, 0, 0]).unwrap();
     let given = Shop::with_slots(slots);
     script.compile(&sheet(), Loader::Disc, 0, &given).unwrap();
     let mut save = Save::new(&sheet());
     assert_eq!(
         script.run(&sheet(), 0, &mut save, 82).refusal,
-        Some(Refused(23))
+        Some(Refusal::NoFlag.into())
     );
     assert_eq!((shopper.money, shopper.save), (100, save));
 }
@@ -140,8 +141,8 @@ fn refusals_come_in_their_order_and_change_nothing() {
         shopper.save.flags[0] = flag;
         let before = shopper.clone();
         assert_eq!(
-            shop(&mut shopper, slots, price, wishes),
-            Err(Refused(refusal))
+            shop(&mut shopper, slots, price, wishes).map_err(|refused| refused.number()),
+            Err(refusal)
         );
         assert_eq!(shopper, before);
     }

@@ -1,6 +1,6 @@
 //! Document 01's cases P1 to P10 over the crate, and compile, parse and preview on a small stack.
 
-use locustkeno::{Atc, Item, Loader, Refused, Requirement, Save, Script, Sheet, Shop, Slot};
+use locustkeno::{Atc, Item, Loader, Refusal, Requirement, Save, Script, Sheet, Shop, Slot};
 use std::thread;
 
 /// What a thread gets where nobody asks for more.
@@ -113,13 +113,13 @@ fn p9_the_shortest_form() {
     assert_eq!(Script::read(&short).unwrap().write().unwrap(), short);
     assert_eq!(
         Script::read(&image(&[0xB0, 0x89, 0])).unwrap_err(),
-        Refused(2)
+        Refusal::BadImage
     );
 }
 
 #[test]
 fn p10_an_empty_shop_adds_21_blocks() {
-    for (blocks, answer) in [(4_075u32, Ok(())), (4_076, Err(Refused(9)))] {
+    for (blocks, answer) in [(4_075u32, Ok(())), (4_076, Err(Refusal::NoRoom.into()))] {
         let mut image = vec![blocks as u8 | 0x80, (blocks >> 7) as u8, 1, 0, 0, 0];
         image.resize(image.len() + blocks as usize - 1, 0);
         let mut script = Script::read(&image).unwrap();
@@ -166,12 +166,12 @@ fn too_many_entries() {
     let many = Shop::with_slots([slot(7, 3, &[Requirement::HaveFlag(1); 300])]);
     assert_eq!(
         script.compile(&sheet(), Loader::Disc, 0, &many),
-        Err(Refused(8))
+        Err(Refusal::BadShop.into())
     );
     let unknown = Shop::with_slots([slot(65_535, 3, &[])]);
     assert_eq!(
         script.compile(&sheet(), Loader::Disc, 0, &unknown),
-        Err(Refused(8))
+        Err(Refusal::BadShop.into())
     );
 }
 
@@ -185,7 +185,7 @@ fn fourteen_entries() {
         let shop = Shop::with_slots([slot(7, 3, &given)]);
         assert_eq!(
             one_return().compile(&sheet(), Loader::Disc, 0, &shop),
-            Err(Refused(8))
+            Err(Refusal::BadShop.into())
         );
     }
 }
@@ -204,7 +204,7 @@ fn fourteen_requirements() {
     let flags: Vec<_> = (0..14).map(Requirement::MissingFlag).collect();
     assert_eq!(first(&hidden_under(14)).requirements, flags);
     let refused = hidden_under(15).parse(&sheet(), 0).unwrap_err();
-    assert_eq!(refused, Refused(11));
+    assert_eq!(refused, Refusal::ParseTooMany);
 }
 
 /// Further slots are dropped unchecked, missing ones are empty.
@@ -235,6 +235,6 @@ fn any_number_of_slots() {
     let kept = Shop::with_slots(slots);
     assert_eq!(
         one_return().compile(&sheet(), Loader::Disc, 0, &kept),
-        Err(Refused(8))
+        Err(Refusal::BadShop.into())
     );
 }

@@ -1,7 +1,7 @@
 //! Each call on a thread with just the stack that the header promises to be enough, on the largest and nastiest scripts.
 
 use locustkeno::{
-    Basket, Content, Edit, Item, Loader, Refused, Requirement, Rights, Save, Script, Sheet, Shop,
+    Basket, Content, Edit, Item, Loader, Refusal, Requirement, Rights, Save, Script, Sheet, Shop,
     Shopper, Slot, Tariff, USERS,
 };
 use std::thread;
@@ -142,7 +142,17 @@ fn scripts_are_judged_fine() {
         .iter()
         .map(|script| script.parse(&sheet(), 0).err())
         .collect();
-    assert_eq!(answers, [None, None, Some(Refused(11)), None, None, None]);
+    assert_eq!(
+        answers,
+        [
+            None,
+            None,
+            Some(Refusal::ParseTooMany.into()),
+            None,
+            None,
+            None
+        ]
+    );
 }
 
 #[test]
