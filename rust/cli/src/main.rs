@@ -60,7 +60,8 @@ fn main() -> ExitCode {
         Ok(Status::Done) => ExitCode::SUCCESS,
         Ok(Status::No) => ExitCode::from(1),
         Err(failure) => {
-            eprintln!("locustkeno: {failure}");
+            // Where standard error is gone too, the status is all that is left to say.
+            let _ = writeln!(io::stderr(), "locustkeno: {failure}");
             ExitCode::from(2)
         }
     }

@@ -6,7 +6,7 @@ use crate::names::Names;
 use crate::pressing::{Pressing, Verdict};
 use crate::sha256::sha256;
 use crate::words;
-use locustkeno::{Preview, Refused};
+use locustkeno::{Preview, Refused, Slot};
 
 /// Black on white, on A4 and on letter; cells wrap, and no row is torn.
 const STYLE: &str = "
@@ -25,8 +25,17 @@ p, li { overflow-wrap: anywhere; }
 .sign td { height: 14mm; }
 ";
 
-/// A save's name and what the shop means for it.
-pub type Previewed = (String, Preview);
+/// A save's name and what the shop means for it, or that its run is stopped.
+pub type Previewed = (String, Result<Preview, Refused>);
+
+/// What a slot is under a save.
+fn cell(seen: &Result<Preview, Refused>, slot: usize) -> String {
+    match seen.map(|seen| seen.pairs[slot]) {
+        Err(refused) => format!("refused {}", refused.number()),
+        Ok((item, _)) if item < 0 => "hidden".into(),
+        Ok((_, count)) => count.to_string(),
+    }
+}
 
 /// All that is on the page.
 pub struct Page<'a> {
@@ -67,7 +76,7 @@ impl Page<'_> {
     fn slots(&self) -> String {
         let slots = self.new.shop.slots();
         let before = self.old.as_ref().map(|(old, _)| old.shop.slots());
-        let row = |(i, slot): (usize, &locustkeno::Slot)| {
+        let row = |(i, slot): (usize, &Slot)| {
             let was = before.as_ref().map(|before| &before[i]);
             let changed = was.is_some_and(|was| !words::changes(was, slot, self.names).is_empty());
             vec![
@@ -111,10 +120,7 @@ impl Page<'_> {
             .filter(|(_, slot)| slot.item.is_some());
         let rows = filled.map(|(i, slot)| {
             let mut row = vec![i.to_string(), words::item(slot.item, self.names)];
-            row.extend(previews.iter().map(|(_, seen)| match seen.pairs[i] {
-                (item, _) if item < 0 => "hidden".to_owned(),
-                (_, count) => count.to_string(),
-            }));
+            row.extend(previews.iter().map(|(_, seen)| cell(seen, i)));
             row
         });
         table(&heading, &rows.collect::<Vec<_>>())

@@ -1,6 +1,6 @@
 //! A stage file: sheet, setup number, image. To be replaced by the safe crate's `Stage`.
 
-use locustkeno::{Atc, Item, Refused, Script, Sheet};
+use locustkeno::{Atc, Item, Refusal, Refused, Script, Sheet};
 
 /// The most bytes of a file.
 const INPUT: usize = 65_536;
@@ -20,17 +20,17 @@ impl Reader<'_> {
     fn number(&mut self) -> Result<u32, Refused> {
         let mut value = 0u64;
         for i in 0..5 {
-            let (byte, rest) = self.0.split_first().ok_or(Refused(2))?;
+            let (byte, rest) = self.0.split_first().ok_or(Refusal::BadImage)?;
             self.0 = rest;
             value |= u64::from(byte & 0x7F) << (7 * i);
             if byte & 0x80 == 0 {
                 if *byte == 0 && i > 0 {
-                    return Err(Refused(2));
+                    return Err(Refusal::BadImage.into());
                 }
-                return u32::try_from(value).map_err(|_| Refused(2));
+                return u32::try_from(value).map_err(|_| Refusal::BadImage.into());
             }
         }
-        Err(Refused(2))
+        Err(Refusal::BadImage.into())
     }
 
     fn up_to(&mut self, least: u32, most: u32) -> Result<u16, Refused> {
@@ -38,7 +38,7 @@ impl Reader<'_> {
         if (least..=most).contains(&number) {
             Ok(number as u16)
         } else {
-            Err(Refused(1))
+            Err(Refusal::BadSheet.into())
         }
     }
 }
@@ -54,7 +54,7 @@ fn put(out: &mut Vec<u8>, mut number: u32) {
 impl Stage {
     pub fn read(bytes: &[u8]) -> Result<Self, Refused> {
         if bytes.len() > INPUT {
-            return Err(Refused(3));
+            return Err(Refusal::OverLimit.into());
         }
         let mut reader = Reader(bytes);
         let items = reader.up_to(3, 512)?;
@@ -67,7 +67,7 @@ impl Stage {
         for at in 0..3 {
             let timer = Item(reader.up_to(0, u32::from(items) - 1)?);
             if timers[..at].contains(&timer) {
-                return Err(Refused(1));
+                return Err(Refusal::BadSheet.into());
             }
             timers[at] = timer;
         }

@@ -55,12 +55,16 @@ pub fn requirements(slot: &Slot, names: &Names) -> String {
     words.join(", ")
 }
 
-/// A slot for a reader: `7 toothbrush, limit 3, if flag 40`.
+/// A slot for a reader: `7 toothbrush, limit 3, if flag 40 met_telly`.
 pub fn slot(slot: &Slot, names: &Names) -> String {
-    let mut words = match slot.item {
-        None => "empty".to_owned(),
-        Some(_) => format!("{}, limit {}", item(slot.item, names), slot.limit),
+    if *slot == Slot::default() {
+        return "empty".into();
+    }
+    let item = match slot.item {
+        None => "no item".into(),
+        some => item(some, names),
     };
+    let mut words = format!("{item}, limit {}", slot.limit);
     if !slot.requirements.is_empty() {
         words += &format!(", if {}", requirements(slot, names));
     }
@@ -108,6 +112,10 @@ mod tests {
             .collect();
         assert_eq!(tokens, ["!flag:met_telly", "atc:1", "!item:2"]);
         assert_eq!(slot(&Slot::default(), &names()), "empty");
+        assert_eq!(
+            slot(&"- 5 F1".parse().unwrap(), &names()),
+            "no item, limit 5, if flag 1"
+        );
     }
 
     #[test]

@@ -8,6 +8,7 @@ use crate::page::{Page, Previewed};
 use crate::pressing::{NAMES, Pressing, names};
 use crate::said::{Answer, Failure, Said, Status};
 use crate::saves;
+use locustkeno::Refusal;
 
 const SAVES: Opt = Opt {
     name: "--save",
@@ -35,8 +36,11 @@ fn previews(args: &Args, new: &Pressing, names: &Names) -> Result<Vec<Previewed>
         let (name, file) = parts.ok_or_else(|| Failure::of(given, "is no NAME=SAVE"))?;
         let save = saves::one_of_file(file, &new.stage.sheet, names)?;
         let seen = new.shop.preview(&new.stage.sheet, &save);
-        let seen = seen.map_err(|refused| Failure::of(file, refused))?;
-        previews.push((name.to_owned(), seen));
+        // A shop that no run gets through is for the page to say; all else is wrong with the save.
+        match seen {
+            Err(refused) if refused != Refusal::NoFlag => return Err(Failure::of(file, refused)),
+            seen => previews.push((name.to_owned(), seen)),
+        }
     }
     Ok(previews)
 }

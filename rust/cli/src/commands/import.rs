@@ -10,7 +10,7 @@ use crate::said::{Answer, Failure, Said, Status};
 use crate::stage::Stage;
 use crate::table::grouped;
 use crate::words;
-use locustkeno::{Loader, Refused, Shop};
+use locustkeno::{Loader, Refused, Shop, Slot};
 
 const LOADER: Opt = Opt {
     name: "--loader",
@@ -55,11 +55,20 @@ fn pressed(stage: &Stage, loader: Loader, shop: &Shop) -> Result<(Stage, Shop), 
     Ok((stage, read))
 }
 
+/// Whether a slot is read back otherwise than it was given. Of the limit of a slot with an item a finding tells already.
+fn is_other(given: &Slot, read: &Slot) -> bool {
+    let mut given = given.clone();
+    if given.item.is_some() {
+        given.limit = read.limit;
+    }
+    !words::changes(&given, read, &Names::default()).is_empty()
+}
+
 /// A line for each slot that is read back otherwise than it was given.
 fn read_back(given: &Shop, read: &Shop, names: &Names) -> String {
     let (given, read) = (given.slots(), read.slots());
     let pairs = given.iter().zip(&read).enumerate();
-    let other = pairs.filter(|(_, (given, read))| !words::changes(given, read, names).is_empty());
+    let other = pairs.filter(|(_, (given, read))| is_other(given, read));
     other
         .map(|(i, (given, read))| {
             let (given, read) = (words::slot(given, names), words::slot(read, names));

@@ -51,29 +51,31 @@ fn help() -> String {
         status: 0 done, 1 said no or differs, 2 refused or bad usage\n"
 }
 
+fn named(name: &str) -> Result<&'static Command, Failure> {
+    let command = COMMANDS.into_iter().find(|command| command.name == name);
+    command.ok_or_else(|| Failure::of(name, "is no command; `locustkeno --help` lists them"))
+}
+
+/// Whether the help of a command is asked for.
+fn wants_help(words: &[String]) -> bool {
+    let mut options = words.iter().take_while(|word| *word != "--");
+    options.any(|word| word == "--help" || word == "-h")
+}
+
 /// Runs what the arguments ask for.
 pub fn run(words: &[String]) -> Answer {
-    let Some((first, rest)) = words.split_first() else {
-        return Err(Failure::new("no command; `locustkeno --help` lists them"));
-    };
-    match first.as_str() {
-        "--help" | "-h" | "help" if rest.is_empty() => return Ok(Said::done(help())),
-        "--version" | "-V" => return Ok(Said::done(version() + "\n")),
-        _ => {}
+    let words_of: Vec<&str> = words.iter().map(String::as_str).collect();
+    match words_of[..] {
+        [] => Err(Failure::new("no command; `locustkeno --help` lists them")),
+        ["--help" | "-h" | "help"] => Ok(Said::done(help())),
+        ["--version" | "-V"] => Ok(Said::done(version() + "\n")),
+        ["help", name] => Ok(Said::done(named(name)?.help())),
+        [name, ..] => {
+            let (command, rest) = (named(name)?, &words[1..]);
+            if wants_help(rest) {
+                return Ok(Said::done(command.help()));
+            }
+            (command.run)(&Args::parse(command, rest)?)
+        }
     }
-    let (name, rest) = match (first.as_str(), rest) {
-        ("help", [name]) => (name, &words[..1]),
-        _ => (first, rest),
-    };
-    let command = COMMANDS.into_iter().find(|command| command.name == name);
-    let command = command
-        .ok_or_else(|| Failure::of(name, "is no command; `locustkeno --help` lists them"))?;
-    if rest
-        .iter()
-        .take_while(|word| *word != "--")
-        .any(|word| word == "--help" || word == "help")
-    {
-        return Ok(Said::done(command.help()));
-    }
-    (command.run)(&Args::parse(command, rest)?)
 }

@@ -1,9 +1,9 @@
 //! `reclaim`: dead blocks taken back.
 
 use crate::args::{Args, Command, Opt, Takes};
-use crate::pressing::{self, Pressing};
-use crate::room;
+use crate::pressing::{self, stage};
 use crate::said::{Answer, Failure, Said};
+use crate::table::grouped;
 
 const ROOT: Opt = Opt {
     name: "--root",
@@ -35,10 +35,10 @@ fn run(args: &Args) -> Answer {
     let [file, out] = args.words[..] else {
         return Err(COMMAND.misused("two files are due"));
     };
-    let mut pressing = Pressing::read(file)?;
-    let roots = roots(args, pressing.stage.setup)?;
-    let before = pressing.stage.script.blocks();
-    let moved = pressing.stage.script.reclaim(&roots);
+    let mut stage = stage(file)?;
+    let roots = roots(args, stage.setup)?;
+    let before = stage.script.blocks();
+    let moved = stage.script.reclaim(&roots);
     let moved = moved.map_err(|refused| Failure::of(file, refused))?;
     let mut said = String::new();
     for (i, root) in roots.iter().enumerate() {
@@ -47,13 +47,11 @@ fn run(args: &Args) -> Answer {
         let now = now.ok_or_else(|| Failure::of(file, format!("root {root} is gone")))?;
         said += &format!("{what} {root} is now {now}\n");
         if i == 0 {
-            pressing.stage.setup = now;
+            stage.setup = now;
         }
     }
-    let room = room::left(&pressing.stage, &pressing.shop);
-    let room = room.map_err(|refused| pressing.refused(refused))?;
-    pressing::write(out, &pressing.stage)?;
-    let after = pressing.stage.script.blocks();
-    said += &format!("{out}: {after} of {before} blocks kept; {room}\n");
+    let bytes = grouped(pressing::write(out, &stage)?);
+    let after = stage.script.blocks();
+    said += &format!("{out}: {after} of {before} blocks kept, {bytes} bytes\n");
     Ok(Said::done(said))
 }

@@ -9,6 +9,8 @@ use crate::stage::Stage;
 use crate::table::{Side, Table, grouped};
 use crate::words;
 use locustkeno::{LANES, NUM_SLOTS, Ran, Refused, Save, Shop};
+use std::io::{self, Write};
+use std::mem;
 use std::time::{Duration, Instant};
 
 pub const COMMAND: Command = Command {
@@ -22,40 +24,24 @@ pub const COMMAND: Command = Command {
     run,
 };
 
-/// How long a sweep is silent, and then between two reports.
-const PATIENCE: Duration = Duration::from_millis(500);
-
-/// Says now and then how far the work is.
-struct Progress {
-    all: usize,
-    told: Instant,
-}
-
-impl Progress {
-    fn tell(&mut self, done: usize) {
-        if self.told.elapsed() >= PATIENCE {
-            self.told = Instant::now();
-            eprintln!("{} of {} saves", grouped(done), grouped(self.all));
-        }
-    }
-}
-
 /// What was seen of each slot, and the runs that were refused.
 #[derive(Default)]
 struct Seen {
+    saves: usize,
     listed: [usize; NUM_SLOTS],
     on_sale: [usize; NUM_SLOTS],
     refused: Vec<(String, Refused)>,
 }
 
 impl Seen {
-    fn count(&mut self, named: &Named, save: &Save, ran: Ran) {
+    fn count(&mut self, named: Named, ran: Ran) {
+        self.saves += 1;
         if let Some(refused) = ran.refusal {
-            self.refused.push((named.name.clone(), refused));
+            self.refused.push((named.name, refused));
             return;
         }
         for slot in 0..NUM_SLOTS {
-            let (item, count) = save.pair(slot);
+            let (item, count) = named.save.pair(slot);
             self.listed[slot] += usize::from(item >= 0);
             self.on_sale[slot] += usize::from(item >= 0 && count > 0);
         }
@@ -75,25 +61,69 @@ fn walk(stage: &Stage, saves: &mut [Save]) -> Vec<Ran> {
     saves.iter_mut().map(alone).collect()
 }
 
-fn sweep(stage: &Stage, all: &[Named]) -> Seen {
-    let mut seen = Seen::default();
-    let mut progress = Progress {
-        all: all.len(),
+/// How long a sweep is silent, and then between two reports.
+const PATIENCE: Duration = Duration::from_millis(500);
+
+/// A sweep on its way: saves are run when 64 of them wait.
+struct Sweep<'a> {
+    stage: &'a Stage,
+    waiting: Vec<Named>,
+    seen: Seen,
+    told: Instant,
+}
+
+impl Sweep<'_> {
+    fn add(&mut self, named: Named) {
+        self.waiting.push(named);
+        if self.waiting.len() == LANES {
+            self.run();
+        }
+    }
+
+    /// Runs those that wait.
+    fn run(&mut self) {
+        let waiting = mem::take(&mut self.waiting);
+        let (names, mut saves): (Vec<String>, Vec<Save>) = waiting
+            .into_iter()
+            .map(|named| (named.name, named.save))
+            .unzip();
+        let runs = walk(self.stage, &mut saves);
+        for ((name, save), ran) in names.into_iter().zip(saves).zip(runs) {
+            self.seen.count(Named { name, save }, ran);
+        }
+    }
+
+    /// Says now and then on standard error how far it is.
+    fn tell(&mut self, file: usize, files: usize) {
+        if self.told.elapsed() >= PATIENCE {
+            self.told = Instant::now();
+            let saves = grouped(self.seen.saves);
+            // Where nobody listens the sweep goes on.
+            let _ = writeln!(io::stderr(), "{saves} saves run, file {file} of {files}");
+        }
+    }
+}
+
+/// Runs all saves of the files.
+fn sweep(files: &[&str], stage: &Stage, names: &Names) -> Result<Seen, Failure> {
+    let mut sweep = Sweep {
+        stage,
+        waiting: Vec::new(),
+        seen: Seen::default(),
         told: Instant::now(),
     };
-    for (i, part) in all.chunks(LANES).enumerate() {
-        let mut saves: Vec<Save> = part.iter().map(|named| named.save.clone()).collect();
-        let runs = walk(stage, &mut saves);
-        for ((named, save), ran) in part.iter().zip(&saves).zip(runs) {
-            seen.count(named, save, ran);
+    for (i, file) in files.iter().enumerate() {
+        for named in saves::of_file(file, &stage.sheet, names)? {
+            sweep.add(named);
+            sweep.tell(i + 1, files.len());
         }
-        progress.tell(i * LANES + part.len());
     }
-    seen
+    sweep.run();
+    Ok(sweep.seen)
 }
 
 /// The table of what was seen of the slots with an item, and whether one of them never shows.
-fn text(seen: &Seen, saves: usize, shop: &Shop, names: &Names) -> (String, bool) {
+fn text(seen: &Seen, shop: &Shop, names: &Names) -> (String, bool) {
     let mut table = Table::new(&[
         ("slot", Side::Right),
         ("item", Side::Left),
@@ -118,27 +148,18 @@ fn text(seen: &Seen, saves: usize, shop: &Shop, names: &Names) -> (String, bool)
             never.push(i.to_string());
         }
     }
-    let mut text = format!("{}{} saves\n", table.text(), grouped(saves));
+    let mut text = format!("{}{} saves\n", table.text(), grouped(seen.saves));
     if !never.is_empty() {
         text += &format!("never shown: slot {}\n", never.join(", "));
     }
     (text, !never.is_empty())
 }
 
-fn all_saves(args: &Args, stage: &Stage, names: &Names) -> Result<Vec<Named>, Failure> {
-    let mut all = Vec::new();
-    for file in &args.words[1..] {
-        all.extend(saves::of_file(file, &stage.sheet, names)?);
-    }
-    Ok(all)
-}
-
 fn run(args: &Args) -> Answer {
     let names = names(args)?;
     let pressing = Pressing::read(args.words[0])?;
-    let saves = all_saves(args, &pressing.stage, &names)?;
-    let seen = sweep(&pressing.stage, &saves);
-    let (text, never) = text(&seen, saves.len(), &pressing.shop, &names);
+    let seen = sweep(&args.words[1..], &pressing.stage, &names)?;
+    let (text, never) = text(&seen, &pressing.shop, &names);
     let mut said = Said::new(text, Status::no_where(never));
     if let Some((name, refused)) = seen.refused.first() {
         let many = grouped(seen.refused.len());
