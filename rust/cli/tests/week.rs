@@ -300,7 +300,7 @@ fn the_week() {
     );
     let line =
         "approve small.bin last.bin --names names.txt --save early=early.txt --out sheet.html";
-    assert_eq!(week.run(line).said(0), "");
+    assert!(week.run(line).said(0).starts_with("sheet.html: "));
     assert!(
         week.text("sheet.html")
             .contains("now requires !flag 9 door_open")

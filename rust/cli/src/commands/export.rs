@@ -5,6 +5,7 @@ use crate::files;
 use crate::named;
 use crate::pressing::{NAMES, Pressing, names};
 use crate::said::{Answer, Failure, Said};
+use crate::table::grouped;
 
 /// Where to put what would be printed.
 pub const OUT: Opt = Opt {
@@ -31,7 +32,7 @@ pub fn put(args: &Args, text: String) -> Result<String, Failure> {
         return Ok(text);
     };
     files::write_whole(out, text.as_bytes())?;
-    Ok(String::new())
+    Ok(format!("{out}: {} bytes\n", grouped(text.len())))
 }
 
 fn run(args: &Args) -> Answer {
