@@ -2,8 +2,7 @@
 
 mod common;
 
-use common::{Week, top};
-use std::fs;
+use common::Week;
 
 const NAMES: &str = "--names names.txt";
 
@@ -65,14 +64,17 @@ fn presses_left() {
 }
 
 #[test]
+fn export_is_what_slots_prints() {
+    let week = Week::samples("slots");
+    for sample in ["shop", "worked"] {
+        let printed = week.run(&format!("export {sample}.bin")).said(0);
+        assert_eq!(printed, week.text(&format!("{sample}.txt")));
+    }
+}
+
+#[test]
 fn export_and_back() {
     let week = Week::pressed("export");
-    for sample in ["shop", "worked"] {
-        let bytes = fs::read(top().join(format!("samples/{sample}.bin"))).unwrap();
-        week.write("sample.bin", bytes);
-        let printed = fs::read_to_string(top().join(format!("samples/{sample}.txt"))).unwrap();
-        assert_eq!(week.run("export sample.bin").said(0), printed);
-    }
     for (names, text) in [("", "numbers.txt"), (NAMES, "named.txt")] {
         week.run(&format!("export tuesday.bin {names} --out {text}"))
             .said(0);
@@ -182,41 +184,24 @@ fn diff() {
 #[test]
 fn check() {
     let week = Week::pressed("check");
-    assert_eq!(
-        week.run("check monday.bin").said(0),
-        "what is printed is what runs\n"
-    );
-    let said = week
-        .run(&format!("check monday.bin monday.txt {NAMES}"))
-        .said(0);
-    assert_eq!(
-        said,
-        "slot 4: limit 12 will be 10\nwhat is printed is what runs\n"
-    );
-    let said = week
-        .run(&format!("check monday.bin wrong.txt {NAMES}"))
-        .said(1);
-    assert!(
-        said.contains("slot 1: atc 0 is required and is what it sells"),
-        "{said}"
-    );
-    assert!(
-        said.ends_with("do not sign: what is printed may not be what runs\n"),
-        "{said}"
-    );
-    week.write(
-        "shop.bin",
-        fs::read(top().join("samples/shop.bin")).unwrap(),
-    );
+    let fine = "what is printed is what runs\n";
+    assert_eq!(week.run("check monday.bin").said(0), fine);
+    let text = format!("check monday.bin monday.txt {NAMES}");
+    let due = format!("slot 4: limit 12 will be 10\n{fine}");
+    assert_eq!(week.run(&text).said(0), due);
+    let wrong = format!("check monday.bin wrong.txt {NAMES}");
+    let said = week.run(&wrong).said(1);
+    assert!(said.contains("slot 1: atc 0 is required and is what it sells"));
+    let no = "do not sign: what is printed may not be what runs\n";
+    assert!(said.ends_with(no), "{said}");
+}
+
+#[test]
+fn check_of_samples() {
+    let week = Week::samples("checked");
     let said = week.run("check shop.bin").said(1);
-    assert_eq!(
-        lines(&said, 0, 1),
-        ["slot 2: flag -5 is in no save: every run stops there"]
-    );
-    week.write(
-        "worked.bin",
-        fs::read(top().join("samples/worked.bin")).unwrap(),
-    );
+    let due = "slot 2: flag -5 is in no save: every run stops there";
+    assert_eq!(lines(&said, 0, 1), [due]);
     let said = week.run("check worked.bin").said(1);
     assert!(
         said.starts_with("the script is not what compiling"),
@@ -237,33 +222,27 @@ fn preview_and_run_agree() {
         "   3  2 timer10       0",
     ];
     assert_eq!(lines(&seen, 0, 5), due);
+    assert_eq!(lines(&seen, 21, 1), ["variable 0 ends as 5"]);
     let left = week.run(&format!("run {late}")).said(0);
     assert_eq!(lines(&seen, 0, 21), lines(&left, 0, 21));
-    assert_eq!(lines(&seen, 21, 1), ["variable 0 ends as 5"]);
-    assert_eq!(
-        lines(&left, 21, 1),
-        ["variable 0 ends as 5; 32 blocks entered"]
-    );
-    let short = week.run(&format!("run {late} --budget 31"));
-    assert_eq!(
-        (short.status, short.line(21)),
-        (2, "variable 0 ends as 5; 31 blocks entered")
-    );
-    assert_eq!(
-        short.err,
-        "locustkeno: tuesday.bin: the run's budget is spent (refusal 15)\n"
-    );
-    week.write(
-        "shop.bin",
-        fs::read(top().join("samples/shop.bin")).unwrap(),
-    );
+    let due = ["variable 0 ends as 5; 32 blocks entered"];
+    assert_eq!(lines(&left, 21, 1), due);
+}
+
+#[test]
+fn runs_that_are_refused() {
+    let week = Week::samples("stopped");
+    let short = week.run("run worked.bin --budget 0");
+    let due = "variable 0 ends as 0; 0 blocks entered";
+    assert_eq!((short.status, short.line(21)), (2, due));
+    let why = "locustkeno: worked.bin: the run's budget is spent (refusal 15)\n";
+    assert_eq!(short.err, why);
+    // The first slot is written before the flag outside the save is met.
     let stopped = week.run("run shop.bin");
-    assert_eq!(
-        (stopped.status, stopped.line(2)),
-        (2, "   1  hidden      0")
-    );
+    let due = (2, "   0  7           3", "   2  hidden      0");
+    assert_eq!((stopped.status, stopped.line(1), stopped.line(3)), due);
     assert!(stopped.err.ends_with("(refusal 23)\n"), "{}", stopped.err);
-    assert!(week.run("preview shop.bin").err.ends_with("(refusal 23)\n"));
+    week.refused("preview shop.bin", &["shop.bin: ", "(refusal 23)"]);
 }
 
 #[test]
@@ -370,10 +349,11 @@ fn shopper() {
         5. slot 1: sold out or hidden\n\
         money 14 of 500\n";
     assert_eq!(said, due);
-    week.write(
-        "shop.bin",
-        fs::read(top().join("samples/shop.bin")).unwrap(),
-    );
+}
+
+#[test]
+fn shopper_that_is_stopped() {
+    let week = Week::samples("shopping");
     week.write("flat.txt", "others 1\n");
     let ran = week.run("shopper shop.bin --tariff flat.txt --money 5 --wish 0 1");
     assert_eq!((ran.status, ran.line(1)), (2, "money 5 of 5"));
@@ -433,6 +413,7 @@ fn help_and_version() {
 #[cfg(unix)]
 #[test]
 fn what_is_replaced() {
+    use std::fs;
     use std::os::unix::fs::{PermissionsExt, symlink};
     let week = Week::pressed("replaced");
     fs::set_permissions(week.path("monday.bin"), fs::Permissions::from_mode(0o640)).unwrap();

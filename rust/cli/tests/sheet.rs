@@ -211,46 +211,46 @@ fn browse(browser: &PathBuf, week: &Week, words: &[&str]) -> String {
     String::from_utf8_lossy(&output.stdout).into_owned()
 }
 
+/// How many rows the tables of a page have.
+fn rows_of(page: &str) -> usize {
+    let bodies = page.split("<tbody>").skip(1);
+    let bodies = bodies.map(|rest| rest.split("</tbody>").next().expect("a body ends"));
+    bodies.map(|body| body.matches("<tr>").count()).sum()
+}
+
+/// The browser lays the page out as it should, and prints it.
+fn looked_at(browser: &PathBuf, week: &Week, name: &str, page: &str) {
+    let rows = rows_of(page);
+    let due = format!("<title>rows {rows} out 0 high 0 gaudy 0 width 680</title>");
+    let file = format!("{name}.html");
+    let url = format!("file://{}", week.path(&file).display());
+    week.write(&file, page.replace("</body>", QUESTION));
+    let seen = browse(browser, week, &["--dump-dom", &url]);
+    let title = seen
+        .split("<title>")
+        .nth(1)
+        .and_then(|rest| rest.lines().next());
+    assert!(seen.contains(&due), "{name}: {due} is due, not {title:?}");
+    week.write(&file, page);
+    let pdf = week.path(&format!("{name}.pdf"));
+    browse(
+        browser,
+        week,
+        &[&format!("--print-to-pdf={}", pdf.display()), &url],
+    );
+    let printed = fs::read(&pdf).expect("it was printed");
+    assert!(printed.starts_with(b"%PDF"), "{name}");
+}
+
 #[test]
 fn in_a_browser() {
     let Some(browser) = browser() else {
         // Past the test's own capture, so that it is seen.
         let said = "skipped: the page was not looked at in a browser; CHROMIUM names one\n";
-        io::stderr()
-            .write_all(said.as_bytes())
-            .expect("standard error is there");
-        return;
+        let told = io::stderr().write_all(said.as_bytes());
+        return told.expect("standard error is there");
     };
     let week = Week::pressed("browser");
-    for (name, page) in [("tuesday", page(&week)), ("full", fullest(&week))] {
-        let rows = page.split("<tbody>").skip(1).map(|rest| {
-            let body = rest.split("</tbody>").next().expect("a body ends");
-            body.matches("<tr>").count()
-        });
-        let due = format!(
-            "<title>rows {} out 0 high 0 gaudy 0 width 680</title>",
-            rows.sum::<usize>()
-        );
-        let file = format!("{name}.html");
-        week.write(&file, page.replace("</body>", QUESTION));
-        let url = format!("file://{}", week.path(&file).display());
-        let seen = browse(&browser, &week, &["--dump-dom", &url]);
-        let title = seen.split("<title>").nth(1).unwrap_or(&seen);
-        assert!(
-            seen.contains(&due),
-            "{name}: {due}, but {}",
-            title.lines().next().unwrap_or("")
-        );
-        week.write(&file, &page);
-        let pdf = week.path(&format!("{name}.pdf"));
-        browse(
-            &browser,
-            &week,
-            &[&format!("--print-to-pdf={}", pdf.display()), &url],
-        );
-        assert!(
-            fs::read(&pdf).expect("it was printed").starts_with(b"%PDF"),
-            "{name}"
-        );
-    }
+    looked_at(&browser, &week, "tuesday", &page(&week));
+    looked_at(&browser, &week, "full", &fullest(&week));
 }

@@ -79,56 +79,36 @@ fn wrong_stages(week: &Week) {
     );
 }
 
+/// A wrong text, or the names for it, and what is said of it.
+const TEXTS: &str = "
+unknown.txt --names names.txt => unknown.txt: line 4: there is no item with the name `squirtle`
+flagless.txt --names names.txt => flagless.txt: line 3: there is no flag with the name `met_tally`
+number.txt --names names.txt => number.txt: line 6:
+short.txt --names names.txt => short.txt: line 22:
+order.txt --names names.txt => order.txt: line 8:
+item.txt --names names.txt => item.txt: | (refusal 8)
+latin.txt --names names.txt => latin.txt: is not UTF-8 text
+nowhere.txt --names names.txt => nowhere.txt: No such file
+monday.txt --names twice.txt => twice.txt: line 6: item 4 was named before
+monday.txt --names turned.txt => turned.txt: line 11: `hose` is not a number
+monday.txt --names nowhere.txt => nowhere.txt: No such file
+monday.txt => monday.txt: line 3: there is no item with the name `toothbrush`
+";
+
+/// The lines of a table: what is asked, and the words that the answer has.
+fn cases(table: &str) -> impl Iterator<Item = (&str, Vec<&str>)> {
+    let cases = table.lines().filter_map(|line| line.split_once(" => "));
+    cases.map(|(asked, words)| (asked, words.split(" | ").collect()))
+}
+
 /// A text that is wrong is refused by its line, and the last pressing stays.
 fn wrong_texts(week: &Week) {
-    for (text, names, words) in [
-        (
-            "unknown.txt",
-            "names.txt",
-            ["unknown.txt: line 4: ", "no item with the name `squirtle`"],
-        ),
-        (
-            "flagless.txt",
-            "names.txt",
-            [
-                "flagless.txt: line 3: ",
-                "no flag with the name `met_tally`",
-            ],
-        ),
-        ("number.txt", "names.txt", ["number.txt: line 6: ", ""]),
-        ("short.txt", "names.txt", ["short.txt: line 22: ", ""]),
-        ("order.txt", "names.txt", ["order.txt: line 8: ", ""]),
-        ("item.txt", "names.txt", ["item.txt: ", "(refusal 8)"]),
-        ("latin.txt", "names.txt", ["latin.txt: ", "UTF-8"]),
-        (
-            "nowhere.txt",
-            "names.txt",
-            ["nowhere.txt: ", "No such file"],
-        ),
-        (
-            "monday.txt",
-            "twice.txt",
-            ["twice.txt: line 6: ", "item 4 was named before"],
-        ),
-        (
-            "monday.txt",
-            "turned.txt",
-            ["turned.txt: line 11: ", "`hose` is not a number"],
-        ),
-        (
-            "monday.txt",
-            "nowhere.txt",
-            ["nowhere.txt: ", "No such file"],
-        ),
-    ] {
-        let line = format!("import monday.bin {text} monday.bin --names {names}");
-        week.refused(&line, &words);
-        week.refused(&format!("check monday.bin {text} --names {names}"), &words);
+    for (text, words) in cases(TEXTS) {
+        let text = text.replacen(".txt", ".txt monday.bin", 1);
+        week.refused(&format!("import monday.bin {text}"), &words);
+        let text = text.replacen(" monday.bin", "", 1);
+        week.refused(&format!("check monday.bin {text}"), &words);
     }
-    week.refused(
-        "import monday.bin monday.txt monday.bin",
-        &["monday.txt: line 3: ", "toothbrush"],
-    );
     let loader = "import monday.bin monday.txt monday.bin --names names.txt --loader tape";
     week.refused(loader, &["import: there is no loader `tape`"]);
 }
@@ -170,87 +150,87 @@ fn full_disk(week: &Week) {
     }
 }
 
-/// Saves, tariffs and arguments that are wrong.
+/// Saves, tariffs and arguments that are wrong, and what is said of them.
+const QUESTIONS: &str = "
+preview monday.bin --save save.txt --names names.txt => save.txt: line 2: there is no flag with the name `nobody`
+preview monday.bin --save saves.txt --names names.txt => saves.txt: has 3 saves, one is due
+preview monday.bin --save two.txt => monday.bin: | (refusal 12)
+preview monday.bin item:12=1 => item:12=1: there is no item 12: there are 12
+preview monday.bin item:7=-1 => monday.bin: | (refusal 12)
+preview monday.bin item7 => item7: `item7` is no setting
+approve monday.bin --save late => late: is no NAME=SAVE
+approve monday.bin --save x=two.txt => two.txt: | (refusal 12)
+bill monday.bin => --tariff: is due
+bill monday.bin --tariff dear.txt => monday.bin: | (refusal 24)
+bill monday.bin --tariff cheap.txt --names names.txt => cheap.txt: line 2: an item has no price
+bill monday.bin --tariff tariff.txt --names names.txt --take 0=4 => monday.bin: | (refusal 25)
+bill monday.bin --tariff tariff.txt --names names.txt --take 20=1 => 20=1: is no slot and number
+shopper monday.bin --names names.txt --tariff tariff.txt --money 1000001 --wish 0 => monday.bin: | (refusal 28)
+shopper monday.bin --names names.txt --tariff tariff.txt --money 9 --wish 0 20 => monday.bin: | (refusal 27)
+shopper monday.bin --names names.txt --tariff tariff.txt --money 9 --wish 256 => --wish: `256` is no number that fits
+shopper monday.bin --names names.txt --tariff tariff.txt --money 9 => --wish: is due
+reclaim monday.bin --root 4096 monday.bin => monday.bin: | (refusal 18)
+reclaim monday.bin --root monday.bin => reclaim: --root needs N..
+sweep monday.bin => sweep: usage: FILE SAVES..
+press monday.bin => press: is no command
+show monday.bin --colour => show: unknown option --colour
+ => no command; `locustkeno --help` lists them
+";
+
 fn wrong_questions(week: &Week) {
     week.write("save.txt", "item:toothbrush=1\nflag:nobody=1\n");
     week.write("two.txt", "flag:3=2\n");
     week.write("dear.txt", "others 30001\n");
     week.write("cheap.txt", "price toothbrush 1\n");
-    let shopper = "shopper monday.bin --names names.txt --tariff tariff.txt";
-    for (line, words) in [
-        (
-            "preview monday.bin --save save.txt --names names.txt",
-            ["save.txt: line 2: ", "`nobody`"],
-        ),
-        (
-            "preview monday.bin --save saves.txt --names names.txt",
-            ["saves.txt: has 3 saves", ""],
-        ),
-        (
-            "preview monday.bin --save two.txt",
-            ["monday.bin: ", "(refusal 12)"],
-        ),
-        (
-            "preview monday.bin item:12=1",
-            ["item:12=1: ", "there is no item 12"],
-        ),
-        (
-            "preview monday.bin item:7=-1",
-            ["monday.bin: ", "(refusal 12)"],
-        ),
-        ("preview monday.bin item7", ["item7: ", "is no setting"]),
-        (
-            "approve monday.bin --save late",
-            ["late: is no NAME=SAVE", ""],
-        ),
-        (
-            "approve monday.bin --save x=two.txt",
-            ["two.txt: ", "(refusal 12)"],
-        ),
-        ("bill monday.bin", ["--tariff: is due", ""]),
-        (
-            "bill monday.bin --tariff dear.txt",
-            ["monday.bin: ", "(refusal 24)"],
-        ),
-        (
-            "bill monday.bin --tariff cheap.txt --names names.txt",
-            ["cheap.txt: line 2: ", "has no price"],
-        ),
-        (
-            "bill monday.bin --tariff tariff.txt --names names.txt --take 0=4",
-            ["monday.bin: ", "(refusal 25)"],
-        ),
-        (
-            "bill monday.bin --tariff tariff.txt --names names.txt --take 20=1",
-            ["20=1: ", "is no slot"],
-        ),
-        (
-            &format!("{shopper} --money 1000001 --wish 0"),
-            ["monday.bin: ", "(refusal 28)"],
-        ),
-        (
-            &format!("{shopper} --money 9 --wish 0 20"),
-            ["monday.bin: ", "(refusal 27)"],
-        ),
-        (&format!("{shopper} --money 9"), ["--wish: is due", ""]),
-        (
-            "reclaim monday.bin --root 4096 monday.bin",
-            ["monday.bin: ", "(refusal 18)"],
-        ),
-        (
-            "reclaim monday.bin --root monday.bin",
-            ["reclaim: --root needs N..", ""],
-        ),
-        ("sweep monday.bin", ["sweep: usage: FILE SAVES..", ""]),
-        ("press monday.bin", ["press: is no command", ""]),
-        (
-            "show monday.bin --colour",
-            ["show: unknown option --colour", ""],
-        ),
-        ("", ["no command", ""]),
-    ] {
+    for (line, words) in cases(QUESTIONS) {
         week.refused(line, &words);
     }
+}
+
+/// Monday: the designer takes the stage's empty shop, fills it and presses it.
+fn monday(week: &Week) {
+    let empty = week.run("export stage.bin").said(0);
+    assert!(empty.starts_with("0 - 0\n1 - 0\n"), "{empty}");
+    let import = "import stage.bin monday.txt monday.bin --names names.txt";
+    let said = week.run(import).said(0);
+    assert!(said.contains("slot 4: limit 12 will be 10\n"), "{said}");
+}
+
+/// Tuesday: another text over Monday's file, in its place.
+fn tuesday(week: &Week) {
+    week.write("last.bin", week.read("monday.bin"));
+    let import = "import monday.bin tuesday.txt monday.bin --names names.txt";
+    week.run(import).said(0);
+    let diff = "diff last.bin monday.bin --names names.txt";
+    let changed = week.run(diff).said(1);
+    assert!(changed.contains("slot 0: limit 3 -> 2\n"), "{changed}");
+}
+
+/// Wednesday: a shop that nobody should sign is not pressed.
+fn wednesday(week: &Week) {
+    let before = week.files();
+    let import = "import monday.bin wrong.txt monday.bin --names names.txt";
+    let said = week.run(import).said(1);
+    let last = "monday.bin was not written: mend wrong.txt, or say --force\n";
+    assert!(said.ends_with(last), "{said}");
+    assert!(week.files() == before);
+}
+
+/// Thursday: the build engineer takes the dead blocks back, and the shop is the same.
+fn thursday(week: &Week) {
+    week.run("reclaim monday.bin --root 0 small.bin").said(0);
+    assert!(week.read("small.bin").len() < week.read("monday.bin").len());
+    week.run("diff monday.bin small.bin").said(0);
+}
+
+/// Friday: the approver looks and signs.
+fn friday(week: &Week) {
+    let checked = week.run("check small.bin").said(0);
+    assert_eq!(checked, "what is printed is what runs\n");
+    let approve = "approve small.bin last.bin --names names.txt --out sheet.html";
+    week.run(approve).said(0);
+    let page = week.text("sheet.html");
+    assert!(page.contains("now requires !flag 9 door_open"), "{page}");
 }
 
 #[test]
@@ -258,51 +238,12 @@ fn the_week() {
     let week = Week::new("week");
     spoil(&week);
     wrong_stages(&week);
-    // Monday: the designer takes the stage's empty shop, fills it and presses it.
-    assert!(
-        week.run("export stage.bin")
-            .said(0)
-            .starts_with("0 - 0\n1 - 0\n")
-    );
-    let said = week
-        .run("import stage.bin monday.txt monday.bin --names names.txt")
-        .said(0);
-    assert!(said.contains("slot 4: limit 12 will be 10\n"), "{said}");
+    monday(&week);
     wrong_texts(&week);
     full_disk(&week);
     wrong_questions(&week);
-    // Tuesday: another text over Monday's file, in its place.
-    week.write("last.bin", week.read("monday.bin"));
-    week.run("import monday.bin tuesday.txt monday.bin --names names.txt")
-        .said(0);
-    let changed = week
-        .run("diff last.bin monday.bin --names names.txt")
-        .said(1);
-    assert!(changed.contains("slot 0: limit 3 -> 2\n"), "{changed}");
-    // Wednesday: a shop that nobody should sign is not pressed.
-    let before = week.files();
-    let said = week
-        .run("import monday.bin wrong.txt monday.bin --names names.txt")
-        .said(1);
-    assert!(
-        said.ends_with("monday.bin was not written: mend wrong.txt, or say --force\n"),
-        "{said}"
-    );
-    assert!(week.files() == before);
-    // Thursday: the build engineer takes the dead blocks back, and the shop is the same.
-    week.run("reclaim monday.bin --root 0 small.bin").said(0);
-    assert!(week.read("small.bin").len() < week.read("monday.bin").len());
-    week.run("diff monday.bin small.bin").said(0);
-    // Friday: the approver looks and signs.
-    assert_eq!(
-        week.run("check small.bin").said(0),
-        "what is printed is what runs\n"
-    );
-    let line =
-        "approve small.bin last.bin --names names.txt --save early=early.txt --out sheet.html";
-    assert!(week.run(line).said(0).starts_with("sheet.html: "));
-    assert!(
-        week.text("sheet.html")
-            .contains("now requires !flag 9 door_open")
-    );
+    tuesday(&week);
+    wednesday(&week);
+    thursday(&week);
+    friday(&week);
 }

@@ -62,11 +62,25 @@ impl Week {
         }
         fs::create_dir_all(&folder).expect("the folder can be made");
         let week = Self { folder };
-        for file in fs::read_dir(top().join("samples/week")).expect("samples/week is there") {
+        week.take("samples/week");
+        week
+    }
+
+    /// Copies the plain files of a folder of the repository.
+    fn take(&self, from: &str) {
+        for file in fs::read_dir(top().join(from)).expect("the folder is there") {
             let file = file.expect("the folder can be read").path();
             let name = file.file_name().expect("a file has a name");
-            fs::copy(&file, week.folder.join(name)).expect("a sample can be copied");
+            if file.is_file() {
+                fs::copy(&file, self.folder.join(name)).expect("a sample can be copied");
+            }
         }
+    }
+
+    /// The same, with the samples of the program `slots`.
+    pub fn samples(name: &str) -> Self {
+        let week = Self::new(name);
+        week.take("samples");
         week
     }
 
