@@ -147,3 +147,89 @@ mod tests {
         assert_eq!(bad(&format!("{}\n20 - 0\n", shop())).line, 22);
     }
 }
+
+#[cfg(test)]
+mod random {
+    use super::{read, write};
+    use crate::names::{Kind, Names};
+    use locustkeno::{Atc, Item, Requirement, Shop, Slot};
+
+    /// Numbers that are the same ones in every run.
+    struct Random(u64);
+
+    impl Random {
+        fn below(&mut self, bound: u64) -> u64 {
+            let mixed = self.0.wrapping_mul(6_364_136_223_846_793_005);
+            self.0 = mixed.wrapping_add(1_442_695_040_888_963_407);
+            (self.0 >> 33) % bound
+        }
+
+        fn requirement(&mut self) -> Requirement {
+            let id = self.below(12) as u16;
+            let flag = self.below(60) as i32 - 20;
+            match self.below(6) {
+                0 => Requirement::HaveItem(Item(id)),
+                1 => Requirement::MissingItem(Item(id)),
+                2 => Requirement::HaveAtc(Atc(id)),
+                3 => Requirement::MissingAtc(Atc(id)),
+                4 => Requirement::HaveFlag(flag),
+                _ => Requirement::MissingFlag(flag.wrapping_mul(50_000_000)),
+            }
+        }
+
+        fn slot(&mut self) -> Slot {
+            let many = self.below(15);
+            Slot {
+                item: (self.below(4) > 0).then(|| Item(self.below(12) as u16)),
+                limit: self.below(65_536) as u16 as i16,
+                requirements: (0..many).map(|_| self.requirement()).collect(),
+            }
+        }
+    }
+
+    /// About half of all small numbers have a name.
+    fn names(random: &mut Random) -> Names {
+        let mut text = String::new();
+        for kind in [Kind::Item, Kind::Atc, Kind::Flag] {
+            for number in (0..40).filter(|_| random.below(2) == 0) {
+                text += &format!("{} {number} n{number}.{}\n", kind.word(), kind.word());
+            }
+        }
+        Names::read(&text).unwrap()
+    }
+
+    #[test]
+    fn shops_with_names_and_back() {
+        let mut random = Random(35);
+        for _ in 0..300 {
+            let names = names(&mut random);
+            let shop = Shop::with_slots((0..20).map(|_| random.slot()));
+            assert_eq!(read(&write(&shop, &names), &names), Ok(shop.clone()));
+            assert_eq!(read(&shop.to_string(), &names), Ok(shop));
+        }
+    }
+
+    /// A text with one sign changed is refused by a line that it has or the one behind, or is a shop that prints and reads back.
+    #[test]
+    fn damaged_texts() {
+        let mut random = Random(53);
+        let names = names(&mut random);
+        let shop = Shop::with_slots((0..20).map(|_| random.slot()));
+        let signs: Vec<char> = write(&shop, &names).chars().collect();
+        let mut refused = 0;
+        for _ in 0..2_000 {
+            let mut damaged = signs.clone();
+            let at = random.below(signs.len() as u64) as usize;
+            damaged[at] = char::from(random.below(128) as u8);
+            let text: String = damaged.into_iter().collect();
+            match read(&text, &names) {
+                Ok(shop) => assert_eq!(read(&write(&shop, &names), &names), Ok(shop)),
+                Err(bad) => {
+                    refused += 1;
+                    assert!((1..=text.lines().count() + 1).contains(&bad.line), "{text}");
+                }
+            }
+        }
+        assert!((500..2_000).contains(&refused), "{refused}");
+    }
+}
