@@ -4,8 +4,9 @@ use crate::args::{Args, Opt, Takes};
 use crate::files;
 use crate::names::Names;
 use crate::said::Failure;
-use crate::stage::Stage;
-use locustkeno::{Finding, Found, Loader, Refused, Script, Shop};
+use crate::stage::{STAGE_BYTES, Stage};
+use crate::table::grouped;
+use locustkeno::{Finding, Found, Loader, Refusal, Refused, Script, Shop};
 
 /// Names for numbers, for the commands that show or take any.
 pub const NAMES: Opt = Opt {
@@ -113,11 +114,16 @@ impl Verdict {
     }
 }
 
-/// Writes a stage whole or not at all, but only where it is read back as it was written; it answers the length of the file.
+/// Writes a stage whole or not at all, and answers the length of the file. One that would be too long to be read again is refused.
 pub fn write(file: &str, stage: &Stage) -> Result<usize, Failure> {
-    let refused = |refused: Refused| Failure::of(file, refused);
-    let bytes = stage.write().map_err(refused)?;
-    Stage::read(&bytes).map_err(refused)?;
+    let bytes = stage.write().map_err(|refused| match refused.refusal() {
+        Refusal::SliceShort => {
+            let most = grouped(STAGE_BYTES);
+            let why = format!("{refused}; a stage has at most {most} bytes, reclaim first");
+            Failure::of(file, why)
+        }
+        _ => Failure::of(file, refused),
+    })?;
     files::write_whole(file, &bytes)?;
     Ok(bytes.len())
 }

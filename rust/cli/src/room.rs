@@ -1,12 +1,9 @@
 //! How full a script is, and how many presses are left.
 
 use crate::pressing::Pressing;
-use crate::stage::Stage;
+use crate::stage::{STAGE_BYTES, Stage};
 use crate::table::{Side, Table, grouped};
 use locustkeno::{Loader, Refused, Room, Shop};
-
-/// The most bytes of a stage file.
-const FILE_BYTES: usize = 65_536;
 
 /// What is used of each limit: blocks, commands, nodes, and the bytes of the file.
 fn uses(stage: &Stage) -> Result<[(&'static str, usize, usize); 4], Refused> {
@@ -19,7 +16,7 @@ fn uses(stage: &Stage) -> Result<[(&'static str, usize, usize); 4], Refused> {
         ("blocks", blocks.used, blocks.limit),
         ("commands", commands.used, commands.limit),
         ("nodes", nodes.used, nodes.limit),
-        ("bytes", stage.write()?.len(), FILE_BYTES),
+        ("bytes", stage.write()?.len(), STAGE_BYTES),
     ])
 }
 
@@ -30,12 +27,12 @@ fn disc(stage: &Stage, shop: &Shop) -> Result<usize, Refused> {
     let compiled = pressed
         .script
         .compile(&stage.sheet, Loader::Disc, stage.setup, shop);
-    if compiled.is_err() {
+    let Ok(after) = compiled.and_then(|()| uses(&pressed)) else {
         return Ok(0);
-    }
-    let pairs = before.into_iter().zip(uses(&pressed)?);
-    let left = pairs.map(|((_, was, limit), (_, is, _))| {
-        limit.saturating_sub(was) / is.saturating_sub(was).max(1)
+    };
+    let left = before.into_iter().zip(after).map(|(was, is)| {
+        let (_, used, limit) = was;
+        limit.saturating_sub(used) / is.1.saturating_sub(used).max(1)
     });
     Ok(left.min().unwrap_or(0))
 }

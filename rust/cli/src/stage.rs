@@ -3,7 +3,7 @@
 use locustkeno::{Atc, Item, Refusal, Refused, Script, Sheet};
 
 /// The most bytes of a file.
-const INPUT: usize = 65_536;
+pub const STAGE_BYTES: usize = 65_536;
 
 #[derive(Clone)]
 pub struct Stage {
@@ -53,7 +53,7 @@ fn put(out: &mut Vec<u8>, mut number: u32) {
 
 impl Stage {
     pub fn read(bytes: &[u8]) -> Result<Self, Refused> {
-        if bytes.len() > INPUT {
+        if bytes.len() > STAGE_BYTES {
             return Err(Refusal::OverLimit.into());
         }
         let mut reader = Reader(bytes);
@@ -85,6 +85,9 @@ impl Stage {
         let mut out = self.head.clone();
         put(&mut out, self.setup);
         out.extend(self.script.write()?);
+        if out.len() > STAGE_BYTES {
+            return Err(Refusal::SliceShort.into());
+        }
         Ok(out)
     }
 }

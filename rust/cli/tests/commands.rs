@@ -58,9 +58,19 @@ fn presses_left() {
     assert!(press("demo").err.ends_with("(refusal 19)\n"));
     let more = 9 + (0..).take_while(|_| press("disc").status == 0).count();
     assert!((65..=75).contains(&more), "{more}");
-    let ran = press("disc");
-    assert_eq!(ran.status, 2);
-    assert!(ran.err.starts_with("locustkeno: now.bin: "), "{}", ran.err);
+    let last = press("disc").err;
+    let why = "now.bin: the slice is too short for the image (refusal 16); a stage has at most 65,536 bytes, reclaim first\n";
+    assert_eq!(last, format!("locustkeno: {why}"));
+    assert!(week.read("now.bin").len() <= 65_536);
+    let full = week.run("show now.bin").said(0);
+    assert!(full.ends_with("0 for the disc, 0 for the demo\n"), "{full}");
+    // What was taken back is there again.
+    week.run("reclaim now.bin now.bin").said(0);
+    let anew = week.run("show now.bin").said(0);
+    assert!(
+        anew.ends_with("75 for the disc, 9 for the demo\n"),
+        "{anew}"
+    );
 }
 
 #[test]

@@ -104,8 +104,8 @@ fn run(args: &Args) -> Answer {
         );
         return Ok(Said::new(said, Status::No));
     }
-    let room = room::left(&new, &read).map_err(refused)?;
     let bytes = grouped(pressing::write(out, &new)?);
+    let room = room::left(&new, &read).map_err(refused)?;
     let setup = new.setup;
     said += &format!("{out}: pressed at block {setup}, {bytes} bytes; {room}\n");
     Ok(Said::done(said))
