@@ -23,7 +23,7 @@ pub fn changes(old: &Pressing, new: &Pressing, names: &Names) -> Vec<String> {
         told.push("the sheet changed: numbers may stand for other things".to_owned());
     }
     let (was, is) = (old.shop.slots(), new.shop.slots());
-    for (i, (was, is)) in was.iter().zip(&is).enumerate() {
+    for (i, (was, is)) in was.iter().zip(is.iter()).enumerate() {
         let changed = words::changes(was, is, names);
         told.extend(changed.into_iter().map(|what| format!("slot {i}: {what}")));
     }

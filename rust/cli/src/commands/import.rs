@@ -67,7 +67,7 @@ fn is_other(given: &Slot, read: &Slot) -> bool {
 /// A line for each slot that is read back otherwise than it was given.
 fn read_back(given: &Shop, read: &Shop, names: &Names) -> String {
     let (given, read) = (given.slots(), read.slots());
-    let pairs = given.iter().zip(&read).enumerate();
+    let pairs = given.iter().zip(read.iter()).enumerate();
     let other = pairs.filter(|(_, (given, read))| is_other(given, read));
     other
         .map(|(i, (given, read))| {
