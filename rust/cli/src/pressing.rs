@@ -76,11 +76,11 @@ const RETURN: [u8; 6] = [1, 1, 1, 0, 0, 0];
 /// the library's theorems have it; a script made by hand, or pressed from a text that was read back otherwise, may do something else.
 fn is_pressed(stage: &Stage, shop: &Shop) -> Result<bool, Refused> {
     let mut script = stage.script.clone();
-    script.reclaim(&[stage.setup])?;
+    let moved = script.reclaim(&[stage.setup])?;
     let mut fresh = Script::read(&RETURN)?;
     fresh.compile(&stage.sheet, Loader::Disc, 0, shop)?;
     fresh.reclaim(&[0])?;
-    Ok(script.write()? == fresh.write()?)
+    Ok(moved.now(stage.setup) == Some(0) && script.write()? == fresh.write()?)
 }
 
 /// Whether the finding is a reason not to sign: what is printed is not what runs, or no run gets through.
