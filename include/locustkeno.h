@@ -44,6 +44,7 @@ extern "C" {
 #define LK_SLOTS 20
 #define LK_ENTRIES 14
 #define LK_USERS 16
+#define LK_MOST_ITEMS 512
 
 /* The refusal or 0, the kept counts of the script and the count of its accepted compiles; all counts are 0 where a read is
  * refused. */
@@ -53,7 +54,7 @@ typedef struct {
     uint32_t compiles;
 } lk_kept;
 
-/* The refusal or 0, and the length of the image in bytes. */
+/* The refusal or 0, and the length of the image or heading in bytes. */
 typedef struct {
     uint8_t refusal;
     size_t len;
@@ -289,6 +290,28 @@ typedef struct {
 lk_checked lk_check(const uint8_t *attached, size_t attached_len, uint16_t atcs, uint16_t timer5, uint16_t timer10,
                     uint16_t timer15, const int32_t items[LK_SLOTS], const int16_t limits[LK_SLOTS],
                     const uint64_t codes[LK_SLOTS * LK_ENTRIES], const uint8_t lens[LK_SLOTS]);
+
+/* The file of a stage: a sheet, the number of its setup block and an image, as the program slots reads them (docs/FORMAT.md). */
+
+#define LK_STAGE_BYTES 65536
+
+/* The refusal or 0, the items and atcs of the sheet, its three timers' items, the setup number, and where the image begins. */
+typedef struct {
+    uint8_t refusal;
+    uint16_t items, atcs, timer5, timer10, timer15;
+    uint32_t setup;
+    size_t at;
+} lk_headed;
+
+/* What stands before the image: attached gets the atc + 1 or 0 of each item, and stays as it was past the items. The image is the
+ * bytes from at on. Refused (3 where there are over LK_STAGE_BYTES, before all else; 1 and 2 as the numbers come), every number of
+ * the answer and of attached is 0. */
+lk_headed lk_read_heading(const uint8_t *bytes, size_t bytes_len, uint8_t attached[LK_MOST_ITEMS]);
+
+/* The same bytes from a sheet and a setup number into out; len is where the image goes. Refused (1, then 16), out stays as it was;
+ * so do the bytes past the heading. A heading takes at most 526 bytes. */
+lk_written lk_write_heading(const uint8_t *attached, size_t attached_len, uint16_t atcs, uint16_t timer5, uint16_t timer10,
+                            uint16_t timer15, uint32_t setup, uint8_t *out, size_t out_len);
 
 #ifdef __cplusplus
 }

@@ -13,7 +13,6 @@ extern "C" {
 #define LK_FLAGS 2048
 #define LK_TIMES 8
 #define LK_VARIABLES 1024
-#define LK_MOST_ITEMS 512
 #define LK_MOST_ATCS 64
 #define LK_BUDGET 82
 #define LK_MOST_IMAGE 360453
@@ -289,6 +288,41 @@ static inline uint8_t lk_save_bill(const lk_sheet *sheet, const lk_save *save, c
                 save->vars, LK_VARIABLES, prices, prices_len, discount, basket, bill->items, bill->slots, bill->coins);
     bill->total = billed.total;
     return billed.refusal;
+}
+
+/* A stage as its file has it. The sheet points to attached beside it, so a copy's sheet has to be pointed there anew. */
+typedef struct {
+    uint8_t attached[LK_MOST_ITEMS];
+    lk_sheet sheet;
+    uint32_t setup;
+    lk_script script;
+} lk_stage;
+
+/* Refused (3, 1, 2 by the heading; 2 to 5 by the image), the stage is not to be used. */
+static inline uint8_t lk_stage_read(lk_stage *stage, const uint8_t *bytes, size_t len) {
+    const lk_headed head = lk_read_heading(bytes, len, stage->attached);
+    stage->sheet.attached = stage->attached;
+    stage->sheet.items = head.items;
+    stage->sheet.atcs = head.atcs;
+    stage->sheet.timer5 = head.timer5;
+    stage->sheet.timer10 = head.timer10;
+    stage->sheet.timer15 = head.timer15;
+    stage->setup = head.setup;
+    return head.refusal ? head.refusal : lk_script_read(&stage->script, bytes + head.at, len - head.at);
+}
+
+/* Any stage that may be a file fits LK_STAGE_BYTES. Refused (1, 16 by the heading; 2 to 5, 16 by the script), what out holds is
+ * not to be used. */
+static inline lk_written lk_stage_write(const lk_stage *stage, uint8_t *out, size_t len) {
+    const lk_sheet *sheet = &stage->sheet;
+    lk_written written = lk_write_heading(sheet->attached, sheet->items, sheet->atcs, sheet->timer5, sheet->timer10,
+                                          sheet->timer15, stage->setup, out, len);
+    const size_t at = written.len;
+    if (written.refusal == 0) {
+        written = lk_script_write(&stage->script, out + at, len - at);
+        written.len += written.refusal ? 0 : at;
+    }
+    return written;
 }
 
 #ifdef __cplusplus

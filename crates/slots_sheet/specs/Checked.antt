@@ -15,7 +15,7 @@ use Rattle.model.specs.Sheet.{atcKnown, all, timersOk, sheetOk, sheetRefusal}
 use Rattle.model.specs.Printer.{must, atcEntry, readAtcs, readTimers, readSheet}
 
 -- what a test let through
-let-through : {A : Type 0} (b : Bool) (a : Answer A) {x : A} {r : List ℕ} → must b a ≡ got x r → (b ≡ true) × (a ≡ got x r)
+pub let-through : {A : Type 0} (b : Bool) (a : Answer A) {x : A} {r : List ℕ} → must b a ≡ got x r → (b ≡ true) × (a ≡ got x r)
 let-through true a e = (refl, e)
 let-through false a e = absurd (refused≢got e)
 

@@ -24,7 +24,7 @@ pub struct Walked {
     pub read: u32,
 }
 
-/// The refusal or 0, and the length of an image.
+/// The refusal or 0, and the length of an image or a heading.
 #[repr(C)]
 #[derive(Debug, Copy, Clone)]
 pub struct Written {
@@ -143,12 +143,14 @@ pub use rights::*;
 pub use settings::*;
 pub use shopper::*;
 pub use shops::*;
+pub use stage::*;
 
 mod bill;
 mod check;
 mod rights;
 mod settings;
 mod shopper;
+mod stage;
 
 mod shops {
     use super::Kept;

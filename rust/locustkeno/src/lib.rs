@@ -31,6 +31,7 @@ mod settings;
 mod sheet;
 mod shop;
 mod shopper;
+mod stage;
 mod text;
 mod view;
 
@@ -50,5 +51,6 @@ pub use settings::Settings;
 pub use sheet::{Atc, Item, Sheet};
 pub use shop::{ENTRIES, NUM_SLOTS, Requirement, Shop, Slot};
 pub use shopper::{Shopper, Step, WISHES};
+pub use stage::{STAGE_BYTES, Stage};
 pub use text::BadText;
 pub use view::{Block, Command, Expr, Op1, Op2};

@@ -35,6 +35,28 @@ static void expect_rights(const lk_sheet *sheet, const lk_shop *start) {
     expect(lk_shop_show(&rights, &seen, 0) == LK_ACCEPTED && seen.items[0] == -1 && seen.lens[0] == 0, "user 0 sees nothing");
 }
 
+/* The file of a stage: the script with a sheet of eight items, and setup block 0; then with an item too few for Timer15. */
+static void expect_stage(const lk_sheet *sheet) {
+    static lk_stage stage, back;
+    static uint8_t file[LK_STAGE_BYTES + 1], again[LK_STAGE_BYTES];
+    lk_written written;
+
+    stage.sheet = *sheet;
+    stage.script = script;
+    written = lk_stage_write(&stage, file, LK_STAGE_BYTES);
+    expect(written.refusal == LK_ACCEPTED && file[0] == 8 && file[12] == 2 && file[13] == 0, "a stage written");
+    expect(lk_stage_read(&back, file, written.len) == LK_ACCEPTED && back.setup == 0, "a stage read");
+    expect(back.sheet.items == 8 && back.sheet.timer15 == 2 && back.script.blocks == script.blocks, "it is the same");
+    expect(lk_stage_write(&back, again, written.len).len == written.len && memcmp(file, again, written.len) == 0, "the same file");
+    expect(lk_stage_write(&back, again, written.len - 1).refusal == LK_SLICE_SHORT, "16 in a byte less");
+    expect(lk_stage_write(&back, again, 13).refusal == LK_SLICE_SHORT, "16 in the heading");
+    expect(lk_stage_read(&back, file, written.len - 1) == LK_BAD_IMAGE, "2 where the image is cut");
+    expect(lk_stage_read(&back, file, 13) == LK_BAD_IMAGE && back.sheet.items == 0, "2 where the heading is cut");
+    expect(lk_stage_read(&back, file, sizeof file) == LK_OVER_LIMIT, "3 for a byte more than a file may have");
+    stage.sheet.timer15 = 8;
+    expect(lk_stage_write(&stage, file, LK_STAGE_BYTES).refusal == LK_BAD_SHEET, "1 by Timer15");
+}
+
 int main(void) {
     static const uint8_t attached[8] = {0};
     static const uint32_t roots[] = {0};
@@ -79,5 +101,6 @@ int main(void) {
     expect(lk_script_write(&script, image, written.len - 1).refusal == LK_SLICE_SHORT, "16 in a byte less");
     expect(strcmp(lk_message(LK_NO_ROOM), "the compile would pass a limit of the script") == 0, "a sentence for 9");
     expect_rights(&sheet, &shop);
+    expect_stage(&sheet);
     return failed;
 }
