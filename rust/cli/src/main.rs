@@ -18,7 +18,6 @@ mod room;
 mod said;
 mod saves;
 mod sha256;
-mod stage;
 mod table;
 mod tariffs;
 mod words;

@@ -4,9 +4,8 @@ use crate::args::{Args, Opt, Takes};
 use crate::files;
 use crate::names::Names;
 use crate::said::Failure;
-use crate::stage::{STAGE_BYTES, Stage};
 use crate::table::grouped;
-use locustkeno::{Finding, Found, Loader, Refusal, Refused, Script, Shop};
+use locustkeno::{Finding, Found, Loader, Refusal, Refused, STAGE_BYTES, Script, Shop, Stage};
 
 /// Names for numbers, for the commands that show or take any.
 pub const NAMES: Opt = Opt {

@@ -1,9 +1,8 @@
 //! How full a script is, and how many presses are left.
 
 use crate::pressing::Pressing;
-use crate::stage::{STAGE_BYTES, Stage};
 use crate::table::{Side, Table, grouped};
-use locustkeno::{Loader, Refused, Room, Shop};
+use locustkeno::{Loader, Refused, Room, STAGE_BYTES, Shop, Stage};
 
 /// What is used of each limit: blocks, commands, nodes, and the bytes of the file.
 fn uses(stage: &Stage) -> Result<[(&'static str, usize, usize); 4], Refused> {

@@ -7,10 +7,9 @@ use crate::names::Names;
 use crate::pressing::{self, NAMES, forbids, names, stage};
 use crate::room;
 use crate::said::{Answer, Failure, Said, Status};
-use crate::stage::Stage;
 use crate::table::grouped;
 use crate::words;
-use locustkeno::{Loader, Refused, Shop, Slot};
+use locustkeno::{Loader, Refused, Shop, Slot, Stage};
 
 const LOADER: Opt = Opt {
     name: "--loader",
