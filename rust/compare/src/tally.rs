@@ -2,9 +2,15 @@
 
 use std::collections::BTreeMap;
 use std::fmt::Debug;
+use std::time::{Duration, Instant};
 
 /// Differences are counted; the first few are kept in words.
 const KEPT: usize = 10;
+
+/// How long a comparison is silent, and then between two reports.
+const PATIENCE: Duration = Duration::from_secs(10);
+/// The clock is looked at once in so many answers.
+const ANSWERS: u64 = 1_024;
 
 /// Counts of answers by what was compared, and the differences.
 #[derive(Default)]
@@ -12,6 +18,8 @@ pub struct Tally {
     answers: BTreeMap<&'static str, BTreeMap<u8, u64>>,
     pub differences: u64,
     pub examples: Vec<String>,
+    counted: u64,
+    told: Option<Instant>,
 }
 
 impl Tally {
@@ -23,6 +31,22 @@ impl Tally {
             .or_default()
             .entry(answer)
             .or_default() += 1;
+        self.counted += 1;
+        if self.counted.is_multiple_of(ANSWERS) {
+            self.tell();
+        }
+    }
+
+    /// Says now and then on standard error how far it is.
+    fn tell(&mut self) {
+        let told = self.told.get_or_insert_with(Instant::now);
+        if told.elapsed() >= PATIENCE {
+            *told = Instant::now();
+            eprintln!(
+                "{} answers compared, {} differences",
+                self.counted, self.differences
+            );
+        }
     }
 
     /// Holds two answers against each other. The case is only written out if they differ.

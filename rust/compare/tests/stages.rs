@@ -1,6 +1,6 @@
 //! Stages of the safe crate held against the oracle's whole program `slots`: cut, changed and random files.
 
-use locustkeno::{Refused, Stage};
+use locustkeno::Stage;
 use oracle::{calls, slots};
 use record::random::Random;
 use std::fs;
@@ -10,7 +10,7 @@ fn printed(bytes: &[u8]) -> String {
     let shop = Stage::read(bytes).and_then(|stage| stage.script.parse(&stage.sheet, stage.setup));
     match shop {
         Ok(shop) => shop.to_string(),
-        Err(Refused(number)) => format!("refused {number}\n"),
+        Err(refused) => format!("refused {}\n", refused.number()),
     }
 }
 
@@ -21,7 +21,7 @@ fn same(bytes: &[u8]) {
     let read = Stage::read(bytes);
     let theirs = slots::read(bytes);
     assert_eq!(
-        read.as_ref().err().map(|refused| refused.0),
+        read.as_ref().err().map(|refused| refused.number()),
         theirs.as_ref().err().map(|refusal| refusal.0),
         "{bytes:02x?}"
     );

@@ -43,11 +43,11 @@ impl Stage {
     /// [`STAGE_BYTES`], then 1 and 2 as the sheet and the setup number are read, then 2 to 5 of the image.
     ///
     /// ```
-    /// use locustkeno::{Refused, Stage};
-    /// assert_eq!(Stage::read(&[]).unwrap_err(), Refused(2));
+    /// use locustkeno::{Refusal, Stage};
+    /// assert_eq!(Stage::read(&[]).unwrap_err(), Refusal::BadImage);
     /// // Timer10 is Timer5.
-    /// assert_eq!(Stage::read(&[3, 0, 0, 0, 0, 1, 1]).unwrap_err(), Refused(1));
-    /// assert_eq!(Stage::read(&[0; 65_537]).unwrap_err(), Refused(3));
+    /// assert_eq!(Stage::read(&[3, 0, 0, 0, 0, 1, 1]).unwrap_err(), Refusal::BadSheet);
+    /// assert_eq!(Stage::read(&[0; 65_537]).unwrap_err(), Refusal::OverLimit);
     /// ```
     pub fn read(bytes: &[u8]) -> Result<Self, Refused> {
         let mut attached = [0; ffi::ITEMS];
@@ -70,12 +70,12 @@ impl Stage {
     /// that it was read from.
     ///
     /// ```
-    /// use locustkeno::{Item, Refused, Script, Sheet, Stage};
+    /// use locustkeno::{Item, Refusal, Refused, Script, Sheet, Stage};
     /// let sheet = Sheet::new(&[None; 3], 0, [Item(0), Item(1), Item(2)]);
     /// let stage = Stage { sheet, setup: 600, script: Script::read(&[1, 1, 1, 0, 0, 0])? };
     /// assert_eq!(stage.write()?, [3, 0, 0, 0, 0, 0, 1, 2, 0xD8, 4, 1, 1, 1, 0, 0, 0]);
     /// let sheet = Sheet::new(&[None; 2], 0, [Item(0), Item(1), Item(2)]);
-    /// assert_eq!(Stage { sheet, ..stage }.write(), Err(Refused(1)));
+    /// assert_eq!(Stage { sheet, ..stage }.write(), Err(Refusal::BadSheet.into()));
     /// # Ok::<(), Refused>(())
     /// ```
     pub fn write(&self) -> Result<Vec<u8>, Refused> {

@@ -1,6 +1,6 @@
 //! Stages as files: read, written, and what is refused.
 
-use locustkeno::{Atc, Item, Loader, Refused, STAGE_BYTES, Script, Sheet, Shop, Stage};
+use locustkeno::{Atc, Item, Loader, Refusal, Refused, STAGE_BYTES, Script, Sheet, Shop, Stage};
 use std::{fs, thread};
 
 const KILOBYTE: usize = 1 << 10;
@@ -113,7 +113,7 @@ fn sheets_at_their_limits() {
         written(3, 0, None, [1, 1, 0]),
         written(3, 0, None, [1, 0, 1]),
     ] {
-        assert_eq!(refused, Err(Refused(1)));
+        assert_eq!(refused, Err(Refusal::BadSheet.into()));
     }
 }
 
@@ -128,10 +128,13 @@ fn placeholders(count: usize) -> Vec<u8> {
 #[test]
 fn the_longest_file() {
     for bytes in [vec![0; STAGE_BYTES + 1], vec![3; STAGE_BYTES + 1]] {
-        assert_eq!(Stage::read(&bytes), Err(Refused(3)));
+        assert_eq!(Stage::read(&bytes), Err(Refusal::OverLimit.into()));
     }
     // Of a file of just that length the sheet is looked at: 0 items are too few.
-    assert_eq!(Stage::read(&vec![0; STAGE_BYTES]), Err(Refused(1)));
+    assert_eq!(
+        Stage::read(&vec![0; STAGE_BYTES]),
+        Err(Refusal::BadSheet.into())
+    );
 
     // A heading of 9 bytes, a count of 2, blocks of 20 and as many placeholders as there is room left for.
     let blocks = (STAGE_BYTES - 9 - 2) / 20;
@@ -155,7 +158,7 @@ fn the_longest_file() {
     let bytes = stage(0).write().unwrap();
     assert_eq!(bytes.len(), STAGE_BYTES);
     assert_eq!(Stage::read(&bytes), Ok(stage(0)));
-    assert_eq!(stage(1).write(), Err(Refused(16)));
+    assert_eq!(stage(1).write(), Err(Refusal::SliceShort.into()));
 }
 
 /// A script that is not accepted, and the order of the refusals: 1, then 2 to 5.
@@ -168,27 +171,27 @@ fn broken_records() {
         setup: 0,
         script: Script::from_arrays(arrays),
     };
-    assert_eq!(stage.write(), Err(Refused(5)));
+    assert_eq!(stage.write(), Err(Refusal::NoSuchLink.into()));
     stage.sheet = Sheet::new(&[None; 3], 0, [Item(0), Item(1), Item(3)]);
-    assert_eq!(stage.write(), Err(Refused(1)));
+    assert_eq!(stage.write(), Err(Refusal::BadSheet.into()));
 }
 
 /// Bytes left over, a setup number that is cut, and one that is not a block: reading asks nothing of it.
 #[test]
 fn the_rest_of_the_file() {
     let mut bytes = vec![3, 0, 0, 0, 0, 0, 1, 2];
-    assert_eq!(Stage::read(&bytes), Err(Refused(2)));
+    assert_eq!(Stage::read(&bytes), Err(Refusal::BadImage.into()));
     bytes.extend([0x80]);
-    assert_eq!(Stage::read(&bytes), Err(Refused(2)));
+    assert_eq!(Stage::read(&bytes), Err(Refusal::BadImage.into()));
     bytes.extend([1, 0]);
     let stage = Stage::read(&bytes).unwrap();
     assert_eq!((stage.setup, stage.script.blocks()), (128, 0));
     assert_eq!(
         stage.script.parse(&stage.sheet, stage.setup),
-        Err(Refused(6))
+        Err(Refusal::NotBlock.into())
     );
     bytes.push(0);
-    assert_eq!(Stage::read(&bytes), Err(Refused(2)));
+    assert_eq!(Stage::read(&bytes), Err(Refusal::BadImage.into()));
 }
 
 /// The largest sheet on threads with just the stack that the header promises to be enough for lk_read and lk_write: the calls for

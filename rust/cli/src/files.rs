@@ -1,0 +1,75 @@
+//! Files: read within bounds, written whole or not at all.
+
+use crate::said::Failure;
+use std::fs::{self, File, OpenOptions};
+use std::io::{self, Read, Write};
+use std::path::{Path, PathBuf};
+use std::process;
+
+/// More than any file of the week has; a device without end is not read for ever.
+const MOST: u64 = 1 << 24;
+
+/// The bytes of a file, or of standard input for `-`.
+pub fn read(file: &str) -> Result<Vec<u8>, Failure> {
+    let mut bytes = Vec::new();
+    let all = if file == "-" {
+        io::stdin().lock().take(MOST + 1).read_to_end(&mut bytes)
+    } else {
+        File::open(file).and_then(|open| open.take(MOST + 1).read_to_end(&mut bytes))
+    };
+    let len = all.map_err(|error| Failure::of(file, error))?;
+    if len as u64 > MOST {
+        return Err(Failure::of(file, format!("is longer than {MOST} bytes")));
+    }
+    Ok(bytes)
+}
+
+/// The text of a file.
+pub fn read_text(file: &str) -> Result<String, Failure> {
+    String::from_utf8(read(file)?).map_err(|_| Failure::of(file, "is not UTF-8 text"))
+}
+
+/// Where a file is to be put: behind a link its target. What is there and is no plain file, a device or a folder, is left alone.
+fn target(file: &str) -> io::Result<PathBuf> {
+    match fs::metadata(file) {
+        Ok(old) if !old.is_file() => Err(io::Error::other("is not a plain file")),
+        Ok(_) => fs::canonicalize(file),
+        Err(_) => Ok(file.into()),
+    }
+}
+
+/// A name beside the target that no other run of this program uses.
+fn beside(target: &Path) -> io::Result<PathBuf> {
+    let name = target
+        .file_name()
+        .ok_or_else(|| io::Error::other("names no file"))?;
+    let name = format!(".{}.{}.part", name.to_string_lossy(), process::id());
+    Ok(target.with_file_name(name))
+}
+
+/// Writes the bytes to the disk under a name that was not there, and gives the file the rights of the one that it replaces.
+fn fill(part: &Path, target: &Path, bytes: &[u8]) -> io::Result<()> {
+    let mut open = OpenOptions::new().write(true).create_new(true).open(part)?;
+    open.write_all(bytes)?;
+    if let Ok(old) = fs::metadata(target) {
+        open.set_permissions(old.permissions())?;
+    }
+    open.sync_all()?;
+    fs::rename(part, target)
+}
+
+fn replace(file: &str, bytes: &[u8]) -> io::Result<()> {
+    let target = target(file)?;
+    let part = beside(&target)?;
+    let filled = fill(&part, &target, bytes);
+    if filled.is_err() {
+        // What went wrong first is what is told; a part that was never made cannot be removed.
+        let _ = fs::remove_file(&part);
+    }
+    filled
+}
+
+/// Writes a file whole or not at all: a part beside it, then renamed. Where that fails, the file is as it was and the part is removed.
+pub fn write_whole(file: &str, bytes: &[u8]) -> Result<(), Failure> {
+    replace(file, bytes).map_err(|error| Failure::of(file, error))
+}
