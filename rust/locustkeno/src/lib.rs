@@ -81,3 +81,8 @@ pub use shopper::{Shopper, Step, WISHES};
 pub use stage::{STAGE_BYTES, Stage};
 pub use text::BadText;
 pub use view::{Block, Command, Expr, Op1, Op2};
+
+/// The programs of a page, run with the tests of this documentation.
+#[cfg(doctest)]
+#[doc = include_str!("../../../docs/WEEK.md")]
+struct Week;
