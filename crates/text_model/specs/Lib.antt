@@ -1,0 +1,5 @@
+pub mod Text
+pub mod Numbers
+pub mod Lines
+pub mod Inverse
+pub mod Cases

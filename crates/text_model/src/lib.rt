@@ -1,0 +1,1 @@
+// The text of a shop read back: definitions and theorems only (specs/).

@@ -1,0 +1,5 @@
+pub mod Shops
+pub mod Told
+pub mod Numbers
+pub mod Lines
+pub mod Whole
