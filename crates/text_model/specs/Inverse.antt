@@ -1,6 +1,6 @@
 -- Printing and reading a shop undo one another: a printed shop reads back as it was, and a text that is read is the printed form of what was read. Assumes nothing.
-use mathlib.Core.Path.{_≡_, refl, ap, sym, _∙_}
-use mathlib.Core.Bool.{true, _&&_}
+use mathlib.Core.Path.{_≡_, refl, ap, sym}
+use mathlib.Core.Bool.{true}
 use mathlib.Core.List.{List, [], _∷_, _++_}
 use Prim.Native.Nat.{ℕ, zero, suc, _+_, _≤_}
 use native.Mathlib.Omega.{arith}
@@ -41,10 +41,10 @@ pub record Lines (n i : ℕ) (s : List ℕ) (xs : List Slot) : Type 0 where
   pub long : length xs ≡ n
   pub fits : all slotPrintable xs ≡ true
 
-bad≢slots : {l e : ℕ} {xs : List Slot} → _≡_ {A = ReadText} (bad l e) (slots xs) → ⊥
+pub bad≢slots : {l e : ℕ} {xs : List Slot} → _≡_ {A = ReadText} (bad l e) (slots xs) → ⊥
 bad≢slots p = let z : _≡_ {A = ℕ} 0 1 = cc in omega arith
 
-slots-same : {xs ys : List Slot} → _≡_ {A = ReadText} (slots xs) (slots ys) → xs ≡ ys
+pub slots-same : {xs ys : List Slot} → _≡_ {A = ReadText} (slots xs) (slots ys) → xs ≡ ys
 slots-same p = cc
 
 -- the first slot was put before slots that were read

@@ -1,5 +1,5 @@
 -- A line of the text: what was printed reads back, and what was read prints as it was. Assumes nothing.
-use mathlib.Core.Path.{_≡_, refl, ap, sym, _∙_}
+use mathlib.Core.Path.{_≡_, refl, ap, _∙_}
 use mathlib.Core.Bool.{Bool, true, false, cond, _&&_}
 use mathlib.Core.Option.{Option, none, some}
 use mathlib.Core.List.{List, [], _∷_, _++_, append-assoc}
@@ -20,7 +20,7 @@ use Rattle.model.specs.Signed.{inRange}
 use Rattle.model.specs.Printer.{decimal, signedDecimal, letter, requirementsText, itemText, slotLine}
 use Rattle.model.specs.Laws.Checks.{and-left, and-right}
 use Rattle.model.specs.Laws.Reading.{along, passed, refused≢got, split}
-use Rattle.text_model.specs.Text.{blankBehind, half32, itemPrintable, noItem, noLimit, noRequirement, noSlot, readFlag, readId, readItem, readNatural, readNumber, readRequirement, readRequirements, readSigned, readSlot, reqPrintable, slotPrintable}
+use Rattle.text_model.specs.Text.{blankBehind, half32, itemPrintable, noEnd, noItem, noLimit, noRequirement, noSlot, readFlag, readId, readItem, readNatural, readNumber, readRequirement, readRequirements, readSigned, readSlot, reqPrintable, slotPrintable}
 use Rattle.text_model.specs.Numbers.{NoDigit, natural-printed, natural-took, no-minus, signed-printed, signed-took}
 
 -- ---- what was printed reads back
@@ -114,21 +114,21 @@ pub record Printed (s : List ℕ) (q : Requirement) (r : List ℕ) : Type 0 wher
   pub fits : reqPrintable q ≡ true
 
 id-took : (c : ℕ) (k : ℕ → Requirement) → ((n : ℕ) → number (k n) ≡ pos n) → ((n : ℕ) → letter (k n) ≡ c) → (s : List ℕ) (q : Requirement) (r : List ℕ) → readId k s ≡ got q r → Printed (c ∷ s) q r
-id-took c k num let′ s q r g =
+id-took c k hasNumber hasLetter s q r g =
     let p = split (readNatural noRequirement half32 s) (λ n u. got (k n) u) g in
     let t = natural-took noRequirement half32 s (p .value) (p .rest) (omega arith) (omega arith) (p .first) in
     along (λ x u. Printed (c ∷ s) x u) (p .then) (record {
-      was = rw (num (p .value), let′ (p .value)) (unfold signedDecimal in ap (λ (u : List ℕ). c ∷ u) (t .0));
-      fits = rw (num (p .value)) (lt-ltb (p .value) half32 (t .1));
+      was = rw (hasNumber (p .value), hasLetter (p .value)) (unfold signedDecimal in ap (λ (u : List ℕ). c ∷ u) (t .0));
+      fits = rw (hasNumber (p .value)) (lt-ltb (p .value) half32 (t .1));
     })
 
 flag-took : (c : ℕ) (k : ℤ → Requirement) → ((z : ℤ) → number (k z) ≡ z) → ((z : ℤ) → letter (k z) ≡ c) → (s : List ℕ) (q : Requirement) (r : List ℕ) → readFlag k s ≡ got q r → Printed (c ∷ s) q r
-flag-took c k num let′ s q r g =
+flag-took c k hasNumber hasLetter s q r g =
     let p = split (readSigned noRequirement half32 s) (λ z u. got (k z) u) g in
     let t = signed-took noRequirement half32 s (p .value) (p .rest) (omega arith) (omega arith) (p .first) in
     along (λ x u. Printed (c ∷ s) x u) (p .then) (record {
-      was = rw (num (p .value), let′ (p .value)) (ap (λ (u : List ℕ). c ∷ u) (t .0));
-      fits = rw (num (p .value)) (lt-ltb (mag (p .value)) half32 (t .1));
+      was = rw (hasNumber (p .value), hasLetter (p .value)) (ap (λ (u : List ℕ). c ∷ u) (t .0));
+      fits = rw (hasNumber (p .value)) (lt-ltb (mag (p .value)) half32 (t .1));
     })
 
 -- a letter was met, or the reader went on to the next one
@@ -172,7 +172,7 @@ requirements-took zero (c ∷ s) rs r g = or-next c 10 (got [] s) _ rs r (λ d. 
 requirements-took (suc k) [] rs r g = absurd (refused≢got g)
 requirements-took (suc k) (c ∷ s) rs r g =
     or-next c 10 (got [] s) _ rs r (λ d. PrintedAll (suc k) (d ∷ s) rs r) g (ended (suc k) s rs r) (λ h.
-    or-next c 32 _ (refused 6) rs r (λ d. PrintedAll (suc k) (d ∷ s) rs r) h (λ m. one m (λ t us v. requirements-took k t us v)) (λ m. absurd (refused≢got m)))
+    or-next c 32 _ (refused noEnd) rs r (λ d. PrintedAll (suc k) (d ∷ s) rs r) h (λ m. one m (λ t us v. requirements-took k t us v)) (λ m. absurd (refused≢got m)))
   where
     one : onward (readRequirement s) (λ q t. onward (readRequirements k t) (λ us v. got (q ∷ us) v)) ≡ got rs r
         → ((t : List ℕ) (us : List Requirement) (v : List ℕ) → readRequirements k t ≡ got us v → PrintedAll k t us v) → PrintedAll (suc k) (32 ∷ s) rs r

@@ -1,6 +1,6 @@
 -- Numbers: what was printed reads back, and what was read prints as it was. Assumes nothing.
-use mathlib.Core.Path.{_≡_, refl, ap, sym, _∙_}
-use mathlib.Core.Bool.{Bool, true, false, cond, _&&_}
+use mathlib.Core.Path.{_≡_, refl, ap, _∙_}
+use mathlib.Core.Bool.{Bool, true, false, cond}
 use mathlib.Core.List.{List, [], _∷_, _++_, append-assoc}
 use Prim.Native.Nat.{ℕ, zero, suc, _+_, _-_, _*_, _/_, _%_, _≤_, _<_}
 use native.Mathlib.Omega.{arith}
@@ -11,7 +11,7 @@ use lib.Signed.{mag}
 use Rattle.model.specs.Reading.{Answer, got, refused, onward}
 use Rattle.model.specs.Printer.{digitsTo, decimal, signedDecimal}
 use Rattle.model.specs.Laws.Checks.{and-left, and-right}
-use Rattle.model.specs.Laws.Reading.{along, got-rest, got-value, passed, refused≢got, split}
+use Rattle.model.specs.Laws.Reading.{along, refused≢got, split}
 use Rattle.text_model.specs.Text.{isDigit, negative, readDigits, readNatural, readSigned}
 
 -- ---- digits
