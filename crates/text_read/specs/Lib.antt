@@ -3,3 +3,4 @@ pub mod Told
 pub mod Numbers
 pub mod Lines
 pub mod Whole
+pub mod Back
