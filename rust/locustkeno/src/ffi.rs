@@ -143,12 +143,14 @@ pub use rights::*;
 pub use settings::*;
 pub use shopper::*;
 pub use shops::*;
+pub use text::*;
 
 mod bill;
 mod check;
 mod rights;
 mod settings;
 mod shopper;
+mod text;
 
 mod shops {
     use super::Kept;

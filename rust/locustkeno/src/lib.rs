@@ -48,5 +48,5 @@ pub use settings::Settings;
 pub use sheet::{Atc, Item, Sheet};
 pub use shop::{ENTRIES, NUM_SLOTS, Requirement, Shop, Slot};
 pub use shopper::{Shopper, Step, WISHES};
-pub use text::BadText;
+pub use text::{BadText, TextReason};
 pub use view::{Block, Command, Expr, Op1, Op2};
