@@ -259,14 +259,15 @@ mod plain {
     }
 }
 
-/// One byte of a text put in, taken out or changed.
+/// One byte of a text put in, taken out or changed, or put behind it.
 fn mutate(text: &mut Vec<u8>, next: &mut impl FnMut(u32) -> u32) {
     let bytes = b" \n-0123456789IiAaFfx\r\xFF";
     let byte = bytes[next(bytes.len() as u32) as usize];
     let at = next(text.len() as u32) as usize;
-    match next(3) {
-        0 => text.insert(at, byte),
-        1 => drop(text.remove(at)),
+    match next(30) {
+        0 => text.push(byte),
+        n if n % 3 == 0 => text.insert(at, byte),
+        n if n % 3 == 1 => drop(text.remove(at)),
         _ => text[at] = byte,
     }
 }
