@@ -280,6 +280,7 @@ pub use settings::*;
 pub use shopper::*;
 pub use shops::*;
 pub use stage::*;
+pub use text::*;
 
 mod bill;
 mod check;
@@ -288,3 +289,4 @@ mod settings;
 mod shopper;
 mod shops;
 mod stage;
+mod text;

@@ -79,7 +79,7 @@ pub use sheet::{Atc, Item, Sheet};
 pub use shop::{Codes, ENTRIES, NUM_SLOTS, Shop, ShopArrays, Slot};
 pub use shopper::{Shopper, Step, WISHES};
 pub use stage::{STAGE_BYTES, Stage};
-pub use text::BadText;
+pub use text::{BadText, TextReason};
 pub use view::{Block, Command, Expr, Op1, Op2};
 
 /// The programs of a page, run with the tests of this documentation.

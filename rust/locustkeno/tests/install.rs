@@ -53,12 +53,7 @@ fn built_and_run(folder: &Path, compiler: &str, language: &[&str]) {
         .status()
         .expect("a compiler is there");
     assert!(built.success(), "{compiler} does not build the program");
-    assert!(
-        Command::new(&program)
-            .status()
-            .expect("it runs")
-            .success()
-    );
+    assert!(Command::new(&program).status().expect("it runs").success());
 }
 
 #[test]

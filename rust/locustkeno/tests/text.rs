@@ -1,6 +1,6 @@
-//! Shops as text and back, and the text against what the program `slots` prints.
+//! Shops as text and back: round trips, each reason, and any bytes against a plain reader.
 
-use locustkeno::{Atc, BadText, Item, Requirement, Shop, Slot};
+use locustkeno::{Atc, BadText, Item, Requirement, Shop, Slot, TextReason};
 
 /// Small numbers that repeat, the same for every run.
 fn numbers() -> impl FnMut(u32) -> u32 {
@@ -69,26 +69,238 @@ fn only_the_printed_form_is_read() {
         "7 32768",
         "65536 1",
         "7 3 F2147483648",
+        "7 3\n",
+        "7 3\n1 - 0",
     ] {
         assert!(text.parse::<Slot>().is_err(), "{text}");
+    }
+    for text in ["", "F", "F1 F2", "F1\n", "I65536", "A-1"] {
+        assert!(text.parse::<Requirement>().is_err(), "{text}");
+    }
+}
+
+/// The text of the empty shop with another line for one slot.
+fn with_line(i: usize, line: &str) -> String {
+    let mut lines: Vec<String> = (0..20).map(|i| format!("{i} - 0\n")).collect();
+    lines[i] = line.to_owned();
+    lines.concat()
+}
+
+fn refused(text: &str) -> (usize, u8) {
+    let bad = text.parse::<Shop>().expect_err(text);
+    (bad.line, bad.reason.number())
+}
+
+#[test]
+fn each_reason_is_told() {
+    assert_eq!(refused(""), (1, 1));
+    for (line, reason) in [
+        ("3 - 0\n", 1),
+        ("04 - 0\n", 1),
+        ("4\n", 1),
+        ("4 x 0\n", 2),
+        ("4 65536 0\n", 2),
+        ("4 007 0\n", 2),
+        ("4 -\n", 2),
+        ("4 - x\n", 3),
+        ("4 - -0\n", 3),
+        ("4 - 32768\n", 3),
+        ("4 - -32769\n", 3),
+        ("4 - 0 Q9\n", 4),
+        ("4 - 0 I-1\n", 4),
+        ("4 - 0 \n", 4),
+        ("4 - 0 F2147483648\n", 4),
+        ("4 - 0 F-2147483649\n", 4),
+        ("4 - 0 I65536\n", 4),
+        ("4 - 0 A2147483647\n", 4),
+        ("4 - 0 F1 F2 F3 F4 F5 F6 F7 F8 F9 F1 F2 F3 F4 F5 F6\n", 5),
+        ("4 - 007\n", 6),
+        ("4 - 0 F1x\n", 6),
+        ("4 - 0\r\n", 6),
+    ] {
+        assert_eq!(refused(&with_line(4, line)), (5, reason), "{line}");
+    }
+    assert_eq!(refused(&with_line(19, "19 - 0")), (20, 6));
+    assert_eq!(refused(&with_line(19, "19 - 0\n\n")), (21, 7));
+}
+
+#[test]
+fn bounds_are_read() {
+    for line in [
+        "4 65535 32767\n",
+        "4 0 -32768\n",
+        "4 - 0 F2147483647 f-2147483648 I65535 a0\n",
+        "4 - 0 F1 F2 F3 F4 F5 F6 F7 F8 F9 F1 F2 F3 F4 F5\n",
+    ] {
+        let text = with_line(4, line);
+        assert_eq!(text.parse::<Shop>().expect(line).to_string(), text);
     }
 }
 
 #[test]
 fn the_line_and_the_reason_are_told() {
-    let mut lines: Vec<String> = (0..20).map(|i| format!("{i} - 0")).collect();
-    lines[4] = "4 7 3 F2 Q9".into();
-    let bad = lines.join("\n").parse::<Shop>().unwrap_err();
-    let due = "a requirement, a letter of IiAaFf and a number".to_owned();
+    let bad = with_line(4, "4 7 3 F2 Q9\n").parse::<Shop>().unwrap_err();
+    let expected = BadText {
+        line: 5,
+        found: "4 7 3 F2 Q9".into(),
+        reason: TextReason::NoRequirement,
+    };
+    assert_eq!(bad, expected);
     assert_eq!(
-        bad,
-        BadText {
-            line: 5,
-            found: "Q9".into(),
-            due
-        }
+        bad.to_string(),
+        "line 5: `4 7 3 F2 Q9`: a requirement is a letter of IiAaFf and a number"
     );
-    lines[4] = "4 - 0".into();
-    lines.push("20 - 0".into());
-    assert_eq!(lines.join("\n").parse::<Shop>().unwrap_err().line, 21);
+}
+
+#[test]
+fn entries_past_the_last_are_not_printed() {
+    let slot = Slot {
+        requirements: vec![Requirement::HaveFlag(1); 15],
+        ..Slot::default()
+    };
+    let shop = Shop::with_slots([slot]);
+    assert_eq!(shop.slots()[0].requirements.len(), 14);
+    assert_eq!(shop.to_string(), Shop::with_slots(shop.slots()).to_string());
+}
+
+/// A reader of the text that was written from its description, without the library.
+mod plain {
+    use locustkeno::{Atc, Item, Requirement, Slot};
+
+    type Part<'a, T> = Option<(T, &'a [u8])>;
+
+    /// No 0 in front, and below the bound.
+    fn natural(s: &[u8], below: i64) -> Part<'_, i64> {
+        if s.first() == Some(&b'0') {
+            return Some((0, &s[1..]));
+        }
+        let digits = s.iter().take_while(|b| b.is_ascii_digit()).count();
+        let value: i64 = std::str::from_utf8(&s[..digits]).ok()?.parse().ok()?;
+        (value < below).then_some((value, &s[digits..]))
+    }
+
+    fn signed(s: &[u8], below: i64) -> Part<'_, i64> {
+        let Some(rest) = s.strip_prefix(b"-") else {
+            return natural(s, below);
+        };
+        let (value, rest) = natural(rest, below + 1)?;
+        (value > 0).then_some((-value, rest))
+    }
+
+    fn item(s: &[u8]) -> Part<'_, Option<Item>> {
+        if let Some(rest) = s.strip_prefix(b"- ") {
+            return Some((None, rest));
+        }
+        let (value, rest) = natural(s, 1 << 16)?;
+        Some((Some(Item(value as u16)), rest.strip_prefix(b" ")?))
+    }
+
+    /// A requirement, and whether its id is over 16 bits.
+    fn requirement(s: &[u8]) -> Part<'_, (Requirement, bool)> {
+        let (letter, rest) = s.split_first()?;
+        let is_flag = letter.eq_ignore_ascii_case(&b'f');
+        let (n, rest) = if is_flag {
+            signed(rest, 1 << 31)?
+        } else {
+            natural(rest, 1 << 31)?
+        };
+        let (item, atc) = (Item(n as u16), Atc(n as u16));
+        let is = match letter {
+            b'I' => Requirement::HaveItem(item),
+            b'i' => Requirement::MissingItem(item),
+            b'A' => Requirement::HaveAtc(atc),
+            b'a' => Requirement::MissingAtc(atc),
+            b'F' => Requirement::HaveFlag(n as i32),
+            b'f' => Requirement::MissingFlag(n as i32),
+            _ => return None,
+        };
+        Some(((is, !is_flag && n > 65_535), rest))
+    }
+
+    /// The slot of a line, whether an id of it is over 16 bits, and what follows the line; or the reason.
+    fn line(i: usize, s: &[u8]) -> Result<((Slot, bool), &[u8]), u8> {
+        let rest = s.strip_prefix(format!("{i} ").as_bytes()).ok_or(1)?;
+        let (item, rest) = item(rest).ok_or(2)?;
+        let (limit, mut rest) = signed(rest, 1 << 15).ok_or(3)?;
+        let (mut requirements, mut wide) = (Vec::new(), false);
+        while let Some(next) = rest.strip_prefix(b" ") {
+            if requirements.len() == 14 {
+                return Err(5);
+            }
+            let ((requirement, is_wide), next) = requirement(next).ok_or(4)?;
+            requirements.push(requirement);
+            (wide, rest) = (wide | is_wide, next);
+        }
+        let rest = rest.strip_prefix(b"\n").ok_or(6)?;
+        let limit = limit as i16;
+        let slot = Slot {
+            item,
+            limit,
+            requirements,
+        };
+        Ok(((slot, wide), rest))
+    }
+
+    /// The slots, or the line and the reason.
+    pub fn shop(mut s: &[u8]) -> Result<Vec<Slot>, (usize, u8)> {
+        let (mut slots, mut first_wide) = (Vec::new(), None);
+        for i in 0..20 {
+            let ((slot, wide), rest) = line(i, s).map_err(|reason| (i + 1, reason))?;
+            if wide && first_wide.is_none() {
+                first_wide = Some((i + 1, 4));
+            }
+            slots.push(slot);
+            s = rest;
+        }
+        match first_wide {
+            _ if !s.is_empty() => Err((21, 7)),
+            Some(wide) => Err(wide),
+            None => Ok(slots),
+        }
+    }
+}
+
+/// One byte of a text put in, taken out or changed, or put behind it.
+fn mutate(text: &mut Vec<u8>, next: &mut impl FnMut(u32) -> u32) {
+    let bytes = b" \n-0123456789IiAaFfx\r\xFF";
+    let byte = bytes[next(bytes.len() as u32) as usize];
+    let at = next(text.len() as u32) as usize;
+    match next(30) {
+        0 => text.push(byte),
+        n if n % 3 == 0 => text.insert(at, byte),
+        n if n % 3 == 1 => drop(text.remove(at)),
+        _ => text[at] = byte,
+    }
+}
+
+#[test]
+fn any_bytes_are_read_as_a_plain_reader_reads_them() {
+    let mut next = numbers();
+    let (mut read, mut reasons) = (0, [0; 8]);
+    for _ in 0..100_000 {
+        let count = next(6) as usize;
+        let shop = Shop::with_slots((0..count).map(|_| slot(&mut next)).collect::<Vec<_>>());
+        let mut text = shop.to_string().into_bytes();
+        for _ in 0..next(3) {
+            mutate(&mut text, &mut next);
+        }
+        let told = Shop::from_text(&text);
+        if let Ok(shop) = &told {
+            assert_eq!(shop.to_string().as_bytes(), text);
+            read += 1;
+        }
+        let told = told.map(|shop| shop.slots());
+        let told = told.map_err(|bad| (bad.line, bad.reason.number()));
+        if let Err((_, reason)) = told {
+            reasons[usize::from(reason)] += 1;
+        }
+        assert_eq!(
+            told,
+            plain::shop(&text),
+            "{}",
+            String::from_utf8_lossy(&text)
+        );
+    }
+    assert!(read > 10_000, "{read}");
+    assert!(reasons[1..].iter().all(|n| *n > 10), "{reasons:?}");
 }
