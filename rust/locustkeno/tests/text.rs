@@ -152,15 +152,20 @@ fn the_line_and_the_reason_are_told() {
     );
 }
 
+/// Nothing that was given is left out, though the library prints no such shop and reads no such text.
 #[test]
-fn entries_past_the_last_are_not_printed() {
+fn entries_past_the_last_are_shown() {
     let slot = Slot {
-        requirements: vec![Requirement::HaveFlag(1); 15],
+        requirements: vec![Requirement::HaveFlag(1); 15].into(),
         ..Slot::default()
     };
-    let shop = Shop::with_slots([slot]);
-    assert_eq!(shop.slots()[0].requirements.len(), 14);
-    assert_eq!(shop.to_string(), Shop::with_slots(shop.slots()).to_string());
+    let text = Shop::with_slots([slot]).to_string();
+    assert_eq!(
+        text.lines().next(),
+        Some(&*format!("0 - 0{}", " F1".repeat(15)))
+    );
+    let bad = text.parse::<Shop>().unwrap_err();
+    assert_eq!((bad.line, bad.reason), (1, TextReason::ManyRequirements));
 }
 
 /// A reader of the text that was written from its description, without the library.
@@ -236,7 +241,7 @@ mod plain {
         let slot = Slot {
             item,
             limit,
-            requirements,
+            requirements: requirements.into(),
         };
         Ok(((slot, wide), rest))
     }
@@ -289,14 +294,16 @@ fn any_bytes_are_read_as_a_plain_reader_reads_them() {
             assert_eq!(shop.to_string().as_bytes(), text);
             read += 1;
         }
-        let told = told.map(|shop| shop.slots());
+        // As lines, in which the order of requirements shows.
+        let lines = |slots: &[Slot]| slots.iter().map(Slot::to_string).collect::<Vec<_>>();
+        let told = told.map(|shop| lines(shop.slots()));
         let told = told.map_err(|bad| (bad.line, bad.reason.number()));
         if let Err((_, reason)) = told {
             reasons[usize::from(reason)] += 1;
         }
         assert_eq!(
             told,
-            plain::shop(&text),
+            plain::shop(&text).map(|slots| lines(&slots)),
             "{}",
             String::from_utf8_lossy(&text)
         );
