@@ -195,7 +195,8 @@ module _ (d : Head) (low : d .setup < wide) (out : List ℕ) (w : Written) (out�
       let e : readHead s ≡ got d image = ap (λ (b : List ℕ). readHead (b ++ image)) bytes-are ∙ written-read d (was .0) low image in
       let q : told r ks′ ≡ toldOf s ks (got d image) = p ∙ rw (le-leb (length s) inputLimit l, e) in
       let n : r ≡ numbersOf s d image = ap (λ (x : Told). x .answer) q in
-      let k : ks′ ≡ map entryOf (d .sheet .atcOf) ++ drop (itemCount (d .sheet)) ks = ap (λ (x : Told). x .attached) q in
-      (ap (λ (x : Headed). x .refusal) n,
-      ap (λ (x : Headed). x .at) n ∙ omega (arith, length-append (take (w .len) out′) image, ap length bytes-are, length-is),
-      ap₂ headIn n k ∙ same-head d s image (drop (itemCount (d .sheet)) ks))
+      let k : ks′ ≡ map entryOf (d .sheet .atcOf) ++ drop (itemCount (d .sheet)) ks = ap (λ (x : Told). x .attached) q in (
+        ap (λ (x : Headed). x .refusal) n,
+        ap (λ (x : Headed). x .at) n ∙ omega (arith, length-append (take (w .len) out′) image, ap length bytes-are, length-is),
+        ap₂ headIn n k ∙ same-head d s image (drop (itemCount (d .sheet)) ks),
+      )

@@ -136,34 +136,40 @@ module _ (d : Head) (ok : sheetOk (d .sheet) ≡ true) (low : d .setup < wide) (
 
 -- ---- read, then written
 
+-- a number that a test let through: the bytes before the others are its own
+record Taken {A : Type 0} (f : ℕ → List ℕ → Answer A) (s : List ℕ) (x : A) (r : List ℕ) : Type 0 where
+  value : ℕ
+  rest : List ℕ
+  bytes : s ≡ word value ++ rest
+  then : f value rest ≡ got x r
+
+taken : {A : Type 0} (ok : ℕ → Bool) (f : ℕ → List ℕ → Answer A) (s : List ℕ) {x : A} {r : List ℕ} → onward (number wide s) (λ k t. must (ok k) (f k t)) ≡ got x r → Taken f s x r
+taken ok f s e =
+    let u = split (number wide s) (λ k t. must (ok k) (f k t)) e in
+    record { value = u .value; rest = u .rest; bytes = write-number wide s (u .value) (u .rest) (u .first); then = let-through (ok (u .value)) (f (u .value) (u .rest)) (u .then) .1 }
+
+-- one number more in front
+before : (k : ℕ) {s t u : List ℕ} → s ≡ word k ++ t → t ≡ u → s ≡ word k ++ u
+before k e f = e ∙ ap (λ (l : List ℕ). word k ++ l) f
+
 same-atcs : (n m : ℕ) (s : List ℕ) {xs : List (Option ℕ)} {r : List ℕ} → readAtcs n m s ≡ got xs r → (length xs ≡ n) × (s ≡ atcsBytes xs ++ r)
 unfolding readAtcs atcsBytes
 same-atcs zero m s e = along (λ ys t. (length ys ≡ 0) × (s ≡ atcsBytes ys ++ t)) e (refl, refl)
 same-atcs (suc n) m s e =
-    let u = split (number wide s) _ e in
-    let t = let-through (leb (u .value) m) _ (u .then) in
-    let v = split (readAtcs n m (u .rest)) _ (t .1) in
+    let u = taken (λ k. leb k m) _ s e in
+    let v = split (readAtcs n m (u .rest)) _ (u .then) in
     let w = same-atcs n m (u .rest) (v .first) in
-    along (λ ys r. (length ys ≡ suc n) × (s ≡ atcsBytes ys ++ r)) (v .then)
-    (ap suc (w .0), rw (append-assoc, entry-number (u .value)) (write-number wide s (u .value) (u .rest) (u .first) ∙ ap (λ (l : List ℕ). word (u .value) ++ l) (w .1)))
+    along (λ ys r. (length ys ≡ suc n) × (s ≡ atcsBytes ys ++ r)) (v .then) (ap suc (w .0), rw (append-assoc, entry-number (u .value)) (before (u .value) (u .bytes) (w .1)))
 
 same-timers : (xs : List (Option ℕ)) (m : ℕ) (s : List ℕ) {h : Sheet.Sheet} {r : List ℕ} → readTimers xs m s ≡ got h r
     → (h .atcOf ≡ xs) × (h .atcCount ≡ m) × (s ≡ word (h .timer5) ++ (word (h .timer10) ++ (word (h .timer15) ++ r)))
 unfolding readTimers
 same-timers xs m s e =
-    let u = split (number wide s) _ e in
-    let a = let-through (ltb (u .value) (length xs)) _ (u .then) in
-    let v = split (number wide (u .rest)) _ (a .1) in
-    let b = let-through (ltb (v .value) (length xs) && not (eqb (v .value) (u .value))) _ (v .then) in
-    let w = split (number wide (v .rest)) _ (b .1) in
-    let c = let-through (ltb (w .value) (length xs) && (not (eqb (w .value) (u .value)) && not (eqb (w .value) (v .value)))) _ (w .then) in
-    along (λ h r. (h .atcOf ≡ xs) × (h .atcCount ≡ m) × (s ≡ word (h .timer5) ++ (word (h .timer10) ++ (word (h .timer15) ++ r)))) (c .1) (
-      refl,
-      refl,
-      write-number wide s (u .value) (u .rest) (u .first)
-          ∙ ap (λ (l : List ℕ). word (u .value) ++ l) (write-number wide (u .rest) (v .value) (v .rest) (v .first))
-          ∙ ap (λ (l : List ℕ). word (u .value) ++ (word (v .value) ++ l)) (write-number wide (v .rest) (w .value) (w .rest) (w .first)),
-    )
+    let u = taken (λ a. ltb a (length xs)) _ s e in
+    let v = taken (λ b. ltb b (length xs) && not (eqb b (u .value))) _ (u .rest) (u .then) in
+    let w = taken (λ c. ltb c (length xs) && (not (eqb c (u .value)) && not (eqb c (v .value)))) _ (v .rest) (v .then) in
+    along (λ h r. (h .atcOf ≡ xs) × (h .atcCount ≡ m) × (s ≡ word (h .timer5) ++ (word (h .timer10) ++ (word (h .timer15) ++ r)))) (w .then)
+    (refl, refl, before (u .value) (u .bytes) (before (v .value) (v .bytes) (w .bytes)))
 
 -- the counts and the atcs are those of the sheet
 of-sheet : (h : Sheet.Sheet) (n m : ℕ) (xs : List (Option ℕ)) (s t : List ℕ) → h .atcOf ≡ xs → h .atcCount ≡ m → length xs ≡ n
@@ -174,17 +180,13 @@ same-sheet : (s : List ℕ) {h : Sheet.Sheet} {r : List ℕ} → readSheet s ≡
     → s ≡ word (itemCount h) ++ (word (h .atcCount) ++ (atcsBytes (h .atcOf) ++ (word (h .timer5) ++ (word (h .timer10) ++ (word (h .timer15) ++ r)))))
 unfolding readSheet
 same-sheet s {h} {r} e =
-    let u = split (number wide s) _ e in
-    let a = let-through (leb fewestItems (u .value) && leb (u .value) mostItems) _ (u .then) in
-    let v = split (number wide (u .rest)) _ (a .1) in
-    let b = let-through (leb (v .value) mostAtcs) _ (v .then) in
-    let w = split (readAtcs (u .value) (v .value) (v .rest)) _ (b .1) in
+    let u = taken (λ n. leb fewestItems n && leb n mostItems) _ s e in
+    let v = taken (λ m. leb m mostAtcs) _ (u .rest) (u .then) in
+    let w = split (readAtcs (u .value) (v .value) (v .rest)) _ (v .then) in
     let k = same-atcs (u .value) (v .value) (v .rest) (w .first) in
     let t = same-timers (w .value) (v .value) (w .rest) (w .then) in
     of-sheet h (u .value) (v .value) (w .value) s (word (h .timer5) ++ (word (h .timer10) ++ (word (h .timer15) ++ r))) (t .0) (t .1) (k .0)
-    (write-number wide s (u .value) (u .rest) (u .first)
-    ∙ ap (λ (l : List ℕ). word (u .value) ++ l) (write-number wide (u .rest) (v .value) (v .rest) (v .first))
-    ∙ ap (λ (l : List ℕ). word (u .value) ++ (word (v .value) ++ l)) (k .1 ∙ ap (λ (l : List ℕ). atcsBytes (w .value) ++ l) (t .2)))
+    (before (u .value) (u .bytes) (before (v .value) (v .bytes) (k .1 ∙ ap (λ (l : List ℕ). atcsBytes (w .value) ++ l) (t .2))))
 
 pub read-then-written : (s : List ℕ) (d : Head) (r : List ℕ) → readHead s ≡ got d r → s ≡ headBytes d ++ r
 unfolding readHead headBytes

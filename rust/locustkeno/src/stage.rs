@@ -21,7 +21,7 @@ pub const STAGE_BYTES: usize = 65_536;
 /// let mut stage = Stage::read(&worked)?;
 /// assert_eq!((stage.sheet.items(), stage.setup, stage.script.blocks()), (4, 0, 1));
 /// let shop = stage.script.parse(&stage.sheet, stage.setup)?;
-/// assert_eq!(shop.slots()[0], Slot { item: Some(Item(3)), limit: 1, requirements: vec![] });
+/// assert_eq!(shop.slots()[0], Slot { item: Some(Item(3)), limit: 1, ..Slot::default() });
 /// // Written again it is the same file; with a shop compiled into it, it reads back as it is then.
 /// assert_eq!(stage.write()?, worked);
 /// stage.script.compile(&stage.sheet, Loader::Disc, stage.setup, &shop)?;
