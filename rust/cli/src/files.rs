@@ -47,9 +47,8 @@ fn beside(target: &Path) -> io::Result<PathBuf> {
     Ok(target.with_file_name(name))
 }
 
-/// Writes the bytes to the disk under a name that was not there, and gives the file the rights of the one that it replaces.
-fn fill(part: &Path, target: &Path, bytes: &[u8]) -> io::Result<()> {
-    let mut open = OpenOptions::new().write(true).create_new(true).open(part)?;
+/// Fills the part, gives it the rights of the file that it replaces, and puts it in that file's place when it is on the disk.
+fn fill(mut open: File, part: &Path, target: &Path, bytes: &[u8]) -> io::Result<()> {
     open.write_all(bytes)?;
     if let Ok(old) = fs::metadata(target) {
         open.set_permissions(old.permissions())?;
@@ -61,9 +60,14 @@ fn fill(part: &Path, target: &Path, bytes: &[u8]) -> io::Result<()> {
 fn replace(file: &str, bytes: &[u8]) -> io::Result<()> {
     let target = target(file)?;
     let part = beside(&target)?;
-    let filled = fill(&part, &target, bytes);
+    // A part that is there already is somebody else's.
+    let open = OpenOptions::new()
+        .write(true)
+        .create_new(true)
+        .open(&part)?;
+    let filled = fill(open, &part, &target, bytes);
     if filled.is_err() {
-        // What went wrong first is what is told; a part that was never made cannot be removed.
+        // What went wrong first is what is told.
         let _ = fs::remove_file(&part);
     }
     filled

@@ -57,25 +57,40 @@ fn printed_line(line: &Line, names: &Names) -> Result<String, BadLine> {
         .map_err(|why| line.bad(why))
 }
 
-/// Which line of the text the library's refusal is about: past the last one, the line behind it.
-fn place(bad: &BadText, numbers: &[usize]) -> usize {
-    let behind = numbers.last().map_or(1, |last| last + 1);
-    let line = bad.line.checked_sub(1).and_then(|at| numbers.get(at));
-    line.copied().unwrap_or(behind)
+/// What the library's refusal says of the text: the line as it stands there; past the last one, the line behind it.
+fn told(bad: BadText, printed: &str, lines: &[Line]) -> BadLine {
+    let behind = lines.last().map_or(1, |last| last.number + 1);
+    let at = bad.line.saturating_sub(1);
+    let Some(line) = lines.get(at) else {
+        let why = BadText { line: 0, ..bad }.to_string();
+        return BadLine { line: behind, why };
+    };
+    let found = if printed.lines().nth(at) == Some(&bad.found) {
+        line.words.join(" ")
+    } else {
+        bad.found
+    };
+    line.bad(
+        BadText {
+            line: 0,
+            found,
+            ..bad
+        }
+        .to_string(),
+    )
 }
 
 /// Reads a shop from its text, with names or without.
 pub fn read(text: &str, names: &Names) -> Result<Shop, BadLine> {
-    let (mut printed, mut numbers) = (String::new(), Vec::new());
-    for line in lines(text) {
-        printed += &printed_line(&line, names)?;
+    let lines: Vec<Line> = lines(text).collect();
+    let mut printed = String::new();
+    for line in &lines {
+        printed += &printed_line(line, names)?;
         printed.push('\n');
-        numbers.push(line.number);
     }
-    printed.parse().map_err(|bad: BadText| BadLine {
-        line: place(&bad, &numbers),
-        why: BadText { line: 0, ..bad }.to_string(),
-    })
+    printed
+        .parse()
+        .map_err(|bad: BadText| told(bad, &printed, &lines))
 }
 
 /// The text of a shop with names; without any, [`Shop`]'s own printing is the text.
@@ -131,7 +146,9 @@ mod tests {
             (told.line, told.why.as_str()),
             (5, "there is no item with the name `comb`")
         );
-        assert_eq!(bad("# a\n0 7 3\n# b\n2 - 0\n").line, 4);
+        let told = bad("# a\n0 7 3\n# b\n2 toothbrush 0\n");
+        assert_eq!(told.line, 4);
+        assert!(told.why.starts_with("`2 toothbrush 0`"), "{}", told.why);
         assert_eq!(bad("0 7 3\n1 7 03\n").line, 2);
         assert_eq!(
             bad("0 7 3 time:2").why,
