@@ -3,12 +3,8 @@
  * Every call answers with a refusal's number from documents 01 and 02, or 0. A slice is a pointer and a length; where the
  * length is 0 the pointer must still not be null. What is written to must not overlap anything else that is handed in.
  * No call keeps a pointer, allocates, or has any state of its own: threads may call at the same time on different memory.
- * On the largest and nastiest scripts 32 kilobytes of stack were enough for lk_read, lk_preview, lk_edit and lk_show, 160 for
- * lk_write, lk_run and lk_compile, 512 for lk_parse, 768 for lk_reclaim (rust/locustkeno/tests/stack.rs).
- * On the largest and nastiest scripts 32 kilobytes of stack were enough for lk_read, lk_preview and lk_bill, 160 for lk_write,
- * lk_run and lk_compile, 512 for lk_parse, 768 for lk_reclaim (rust/locustkeno/tests/stack.rs).
- * On the largest and nastiest scripts 32 kilobytes of stack were enough for lk_read and lk_preview, 160 for lk_write, lk_run
- * and lk_compile, 512 for lk_parse and lk_run_all, 768 for lk_reclaim (rust/locustkeno/tests/stack.rs).
+ * On the largest and nastiest scripts 32 kilobytes of stack were enough for lk_read, lk_preview, lk_edit, lk_show and lk_bill, 160
+ * for lk_write, lk_run and lk_compile, 512 for lk_parse and lk_run_all, 768 for lk_reclaim (rust/locustkeno/tests/stack.rs).
  *
  * A script is four arrays and three kept counts:
  *   ws   nodes: code, left operand, right operand at 3n, 3n + 1, 3n + 2
