@@ -137,6 +137,17 @@ fn bounds_are_read() {
     }
 }
 
+/// What the program `slots` printed.
+#[test]
+fn samples_read_back() {
+    for text in [
+        include_str!("../../../samples/worked.txt"),
+        include_str!("../../../samples/shop.txt"),
+    ] {
+        assert_eq!(text.parse::<Shop>().expect(text).to_string(), text);
+    }
+}
+
 #[test]
 fn the_line_and_the_reason_are_told() {
     let bad = with_line(4, "4 7 3 F2 Q9\n").parse::<Shop>().unwrap_err();
