@@ -309,6 +309,37 @@ lk_headed lk_read_heading(const uint8_t *bytes, size_t bytes_len, uint8_t attach
 lk_written lk_write_heading(const uint8_t *attached, size_t attached_len, uint16_t atcs, uint16_t timer5, uint16_t timer10,
                             uint16_t timer15, uint32_t setup, uint8_t *out, size_t out_len);
 
+/* A shop as text: twenty lines, as the program slots prints them (docs/FORMAT.md). */
+
+/* The bytes that the text of any shop fits into. */
+#define LK_TEXT 16384
+
+/* Why a line is none, in the order in which a line is read: its slot's number, its item, its limit, a requirement, more
+ * requirements than LK_ENTRIES, something else than a blank or the line's end, and text behind the last line. */
+#define LK_TEXT_READ 0
+#define LK_TEXT_NO_SLOT 1
+#define LK_TEXT_NO_ITEM 2
+#define LK_TEXT_NO_LIMIT 3
+#define LK_TEXT_NO_REQUIREMENT 4
+#define LK_TEXT_MANY_REQUIREMENTS 5
+#define LK_TEXT_NO_END 6
+#define LK_TEXT_MORE 7
+
+/* LK_TEXT_READ and 0, or the reason and the line, counted from 1. */
+typedef struct {
+    uint8_t reason, line;
+} lk_text_read;
+
+/* The shop of a text, any bytes. Refused, the arrays stay as they were. 64 kilobytes of stack are enough for this call and the
+ * next (rust/locustkeno/tests/text.rs). */
+lk_text_read lk_read_shop(const uint8_t *text, size_t text_len, int32_t items[LK_SLOTS], int16_t limits[LK_SLOTS],
+                          uint64_t codes[LK_SLOTS * LK_ENTRIES], uint8_t lens[LK_SLOTS]);
+
+/* The text of a shop from the start of out on, and how long it is; the bytes behind it stay. Where a slot has more requirements
+ * than LK_ENTRIES there is no text: 0, and out stays as it was. */
+uint32_t lk_print_shop(const int32_t items[LK_SLOTS], const int16_t limits[LK_SLOTS],
+                       const uint64_t codes[LK_SLOTS * LK_ENTRIES], const uint8_t lens[LK_SLOTS], uint8_t out[LK_TEXT]);
+
 #ifdef __cplusplus
 }
 #endif

@@ -271,6 +271,16 @@ static inline lk_checked lk_shop_check(const lk_sheet *sheet, const lk_shop *sho
                     shop->limits, shop->codes, shop->lens);
 }
 
+/* The shop of a text. Refused, the shop stays as it was. */
+static inline lk_text_read lk_shop_read(const uint8_t *text, size_t text_len, lk_shop *shop) {
+    return lk_read_shop(text, text_len, shop->items, shop->limits, shop->codes, shop->lens);
+}
+
+/* The text of a shop and how long it is, 0 where there is none. */
+static inline uint32_t lk_shop_print(const lk_shop *shop, uint8_t out[LK_TEXT]) {
+    return lk_print_shop(shop->items, shop->limits, shop->codes, shop->lens, out);
+}
+
 /* The bill of a basket by its lines, and their sum. */
 typedef struct {
     int32_t items[LK_SLOTS];

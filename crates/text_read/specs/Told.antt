@@ -47,9 +47,11 @@ abbrev pub Other : (ℕ → Bool) → List ℕ → Type 0
 Other ok [] = Unit {0}
 Other ok (c ∷ s) = ok c ≡ false
 
+-- the one byte k
 abbrev pub Is : ℕ → ℕ → Bool
 Is k c = eqb c k
 
+-- a digit, or 10 where none stands
 pub data DigitAt (s : List ℕ) (at d : ℕ) : Type 0 where
   digit : d < 10 → at < length s → drop at s ≡ (48 + d) ∷ drop (at + 1) s → DigitAt s at d
   noDigit : d ≡ 10 → Other isDigit (drop at s) → DigitAt s at d
@@ -65,7 +67,7 @@ kindFor c = cond (eqb c 73) 0 (cond (eqb c 105) 1 (cond (eqb c 65) 2 (cond (eqb 
 
 -- ---- what is told of something that is read
 
--- a reason is none of 0, and every digit is below the bound
+-- what a number is read with: a reason that is not 0, and a bound that every digit is below
 pub record Bound (e b : ℕ) : Type 0 where
   pub some : 0 < e
   pub least : 10 ≤ b
@@ -96,6 +98,7 @@ pub record IsSigned (b v : ℕ) (z : ℤ) : Type 0 where
 abbrev pub ToldSigned : List ℕ → Answer ℤ → ℕ → Read → Type 0
 ToldSigned s a b r = Told s a (IsSigned b (r .value)) (r .reason) (r .at)
 
+-- a slot's number is known before it is read
 abbrev pub Any : ℕ → Type 0
 Any n = Unit {0}
 

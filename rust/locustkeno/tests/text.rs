@@ -1,6 +1,7 @@
 //! Shops as text and back: round trips, each reason, and any bytes against a plain reader.
 
 use locustkeno::{Atc, BadText, Item, Requirement, Shop, Slot, TextReason};
+use std::thread;
 
 /// Small numbers that repeat, the same for every run.
 fn numbers() -> impl FnMut(u32) -> u32 {
@@ -134,6 +135,17 @@ fn bounds_are_read() {
     ] {
         let text = with_line(4, line);
         assert_eq!(text.parse::<Shop>().expect(line).to_string(), text);
+    }
+}
+
+/// What the program `slots` printed.
+#[test]
+fn samples_read_back() {
+    for text in [
+        include_str!("../../../samples/worked.txt"),
+        include_str!("../../../samples/shop.txt"),
+    ] {
+        assert_eq!(text.parse::<Shop>().expect(text).to_string(), text);
     }
 }
 
@@ -310,4 +322,20 @@ fn any_bytes_are_read_as_a_plain_reader_reads_them() {
     }
     assert!(read > 10_000, "{read}");
     assert!(reasons[1..].iter().all(|n| *n > 10), "{reasons:?}");
+}
+
+/// With just the stack that the header promises to be enough: too little ends the whole test program.
+#[test]
+fn stack() {
+    let slot = Slot {
+        item: Some(Item(u16::MAX)),
+        limit: i16::MIN,
+        requirements: vec![Requirement::MissingFlag(i32::MIN); 14],
+    };
+    let shop = Shop::with_slots(vec![slot; 20]);
+    thread::scope(|scope| {
+        let builder = thread::Builder::new().stack_size(64 << 10);
+        let call = builder.spawn_scoped(scope, || shop.to_string().parse());
+        assert_eq!(call.unwrap().join().unwrap(), Ok(shop.clone()));
+    });
 }

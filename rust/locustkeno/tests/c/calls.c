@@ -57,6 +57,23 @@ static void expect_stage(const lk_sheet *sheet) {
     expect(lk_stage_write(&stage, file, LK_STAGE_BYTES).refusal == LK_BAD_SHEET, "1 by Timer15");
 }
 
+/* The text of a shop read back word for word; one byte less is told by line and reason, and nothing is written. */
+static void expect_text(const lk_shop *start) {
+    static uint8_t text[LK_TEXT];
+    lk_shop shop = LK_EMPTY_SHOP;
+    lk_text_read read;
+    const uint32_t len = lk_shop_print(start, text);
+
+    expect(len > 12 && memcmp(text, "0 7 3 f40\n1 -", 13) == 0, "a printed shop");
+    read = lk_shop_read(text, len - 1, &shop);
+    expect(read.reason == LK_TEXT_NO_END && read.line == LK_SLOTS && shop.items[0] == -1, "6 in line 20 without its end");
+    read = lk_shop_read(text, len, &shop);
+    expect(read.reason == LK_TEXT_READ && read.line == 0, "a shop's text read");
+    expect(memcmp(shop.items, start->items, sizeof shop.items) == 0 && memcmp(shop.limits, start->limits, sizeof shop.limits) == 0 &&
+               memcmp(shop.codes, start->codes, sizeof shop.codes) == 0 && memcmp(shop.lens, start->lens, sizeof shop.lens) == 0,
+           "the same shop");
+}
+
 int main(void) {
     static const uint8_t attached[8] = {0};
     static const uint32_t roots[] = {0};
@@ -73,6 +90,7 @@ int main(void) {
 
     lk_shop_slot(&shop, 0, 7, 3);
     expect(lk_shop_require(&shop, 0, lk_requirement(LK_MISSING_FLAG, 40)), "room for a requirement");
+    expect_text(&shop);
     told = lk_shop_check(&sheet, &shop);
     expect(told.refusal == LK_ACCEPTED && told.slots[0].verdict == LK_FAITHFUL && told.slots[0].limit == 3, "what is printed is what runs");
     lk_script_new(&script);
