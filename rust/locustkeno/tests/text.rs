@@ -330,7 +330,7 @@ fn stack() {
     let slot = Slot {
         item: Some(Item(u16::MAX)),
         limit: i16::MIN,
-        requirements: vec![Requirement::MissingFlag(i32::MIN); 14],
+        requirements: vec![Requirement::MissingFlag(i32::MIN); 14].into(),
     };
     let shop = Shop::with_slots(vec![slot; 20]);
     thread::scope(|scope| {
