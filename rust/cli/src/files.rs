@@ -29,11 +29,27 @@ pub fn read_text(file: &str) -> Result<String, Failure> {
     String::from_utf8(read(file)?).map_err(|_| Failure::of(file, "is not UTF-8 text"))
 }
 
-/// Where a file is to be put: behind a link its target. What is there and is no plain file, a device or a folder, is left alone.
+/// Refuses to write where a file is that is only read: a text or a names file in the place of OUT would be lost.
+pub fn apart<'a>(out: &str, read: impl IntoIterator<Item = &'a str>) -> Result<(), Failure> {
+    let place = fs::canonicalize(out).ok();
+    let mut read = read.into_iter();
+    if place.is_some() && read.any(|file| fs::canonicalize(file).ok() == place) {
+        let why = "is read by this command and would be lost, name another file to write";
+        return Err(Failure::of(out, why));
+    }
+    Ok(())
+}
+
+/// Where a file is to be put: behind a link its target. What is there and is no plain file, a device or a folder, is left alone, and so
+/// are a file that nobody may write and a link that leads nowhere.
 fn target(file: &str) -> io::Result<PathBuf> {
     match fs::metadata(file) {
         Ok(old) if !old.is_file() => Err(io::Error::other("is not a plain file")),
+        Ok(old) if old.permissions().readonly() => Err(io::Error::other("is read-only")),
         Ok(_) => fs::canonicalize(file),
+        Err(_) if fs::symlink_metadata(file).is_ok() => {
+            Err(io::Error::other("is a link that leads nowhere"))
+        }
         Err(_) => Ok(file.into()),
     }
 }

@@ -445,3 +445,60 @@ fn what_is_replaced() {
     );
     week.run("diff monday.bin tuesday.bin").said(0);
 }
+
+/// A file that is only read is never written over: the text, the names, the stage that is exported or approved, its last pressing, a save.
+#[test]
+fn what_is_read_stays() {
+    let week = Week::pressed("stays");
+    for (line, out) in [
+        ("import stage.bin monday.txt monday.txt", "monday.txt"),
+        ("import stage.bin monday.txt names.txt", "names.txt"),
+        ("import stage.bin monday.txt ./monday.txt", "./monday.txt"),
+        ("export monday.bin --out monday.bin", "monday.bin"),
+        ("export monday.bin --out names.txt", "names.txt"),
+        ("approve monday.bin --out monday.bin", "monday.bin"),
+        (
+            "approve tuesday.bin monday.bin --out monday.bin",
+            "monday.bin",
+        ),
+        (
+            "approve tuesday.bin --save late=late.txt --out late.txt",
+            "late.txt",
+        ),
+    ] {
+        let why = format!("{out}: is read by this command and would be lost");
+        week.refused(&format!("{line} {NAMES}"), &[&why]);
+    }
+    // An old sheet may be replaced, and so may a stage by its next pressing.
+    week.run("approve tuesday.bin --out wrong.txt").said(0);
+    week.run(&format!("import monday.bin tuesday.txt monday.bin {NAMES}"))
+        .said(0);
+}
+
+/// A file that nobody may write stays, and so does a link that leads nowhere.
+#[cfg(unix)]
+#[test]
+fn what_is_not_replaced() {
+    use std::fs;
+    use std::os::unix::fs::{PermissionsExt, symlink};
+    let week = Week::pressed("kept");
+    fs::set_permissions(week.path("monday.bin"), fs::Permissions::from_mode(0o444)).unwrap();
+    symlink("nowhere.bin", week.path("link.bin")).unwrap();
+    symlink("round.bin", week.path("round.bin")).unwrap();
+    for (out, why) in [
+        ("monday.bin", "monday.bin: is read-only"),
+        ("link.bin", "link.bin: is a link that leads nowhere"),
+        ("round.bin", "round.bin: is a link that leads nowhere"),
+    ] {
+        week.refused(
+            &format!("import tuesday.bin tuesday.txt {out} {NAMES}"),
+            &[why],
+        );
+        week.refused(&format!("reclaim tuesday.bin {out}"), &[why]);
+        week.refused(&format!("export tuesday.bin --out {out}"), &[why]);
+    }
+    for link in ["link.bin", "round.bin"] {
+        let is = fs::symlink_metadata(week.path(link)).unwrap();
+        assert!(is.is_symlink(), "{link}");
+    }
+}

@@ -7,11 +7,11 @@ use crate::names::Names;
 use crate::page::{Page, Previewed};
 use crate::pressing::{NAMES, Pressing, names};
 use crate::said::{Answer, Failure, Said, Status};
-use crate::saves;
+use crate::saves::{self, SAVE};
 use locustkeno::Refusal;
 
 const SAVES: Opt = Opt {
-    name: "--save",
+    name: SAVE.name,
     takes: Takes::Each,
     value: "NAME=SAVE",
     about: "a preview under the settings of a file, by this name; may be given again",

@@ -80,6 +80,7 @@ fn run(args: &Args) -> Answer {
     let [file, text, out] = args.words[..] else {
         return Err(COMMAND.misused("three files are due"));
     };
+    files::apart(out, args.one(NAMES.name).into_iter().chain([text]))?;
     let (names, loader, old) = (names(args)?, loader(args)?, stage(file)?);
     let given = named::read(&files::read_text(text)?, &names);
     let given = given.map_err(|bad| Failure::at(text, &bad))?;
