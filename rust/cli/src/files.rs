@@ -5,14 +5,24 @@ use std::fs::{self, File, OpenOptions};
 use std::io::{self, Read, Write};
 use std::path::{Path, PathBuf};
 use std::process;
+use std::sync::atomic::{AtomicBool, Ordering};
 
 /// More than any file of the week has; a device without end is not read for ever.
 const MOST: u64 = 1 << 24;
 
+/// Stands for standard input.
+const INPUT: &str = "-";
+
+/// Whether standard input was read: it has nothing to say a second time.
+static INPUT_READ: AtomicBool = AtomicBool::new(false);
+
 /// The bytes of a file, or of standard input for `-`.
 pub fn read(file: &str) -> Result<Vec<u8>, Failure> {
     let mut bytes = Vec::new();
-    let all = if file == "-" {
+    let all = if file == INPUT {
+        if INPUT_READ.swap(true, Ordering::Relaxed) {
+            return Err(Failure::of(file, "standard input is read only once"));
+        }
         io::stdin().lock().take(MOST + 1).read_to_end(&mut bytes)
     } else {
         File::open(file).and_then(|open| open.take(MOST + 1).read_to_end(&mut bytes))
@@ -59,8 +69,9 @@ fn beside(target: &Path) -> io::Result<PathBuf> {
     let name = target
         .file_name()
         .ok_or_else(|| io::Error::other("names no file"))?;
-    let name = format!(".{}.{}.part", name.to_string_lossy(), process::id());
-    Ok(target.with_file_name(name))
+    // A name may be as long as the system allows; the part's has to be no longer.
+    let name: String = name.to_string_lossy().chars().take(40).collect();
+    Ok(target.with_file_name(format!(".{name}.{}.part", process::id())))
 }
 
 /// Fills the part, gives it the rights of the file that it replaces, and puts it in that file's place when it is on the disk.
@@ -74,6 +85,9 @@ fn fill(mut open: File, part: &Path, target: &Path, bytes: &[u8]) -> io::Result<
 }
 
 fn replace(file: &str, bytes: &[u8]) -> io::Result<()> {
+    if file == INPUT {
+        return Err(io::Error::other("is standard input, name a file to write"));
+    }
     let target = target(file)?;
     let part = beside(&target)?;
     // A part that is there already is somebody else's.

@@ -502,3 +502,37 @@ fn what_is_not_replaced() {
         assert!(is.is_symlink(), "{link}");
     }
 }
+
+/// Standard input is read once, and is nothing to write to.
+#[test]
+fn standard_input() {
+    let week = Week::pressed("stdin");
+    for line in [
+        "locustkeno diff - - < monday.bin",
+        "locustkeno import - - out.bin < stage.bin",
+        "locustkeno show - --names - < names.txt",
+    ] {
+        week.refused(line, &["-: standard input is read only once"]);
+    }
+    for line in [
+        "import stage.bin tuesday.txt - --names names.txt",
+        "reclaim tuesday.bin -",
+        "export tuesday.bin --out -",
+    ] {
+        week.refused(line, &["-: is standard input, name a file to write"]);
+    }
+}
+
+/// The longest name that a file may have is one that can be written.
+#[test]
+fn long_names() {
+    let week = Week::pressed("long");
+    let out = "a".repeat(255);
+    week.run(&format!("export monday.bin --out {out}")).said(0);
+    assert_eq!(week.text(&out), week.run("export monday.bin").said(0));
+    let long = "a".repeat(256);
+    week.refused(
+        &format!("export monday.bin --out {long}"),
+        &["File name too long"],
+    );
+}
