@@ -1,5 +1,6 @@
 //! Files: read within bounds, written whole or not at all.
 
+use crate::lines::BadLine;
 use crate::said::Failure;
 use std::fs::{self, File, OpenOptions};
 use std::io::{self, Read, Write};
@@ -34,9 +35,21 @@ pub fn read(file: &str) -> Result<Vec<u8>, Failure> {
     Ok(bytes)
 }
 
+/// Some editors begin a text with it; it says nothing.
+const MARK: char = '\u{FEFF}';
+
 /// The text of a file.
 pub fn read_text(file: &str) -> Result<String, Failure> {
-    String::from_utf8(read(file)?).map_err(|_| Failure::of(file, "is not UTF-8 text"))
+    let text = String::from_utf8(read(file)?).map_err(|error| {
+        let fine = &error.as_bytes()[..error.utf8_error().valid_up_to()];
+        let ends = fine.iter().filter(|byte| **byte == b'\n').count();
+        let bad = BadLine {
+            line: ends + 1,
+            why: "is not UTF-8 text".into(),
+        };
+        Failure::at(file, &bad)
+    })?;
+    Ok(text.strip_prefix(MARK).map(str::to_owned).unwrap_or(text))
 }
 
 /// Refuses to write where a file is that is only read: a text or a names file in the place of OUT would be lost.

@@ -536,3 +536,40 @@ fn long_names() {
         &["File name too long"],
     );
 }
+
+/// Whatever a file or a name has in it, what is wrong is told in one line that can be read.
+#[test]
+fn failures_are_lines() {
+    let week = Week::pressed("lines");
+    week.write("escape.txt", "0 \u{1b}[2Jcomb 3\n");
+    week.refused(
+        "check stage.bin escape.txt",
+        &["escape.txt: line 1: there is no item with the name `\\u{1b}[2Jcomb`"],
+    );
+    week.write("long.txt", format!("0 {} 3\n", "comb".repeat(500_000)));
+    let long = week.run("check stage.bin long.txt");
+    assert_eq!((long.status, long.out.as_str()), (2, ""));
+    let head = "locustkeno: long.txt: line 1: there is no item with the name `comb";
+    assert!(
+        long.err.starts_with(head) && long.err.len() < 700,
+        "{}",
+        long.err
+    );
+    let broken = "locustkeno show 'two\nlines.bin' ; exit $?";
+    week.refused(broken, &["two\\u{a}lines.bin: No such file"]);
+}
+
+/// The mark with which some editors begin a text is no part of it.
+#[test]
+fn marked_texts() {
+    let week = Week::pressed("marked");
+    for name in ["monday.txt", "names.txt"] {
+        week.write(
+            &format!("marked-{name}"),
+            format!("\u{FEFF}{}", week.text(name)),
+        );
+    }
+    week.run("import stage.bin marked-monday.txt back.bin --names marked-names.txt")
+        .said(0);
+    assert_eq!(week.read("back.bin"), week.read("monday.bin"));
+}

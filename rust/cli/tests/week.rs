@@ -34,7 +34,7 @@ fn spoil(week: &Week) {
     week.changed("monday.txt", "4 spoon", "4 500", "item.txt");
     week.changed("names.txt", "item 5 mug", "item 4 mug", "twice.txt");
     week.changed("names.txt", "atc 0 hose", "atc hose 0", "turned.txt");
-    week.write("latin.txt", [b'0', b' ', 0xE9]);
+    week.write("latin.txt", [b'#', b'\n', 0xE9]);
 }
 
 /// What is wrong with a stage file, and the refusal that tells.
@@ -87,7 +87,7 @@ number.txt --names names.txt => number.txt: line 6:
 short.txt --names names.txt => short.txt: line 22:
 order.txt --names names.txt => order.txt: line 8:
 item.txt --names names.txt => item.txt: | (refusal 8)
-latin.txt --names names.txt => latin.txt: is not UTF-8 text
+latin.txt --names names.txt => latin.txt: line 2: is not UTF-8 text
 nowhere.txt --names names.txt => nowhere.txt: No such file
 monday.txt --names twice.txt => twice.txt: line 6: item 4 was named before
 monday.txt --names turned.txt => turned.txt: line 11: `hose` is not a number
