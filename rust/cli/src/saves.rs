@@ -5,7 +5,7 @@ use crate::files;
 use crate::lines::{BadLine, Line, lines};
 use crate::names::{Kind, Names};
 use crate::said::Failure;
-use locustkeno::{NUM_SLOTS, Save, Sheet};
+use locustkeno::{NUM_SLOTS, Refusal, Refused, Save, Sheet};
 use std::str::FromStr;
 
 /// A file of settings, for the commands that take one save.
@@ -128,6 +128,17 @@ pub fn of_args(
         set(&mut save, setting, names).map_err(|why| Failure::of(setting, why))?;
     }
     Ok(save)
+}
+
+/// A refusal of a call under the save of a command, with the file that it is about: of refusal 12 that of the save and the settings.
+pub fn refused(args: &Args, refused: Refused) -> Failure {
+    let (file, settings) = (&args.words[..1], &args.words[1..]);
+    let mut about: Vec<&str> = file.to_vec();
+    if refused == Refusal::BadSave {
+        about = args.one(SAVE.name).into_iter().collect();
+        about.extend(settings);
+    }
+    Failure::of(&about.join(" "), refused)
 }
 
 #[cfg(test)]

@@ -30,10 +30,13 @@ pub const COMMAND: Command = Command {
 
 /// The previews under the saves that were named.
 fn previews(args: &Args, new: &Pressing, names: &Names) -> Result<Vec<Previewed>, Failure> {
-    let mut previews = Vec::new();
+    let mut previews: Vec<Previewed> = Vec::new();
     for given in args.all(SAVES.name) {
-        let parts = given.split_once('=');
+        let parts = given.split_once('=').filter(|(name, _)| !name.is_empty());
         let (name, file) = parts.ok_or_else(|| Failure::of(given, "is no NAME=SAVE"))?;
+        if previews.iter().any(|(before, _)| before == name) {
+            return Err(Failure::of(given, "another save has this name"));
+        }
         let save = saves::one_of_file(file, &new.stage.sheet, names)?;
         let seen = new.shop.preview(&new.stage.sheet, &save);
         // A shop that no run gets through is for the page to say; all else is wrong with the save.
