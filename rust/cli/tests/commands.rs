@@ -573,3 +573,37 @@ fn marked_texts() {
         .said(0);
     assert_eq!(week.read("back.bin"), week.read("monday.bin"));
 }
+
+/// A short text may have very many saves: they are run as they are read, in the memory of a few, and the last ones of a walk are not lost.
+#[cfg(target_os = "linux")]
+#[test]
+fn sweep_in_little_memory() {
+    let week = Week::pressed("little");
+    let saves = |many: usize| "save s\nflag:night=1\n".repeat(many);
+    for (many, told) in [
+        (1, "\n1 save\n"),
+        (64, "\n64 saves\n"),
+        (65, "\n65 saves\n"),
+        (40_000, "\n40,000 saves\n"),
+    ] {
+        week.write("many.txt", saves(many));
+        let line = format!("ulimit -v 100000; locustkeno sweep tuesday.bin many.txt {NAMES} 2>&1");
+        let ran = week.shell(&line);
+        assert_eq!((ran.status, ran.err.as_str()), (1, ""), "{}", ran.out);
+        assert!(ran.out.contains(told), "{}", ran.out);
+        // Slot 0 is listed under each of them.
+        let listed = ran.line(
+            ran.out
+                .lines()
+                .position(|line| line.contains("toothbrush"))
+                .unwrap(),
+        );
+        let listed = listed
+            .split_whitespace()
+            .nth(3)
+            .map(|count| count.replace(',', ""));
+        assert_eq!(listed, Some(many.to_string()), "{}", ran.out);
+    }
+    let line = format!("ulimit -v 100000; locustkeno preview tuesday.bin --save many.txt {NAMES}");
+    week.refused(&line, &["many.txt: has 40000 saves, one is due"]);
+}
