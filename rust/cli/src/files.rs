@@ -87,12 +87,12 @@ fn beside(target: &Path) -> io::Result<PathBuf> {
     Ok(target.with_file_name(format!(".{name}.{}.part", process::id())))
 }
 
-/// Fills the part, gives it the rights of the file that it replaces, and puts it in that file's place when it is on the disk.
+/// Gives the part the rights of the file that it replaces before anything is in it, fills it, and puts it in that file's place when it is on the disk.
 fn fill(mut open: File, part: &Path, target: &Path, bytes: &[u8]) -> io::Result<()> {
-    open.write_all(bytes)?;
     if let Ok(old) = fs::metadata(target) {
         open.set_permissions(old.permissions())?;
     }
+    open.write_all(bytes)?;
     open.sync_all()?;
     fs::rename(part, target)
 }
