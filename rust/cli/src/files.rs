@@ -3,7 +3,7 @@
 use crate::lines::BadLine;
 use crate::said::Failure;
 use std::fs::{self, File, OpenOptions};
-use std::io::{self, Read, Write};
+use std::io::{self, ErrorKind, Read, Write};
 use std::path::{Path, PathBuf};
 use std::process;
 use std::sync::atomic::{AtomicBool, Ordering};
@@ -104,10 +104,16 @@ fn replace(file: &str, bytes: &[u8]) -> io::Result<()> {
     let target = target(file)?;
     let part = beside(&target)?;
     // A part that is there already is somebody else's.
-    let open = OpenOptions::new()
-        .write(true)
-        .create_new(true)
-        .open(&part)?;
+    let open = OpenOptions::new().write(true).create_new(true).open(&part);
+    let open = open.map_err(|error| match error.kind() {
+        ErrorKind::AlreadyExists => {
+            let part = part.display();
+            io::Error::other(format!(
+                "{part}, where it is to be filled, is there already"
+            ))
+        }
+        _ => error,
+    })?;
     let filled = fill(open, &part, &target, bytes);
     if filled.is_err() {
         // What went wrong first is what is told.

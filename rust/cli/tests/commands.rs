@@ -607,3 +607,21 @@ fn sweep_in_little_memory() {
     let line = format!("ulimit -v 100000; locustkeno preview tuesday.bin --save many.txt {NAMES}");
     week.refused(&line, &["many.txt: has 40000 saves, one is due"]);
 }
+
+/// A part that another run left is told by its name, and is left alone.
+#[test]
+fn a_part_that_is_there() {
+    let week = Week::pressed("part");
+    let line = "echo mine > .out.txt.$$.part; exec locustkeno export monday.bin --out out.txt";
+    let ran = week.shell(line);
+    assert_eq!((ran.status, ran.out.as_str()), (2, ""));
+    let (file, why) = ran.err.split_once(": .out.txt.").unwrap();
+    assert_eq!(file, "locustkeno: out.txt");
+    assert!(
+        why.ends_with(".part, where it is to be filled, is there already\n"),
+        "{why}"
+    );
+    assert!(!week.path("out.txt").exists());
+    let files = week.files();
+    assert!(files.values().any(|bytes| bytes == b"mine\n"));
+}
