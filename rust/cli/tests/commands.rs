@@ -191,6 +191,28 @@ fn diff() {
     );
 }
 
+/// The same slots and another run: a script that was forced is no other pressing of the text that it prints.
+#[test]
+fn diff_of_what_runs_otherwise() {
+    let week = Week::pressed("forced");
+    week.run(&format!(
+        "import stage.bin wrong.txt forced.bin {NAMES} --force"
+    ))
+    .said(0);
+    week.run("export forced.bin --out printed.txt").said(0);
+    week.run("import stage.bin printed.txt plain.bin").said(0);
+    let due = "the blocks changed and are not the slots compiled: what runs may have changed\n";
+    assert_eq!(week.run("diff plain.bin forced.bin").said(1), due);
+    assert_eq!(week.run("diff forced.bin plain.bin").said(1), due);
+    week.run("approve forced.bin plain.bin --out sheet.html")
+        .said(1);
+    assert!(week.text("sheet.html").contains(due.trim_end()));
+    // The blocks that are reached are the same ones.
+    week.run("reclaim forced.bin small.bin").said(0);
+    let same = "no slot changed; the files have other blocks\n";
+    assert_eq!(week.run("diff forced.bin small.bin").said(0), same);
+}
+
 #[test]
 fn check() {
     let week = Week::pressed("check");
@@ -204,6 +226,7 @@ fn check() {
     assert!(said.contains("slot 1: atc 0 is required and is what it sells"));
     let no = "do not sign: what is printed may not be what runs\n";
     assert!(said.ends_with(no), "{said}");
+    week.refused("check monday.bin --names nowhere.txt", &["nowhere.txt: "]);
 }
 
 #[test]

@@ -57,9 +57,10 @@ fn run(args: &Args) -> Answer {
         .map(|old| Pressing::read(old))
         .transpose()?;
     let old = old.as_ref();
+    let changed = |old| Ok((old, diff::changes(old, &new, &names)?));
     let page = Page {
         new: &new,
-        old: old.map(|old| (old, diff::changes(old, &new, &names))),
+        old: old.map(changed).transpose()?,
         verdict: new.verdict()?,
         previews: previews(args, &new, &names)?,
         names: &names,
