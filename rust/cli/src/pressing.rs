@@ -5,6 +5,7 @@ use crate::files;
 use crate::names::Names;
 use crate::said::Failure;
 use crate::table::grouped;
+use crate::words;
 use locustkeno::{Finding, Found, Loader, Refusal, Refused, STAGE_BYTES, Script, Shop, Stage};
 
 /// Names for numbers, for the commands that show or take any.
@@ -116,8 +117,9 @@ impl Verdict {
     }
 
     /// A line for each finding, the script's own last.
-    pub fn lines(&self) -> Vec<String> {
-        let mut lines: Vec<String> = self.findings.iter().map(Finding::to_string).collect();
+    pub fn lines(&self, names: &Names) -> Vec<String> {
+        let findings = self.findings.iter();
+        let mut lines: Vec<String> = findings.map(|one| words::finding(one, names)).collect();
         if !self.pressed {
             lines.push(NOT_PRESSED.into());
         }

@@ -145,7 +145,7 @@ fn import_of_what_differs() {
     let week = Week::new("differs");
     let import = format!("import stage.bin wrong.txt out.bin {NAMES}");
     let said = week.run(&import).said(1);
-    let due = "slot 0: flag 12 and !flag 12 contradict: never listed, and the printed slot will not show it";
+    let due = "slot 0: flag 12 and !flag 12 contradict: never listed, and the printed slot will not show it (flag 12 is night)";
     assert_eq!(lines(&said, 0, 1), [due]);
     assert!(!week.path("out.bin").exists());
     week.run(&format!("{import} --force")).said(0);

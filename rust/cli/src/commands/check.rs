@@ -6,6 +6,7 @@ use crate::named;
 use crate::names::Names;
 use crate::pressing::{NAMES, Pressing, forbids, names, stage};
 use crate::said::{Answer, Failure, Said, Status};
+use crate::words;
 
 pub const COMMAND: Command = Command {
     name: "check",
@@ -25,7 +26,8 @@ fn of_text(file: &str, text: &str, names: &Names) -> Result<(Vec<String>, bool),
     let shop = shop.map_err(|bad| Failure::at(text, &bad))?;
     let findings = shop.check(&stage.sheet);
     let findings = findings.map_err(|refused| Failure::of(text, refused))?;
-    let lines = findings.iter().map(ToString::to_string).collect();
+    let lines = findings.iter().map(|one| words::finding(one, names));
+    let lines = lines.collect();
     Ok((lines, findings.iter().any(forbids)))
 }
 
@@ -35,7 +37,7 @@ fn run(args: &Args) -> Answer {
         [text] => of_text(args.words[0], text, &names)?,
         _ => {
             let verdict = Pressing::read(args.words[0])?.verdict()?;
-            (verdict.lines(), verdict.says_no())
+            (verdict.lines(&names), verdict.says_no())
         }
     };
     let mut text: String = lines.iter().map(|line| format!("{line}\n")).collect();

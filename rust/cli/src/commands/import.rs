@@ -89,7 +89,7 @@ fn run(args: &Args) -> Answer {
         .map_err(|refused| Failure::of(text, refused))?;
     let mut said: String = findings
         .iter()
-        .map(|finding| format!("{finding}\n"))
+        .map(|finding| words::finding(finding, &names) + "\n")
         .collect();
     let refused = |refused: Refused| Failure::of(file, refused);
     let (mut new, mut read) = pressed(&old, loader, &given).map_err(refused)?;
