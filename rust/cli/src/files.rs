@@ -69,7 +69,11 @@ fn target(file: &str) -> io::Result<PathBuf> {
     match fs::metadata(file) {
         Ok(old) if !old.is_file() => Err(io::Error::other("is not a plain file")),
         Ok(old) if old.permissions().readonly() => Err(io::Error::other("is read-only")),
-        Ok(_) => fs::canonicalize(file),
+        Ok(_) => {
+            // Who may not write the file may not replace it either, though a rename asks only for rights on the folder.
+            OpenOptions::new().write(true).open(file)?;
+            fs::canonicalize(file)
+        }
         Err(_) if fs::symlink_metadata(file).is_ok() => {
             Err(io::Error::other("is a link that leads nowhere"))
         }

@@ -520,6 +520,17 @@ fn what_is_not_replaced() {
         week.refused(&format!("reclaim tuesday.bin {out}"), &[why]);
         week.refused(&format!("export tuesday.bin --out {out}"), &[why]);
     }
+    // The group may write it and the owner may not; who may do all is not stopped by that.
+    fs::set_permissions(week.path("monday.bin"), fs::Permissions::from_mode(0o464)).unwrap();
+    let open = fs::OpenOptions::new()
+        .write(true)
+        .open(week.path("monday.bin"));
+    if open.is_err() {
+        week.refused(
+            "export tuesday.bin --out monday.bin",
+            &["monday.bin: Permission denied"],
+        );
+    }
     for link in ["link.bin", "round.bin"] {
         let is = fs::symlink_metadata(week.path(link)).unwrap();
         assert!(is.is_symlink(), "{link}");
