@@ -85,7 +85,8 @@ impl<'a> Args<'a> {
                 args.words.extend(rest.iter().map(String::as_str));
                 break;
             }
-            if !first.starts_with("--") {
+            // `-` alone is standard input.
+            if !first.starts_with('-') || first == "-" {
                 args.words.push(first);
                 continue;
             }
@@ -193,12 +194,14 @@ mod tests {
             ("a b".into(), "3 5 x y ".into())
         );
         assert_eq!(told("a -- --force").unwrap().0, ["a", "--force"]);
+        assert_eq!(told("- -- -w").unwrap().0, ["-", "-w"]);
     }
 
     #[test]
     fn bad_usage() {
         for (line, why) in [
             ("a --what", "try: unknown option --what"),
+            ("a -w", "try: unknown option -w"),
             ("a --one x --one y", "try: --one is given twice"),
             ("a --force --force", "try: --force is given twice"),
             ("a --root b", "try: --root needs N"),

@@ -1,5 +1,7 @@
 //! Pieces of HTML: whatever comes in as text is escaped.
 
+use crate::said::is_unseen;
+
 /// Text as it may stand between tags and in attributes.
 pub fn escape(text: &str) -> String {
     let mut out = String::with_capacity(text.len());
@@ -10,8 +12,8 @@ pub fn escape(text: &str) -> String {
             '>' => out += "&gt;",
             '"' => out += "&quot;",
             '\'' => out += "&#39;",
-            // A control sign has no place on paper.
-            sign if sign.is_control() => out.push('\u{FFFD}'),
+            // What is not seen, or turns other text round, has no place on paper.
+            sign if is_unseen(sign) => out.push('\u{FFFD}'),
             sign => out.push(sign),
         }
     }
@@ -68,8 +70,8 @@ mod tests {
     #[test]
     fn escaped() {
         assert_eq!(
-            escape("<b a=\"1\" c='2'>&\u{7}é"),
-            "&lt;b a=&quot;1&quot; c=&#39;2&#39;&gt;&amp;\u{FFFD}é"
+            escape("<b a=\"1\" c='2'>&\u{7}é\u{202E}"),
+            "&lt;b a=&quot;1&quot; c=&#39;2&#39;&gt;&amp;\u{FFFD}é\u{FFFD}"
         );
     }
 

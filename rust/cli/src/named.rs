@@ -24,10 +24,15 @@ fn letter(kind: Kind, missing: bool) -> Option<char> {
     })
 }
 
-/// A requirement of the text with names in the printed form; a word without `:` is left to the library.
+/// A requirement of the text with names in the printed form; a letter and a number are left to the library.
 fn requirement(word: &str, names: &Names) -> Result<String, String> {
     let Some((kind, which)) = word.split_once(':') else {
-        return Ok(word.to_owned());
+        return match word.strip_prefix(['I', 'i', 'A', 'a', 'F', 'f']) {
+            Some(number) if is_number(number) => Ok(word.to_owned()),
+            _ => Err(format!(
+                "`{word}` is no requirement, as `F40`, `flag:40` or `!item:toothbrush` is"
+            )),
+        };
     };
     let (kind, missing) = match kind.strip_prefix('!') {
         Some(kind) => (kind, true),
@@ -158,6 +163,10 @@ mod tests {
             bad("0 7 3 !flag:x").why,
             "there is no flag with the name `x`"
         );
+        for word in ["met_telly", "!f40", "F", "fx"] {
+            let why = format!("`{word}` is no requirement, as ");
+            assert!(bad(&format!("0 7 3 F1 {word}")).why.starts_with(&why));
+        }
         assert_eq!(bad("0 7 3 flag:04").line, 1);
         assert_eq!(bad("0 7 3\n").line, 2);
         assert_eq!(bad("").line, 1);

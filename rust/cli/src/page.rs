@@ -135,7 +135,7 @@ impl Page<'_> {
     }
 
     fn findings(&self) -> String {
-        let lines = list(&self.verdict.lines(), "Nothing was found.");
+        let lines = list(&self.verdict.lines(self.names), "Nothing was found.");
         if self.verdict.says_no() {
             let no = "Do not sign: what is printed may not be what runs.";
             format!("<p class=\"no\">{no}</p>\n{lines}")

@@ -5,6 +5,7 @@ use crate::files;
 use crate::names::Names;
 use crate::said::Failure;
 use crate::table::grouped;
+use crate::words;
 use locustkeno::{Finding, Found, Loader, Refusal, Refused, STAGE_BYTES, Script, Shop, Stage};
 
 /// Names for numbers, for the commands that show or take any.
@@ -71,15 +72,27 @@ impl<'a> Pressing<'a> {
 /// A script of one block, a Return.
 const RETURN: [u8; 6] = [1, 1, 1, 0, 0, 0];
 
+/// The image of just the blocks that a block leads to, and its number there.
+fn reached(script: &Script, block: u32) -> Result<(Option<u32>, Vec<u8>), Refused> {
+    let mut script = script.clone();
+    let moved = script.reclaim(&[block])?;
+    Ok((moved.now(block), script.write()?))
+}
+
 /// Whether the setup block leads to just the blocks that compiling the shop gives. Then the run is that of the shop, as
 /// the library's theorems have it; a script made by hand, or pressed from a text that was read back otherwise, may do something else.
 fn is_pressed(stage: &Stage, shop: &Shop) -> Result<bool, Refused> {
-    let mut script = stage.script.clone();
-    let moved = script.reclaim(&[stage.setup])?;
     let mut fresh = Script::read(&RETURN)?;
     fresh.compile(&stage.sheet, Loader::Disc, 0, shop)?;
-    fresh.reclaim(&[0])?;
-    Ok(moved.now(stage.setup) == Some(0) && script.write()? == fresh.write()?)
+    Ok(reached(&stage.script, stage.setup)? == reached(&fresh, 0)?)
+}
+
+/// Whether two pressings of the same slots are known to run alike: each is its table compiled, or they lead to the same blocks.
+pub fn run_alike(one: &Pressing, other: &Pressing) -> Result<bool, Refused> {
+    // A shop that cannot be compiled was not.
+    let pressed = |one: &Pressing| is_pressed(&one.stage, &one.shop).unwrap_or(false);
+    let reached = |one: &Pressing| reached(&one.stage.script, one.stage.setup);
+    Ok(reached(one)? == reached(other)? || (pressed(one) && pressed(other)))
 }
 
 /// Whether the finding is a reason not to sign: what is printed is not what runs, or no run gets through.
@@ -104,8 +117,9 @@ impl Verdict {
     }
 
     /// A line for each finding, the script's own last.
-    pub fn lines(&self) -> Vec<String> {
-        let mut lines: Vec<String> = self.findings.iter().map(Finding::to_string).collect();
+    pub fn lines(&self, names: &Names) -> Vec<String> {
+        let findings = self.findings.iter();
+        let mut lines: Vec<String> = findings.map(|one| words::finding(one, names)).collect();
         if !self.pressed {
             lines.push(NOT_PRESSED.into());
         }

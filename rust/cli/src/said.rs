@@ -39,9 +39,31 @@ impl Failure {
     }
 }
 
+/// How many signs of a failure are said; a text without line ends may be in it.
+const MOST: usize = 600;
+
+/// Whether a sign would break a line, turn a terminal over or hide: controls, and marks that reorder text or have no width.
+pub fn is_unseen(sign: char) -> bool {
+    let hides = matches!(sign, '\u{200B}'..='\u{200F}' | '\u{2028}'..='\u{202E}' | '\u{2060}'..='\u{206F}' | '\u{FEFF}');
+    sign.is_control() || hides
+}
+
+/// One line, whatever a file or an argument had in it: unseen signs by their numbers, and the middle of what is too long left out.
 impl fmt::Display for Failure {
     fn fmt(&self, f: &mut fmt::Formatter<'_>) -> fmt::Result {
-        f.write_str(&self.0)
+        let many = self.0.chars().count();
+        for (i, sign) in self.0.chars().enumerate() {
+            if many > MOST && (MOST / 2..many - MOST / 2).contains(&i) {
+                if i == MOST / 2 {
+                    f.write_str(" .. ")?;
+                }
+            } else if is_unseen(sign) {
+                write!(f, "{}", sign.escape_unicode())?;
+            } else {
+                write!(f, "{sign}")?;
+            }
+        }
+        Ok(())
     }
 }
 
@@ -71,3 +93,20 @@ impl Said {
 
 /// What each command answers.
 pub type Answer = Result<Said, Failure>;
+
+#[cfg(test)]
+mod tests {
+    use super::Failure;
+
+    #[test]
+    fn one_line() {
+        let told = Failure::of("a\nb\u{1b}[31m\u{202e}", "é").to_string();
+        assert_eq!(told, "a\\u{a}b\\u{1b}[31m\\u{202e}: é");
+        let told = Failure::of("x", "y".repeat(10_000) + "z").to_string();
+        assert_eq!(told.len(), 604);
+        assert!(
+            told.starts_with("x: yyy") && told.ends_with("yyz"),
+            "{told}"
+        );
+    }
+}

@@ -5,7 +5,8 @@ use crate::files;
 use crate::lines::{BadLine, Line, lines};
 use crate::names::{Kind, Names};
 use crate::said::Failure;
-use locustkeno::{NUM_SLOTS, Save, Sheet};
+use locustkeno::{NUM_SLOTS, Refusal, Refused, Save, Sheet};
+use std::mem;
 use std::str::FromStr;
 
 /// A file of settings, for the commands that take one save.
@@ -69,22 +70,27 @@ fn heading<'a>(line: &Line<'a>) -> Option<&'a str> {
     }
 }
 
-/// The saves of a text: settings, one or more a line; a line `save NAME` begins a further one. Without such a line it is one save with
-/// the name that is given.
-pub fn many(text: &str, name: &str, sheet: &Sheet, names: &Names) -> Result<Vec<Named>, BadLine> {
+/// Each save of a text: settings, one or more a line; a line `save NAME` begins a further one. Without such a line it is one save with
+/// the name that is given. A short text may have very many, so they are handed on one by one.
+pub fn each(
+    text: &str,
+    name: &str,
+    sheet: &Sheet,
+    names: &Names,
+    mut found: impl FnMut(Named),
+) -> Result<(), BadLine> {
     let named = |name: &str| Named {
         name: name.to_owned(),
         save: start(sheet),
     };
-    let mut saves = Vec::new();
     let mut open = named(name);
     let mut any = false;
     for line in lines(text) {
         if let Some(name) = heading(&line) {
+            let done = mem::replace(&mut open, named(name));
             if any {
-                saves.push(open);
+                found(done);
             }
-            open = named(name);
         } else {
             for word in &line.words {
                 set(&mut open.save, word, names).map_err(|why| line.bad(why))?;
@@ -92,25 +98,31 @@ pub fn many(text: &str, name: &str, sheet: &Sheet, names: &Names) -> Result<Vec<
         }
         any = true;
     }
-    saves.push(open);
-    Ok(saves)
+    found(open);
+    Ok(())
 }
 
-/// The saves of a file.
-pub fn of_file(file: &str, sheet: &Sheet, names: &Names) -> Result<Vec<Named>, Failure> {
-    many(&files::read_text(file)?, file, sheet, names).map_err(|bad| Failure::at(file, &bad))
+/// Each save of a file.
+pub fn each_of_file(
+    file: &str,
+    sheet: &Sheet,
+    names: &Names,
+    found: impl FnMut(Named),
+) -> Result<(), Failure> {
+    let text = files::read_text(file)?;
+    each(&text, file, sheet, names, found).map_err(|bad| Failure::at(file, &bad))
 }
 
 /// The only save of a file.
 pub fn one_of_file(file: &str, sheet: &Sheet, names: &Names) -> Result<Save, Failure> {
-    let mut saves = of_file(file, sheet, names)?;
-    match (saves.pop(), saves.len()) {
-        (Some(only), 0) => Ok(only.save),
-        (_, more) => Err(Failure::of(
-            file,
-            format!("has {} saves, one is due", more + 1),
-        )),
-    }
+    let mut many = 0;
+    let mut last = None;
+    each_of_file(file, sheet, names, |named| {
+        many += 1;
+        last = Some(named.save);
+    })?;
+    last.filter(|_| many == 1)
+        .ok_or_else(|| Failure::of(file, format!("has {many} saves, one is due")))
 }
 
 /// The save of a command: that of `--save`, with the settings of the command line.
@@ -130,14 +142,33 @@ pub fn of_args(
     Ok(save)
 }
 
+/// A refusal of a call under the save of a command, with the file that it is about: of refusal 12 that of the save and the settings.
+pub fn refused(args: &Args, refused: Refused) -> Failure {
+    let (file, settings) = (&args.words[..1], &args.words[1..]);
+    let mut about: Vec<&str> = file.to_vec();
+    if refused == Refusal::BadSave {
+        about = args.one(SAVE.name).into_iter().collect();
+        about.extend(settings);
+    }
+    Failure::of(&about.join(" "), refused)
+}
+
 #[cfg(test)]
 mod tests {
-    use super::{many, set, start};
+    use super::{Named, each, set, start};
+    use crate::lines::BadLine;
     use crate::names::Names;
     use locustkeno::{Item, Sheet};
 
     fn sheet() -> Sheet {
         Sheet::new(&[None; 8], 2, [0, 1, 2].map(Item))
+    }
+
+    /// All saves of a text.
+    fn many(text: &str) -> Result<Vec<Named>, BadLine> {
+        let mut saves = Vec::new();
+        let names = Names::default();
+        each(text, "x", &sheet(), &names, |named| saves.push(named)).map(|()| saves)
     }
 
     #[test]
@@ -174,25 +205,20 @@ mod tests {
     #[test]
     fn files_of_saves() {
         let text = "# two\nsave early\nitem:7=1 flag:3=1\n\nsave late\nflag:3=0\n";
-        let saves = many(text, "x", &sheet(), &Names::default()).unwrap();
+        let saves = many(text).unwrap();
         let told: Vec<_> = saves
             .iter()
             .map(|s| (s.name.as_str(), s.save.items[7]))
             .collect();
         assert_eq!(told, [("early", 1), ("late", 0)]);
-        let saves = many("flag:3=1\nsave late\n", "x", &sheet(), &Names::default()).unwrap();
+        let saves = many("flag:3=1\nsave late\n").unwrap();
         let told: Vec<_> = saves
             .iter()
             .map(|s| (s.name.as_str(), s.save.flags[3]))
             .collect();
         assert_eq!(told, [("x", 1), ("late", 0)]);
-        let saves = many("", "x", &sheet(), &Names::default()).unwrap();
+        let saves = many("").unwrap();
         assert_eq!((saves.len(), &saves[0].save), (1, &start(&sheet())));
-        assert_eq!(
-            many("\nitem:9=1", "x", &sheet(), &Names::default())
-                .unwrap_err()
-                .line,
-            2
-        );
+        assert_eq!(many("\nitem:9=1").unwrap_err().line, 2);
     }
 }

@@ -1,7 +1,7 @@
 //! Slots in words: for tables, for the text with names, and what changed between two slots.
 
 use crate::names::{Kind, Names};
-use locustkeno::{Atc, Item, Requirement, Slot};
+use locustkeno::{Atc, Finding, Found, Item, Requirement, Slot};
 
 /// Whether it asks for something missing, of which kind, and which one.
 fn parts(requirement: Requirement) -> (bool, Kind, i32) {
@@ -69,6 +69,23 @@ pub fn slot(slot: &Slot, names: &Names) -> String {
         words += &format!(", if {}", requirements(slot, names));
     }
     words
+}
+
+/// A finding as the library says it, and behind it the name of what it is about, if that has one.
+pub fn finding(finding: &Finding, names: &Names) -> String {
+    let about = match finding.what {
+        Found::Contradiction { requirement, .. } | Found::RequiresItself { requirement, .. } => {
+            let (_, kind, number) = parts(requirement);
+            Some((kind, number))
+        }
+        Found::FlagOutside { flag, .. } => Some((Kind::Flag, flag)),
+        _ => None,
+    };
+    let name = about.and_then(|(kind, number)| Some((kind, number, names.name(kind, number)?)));
+    match name {
+        Some((kind, number, name)) => format!("{finding} ({} {number} is {name})", kind.word()),
+        None => finding.to_string(),
+    }
 }
 
 /// What changed from one slot to another, a line each; an entry given twice counts once, in any order.

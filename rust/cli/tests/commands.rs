@@ -145,7 +145,7 @@ fn import_of_what_differs() {
     let week = Week::new("differs");
     let import = format!("import stage.bin wrong.txt out.bin {NAMES}");
     let said = week.run(&import).said(1);
-    let due = "slot 0: flag 12 and !flag 12 contradict: never listed, and the printed slot will not show it";
+    let due = "slot 0: flag 12 and !flag 12 contradict: never listed, and the printed slot will not show it (flag 12 is night)";
     assert_eq!(lines(&said, 0, 1), [due]);
     assert!(!week.path("out.bin").exists());
     week.run(&format!("{import} --force")).said(0);
@@ -191,6 +191,28 @@ fn diff() {
     );
 }
 
+/// The same slots and another run: a script that was forced is no other pressing of the text that it prints.
+#[test]
+fn diff_of_what_runs_otherwise() {
+    let week = Week::pressed("forced");
+    week.run(&format!(
+        "import stage.bin wrong.txt forced.bin {NAMES} --force"
+    ))
+    .said(0);
+    week.run("export forced.bin --out printed.txt").said(0);
+    week.run("import stage.bin printed.txt plain.bin").said(0);
+    let due = "the blocks changed and are not the slots compiled: what runs may have changed\n";
+    assert_eq!(week.run("diff plain.bin forced.bin").said(1), due);
+    assert_eq!(week.run("diff forced.bin plain.bin").said(1), due);
+    week.run("approve forced.bin plain.bin --out sheet.html")
+        .said(1);
+    assert!(week.text("sheet.html").contains(due.trim_end()));
+    // The blocks that are reached are the same ones.
+    week.run("reclaim forced.bin small.bin").said(0);
+    let same = "no slot changed; the files have other blocks\n";
+    assert_eq!(week.run("diff forced.bin small.bin").said(0), same);
+}
+
 #[test]
 fn check() {
     let week = Week::pressed("check");
@@ -204,6 +226,7 @@ fn check() {
     assert!(said.contains("slot 1: atc 0 is required and is what it sells"));
     let no = "do not sign: what is printed may not be what runs\n";
     assert!(said.ends_with(no), "{said}");
+    week.refused("check monday.bin --names nowhere.txt", &["nowhere.txt: "]);
 }
 
 #[test]
@@ -444,4 +467,195 @@ fn what_is_replaced() {
         0o640
     );
     week.run("diff monday.bin tuesday.bin").said(0);
+}
+
+/// A file that is only read is never written over: the text, the names, the stage that is exported or approved, its last pressing, a save.
+#[test]
+fn what_is_read_stays() {
+    let week = Week::pressed("stays");
+    for (line, out) in [
+        ("import stage.bin monday.txt monday.txt", "monday.txt"),
+        ("import stage.bin monday.txt names.txt", "names.txt"),
+        ("import stage.bin monday.txt ./monday.txt", "./monday.txt"),
+        ("export monday.bin --out monday.bin", "monday.bin"),
+        ("export monday.bin --out names.txt", "names.txt"),
+        ("approve monday.bin --out monday.bin", "monday.bin"),
+        (
+            "approve tuesday.bin monday.bin --out monday.bin",
+            "monday.bin",
+        ),
+        (
+            "approve tuesday.bin --save late=late.txt --out late.txt",
+            "late.txt",
+        ),
+    ] {
+        let why = format!("{out}: is read by this command and would be lost");
+        week.refused(&format!("{line} {NAMES}"), &[&why]);
+    }
+    // An old sheet may be replaced, and so may a stage by its next pressing.
+    week.run("approve tuesday.bin --out wrong.txt").said(0);
+    week.run(&format!("import monday.bin tuesday.txt monday.bin {NAMES}"))
+        .said(0);
+}
+
+/// A file that nobody may write stays, and so does a link that leads nowhere.
+#[cfg(unix)]
+#[test]
+fn what_is_not_replaced() {
+    use std::fs;
+    use std::os::unix::fs::{PermissionsExt, symlink};
+    let week = Week::pressed("kept");
+    fs::set_permissions(week.path("monday.bin"), fs::Permissions::from_mode(0o444)).unwrap();
+    symlink("nowhere.bin", week.path("link.bin")).unwrap();
+    symlink("round.bin", week.path("round.bin")).unwrap();
+    for (out, why) in [
+        ("monday.bin", "monday.bin: is read-only"),
+        ("link.bin", "link.bin: is a link that leads nowhere"),
+        ("round.bin", "round.bin: is a link that leads nowhere"),
+    ] {
+        week.refused(
+            &format!("import tuesday.bin tuesday.txt {out} {NAMES}"),
+            &[why],
+        );
+        week.refused(&format!("reclaim tuesday.bin {out}"), &[why]);
+        week.refused(&format!("export tuesday.bin --out {out}"), &[why]);
+    }
+    // The group may write it and the owner may not; who may do all is not stopped by that.
+    fs::set_permissions(week.path("monday.bin"), fs::Permissions::from_mode(0o464)).unwrap();
+    let open = fs::OpenOptions::new()
+        .write(true)
+        .open(week.path("monday.bin"));
+    if open.is_err() {
+        week.refused(
+            "export tuesday.bin --out monday.bin",
+            &["monday.bin: Permission denied"],
+        );
+    }
+    for link in ["link.bin", "round.bin"] {
+        let is = fs::symlink_metadata(week.path(link)).unwrap();
+        assert!(is.is_symlink(), "{link}");
+    }
+}
+
+/// Standard input is read once, and is nothing to write to.
+#[test]
+fn standard_input() {
+    let week = Week::pressed("stdin");
+    for line in [
+        "locustkeno diff - - < monday.bin",
+        "locustkeno import - - out.bin < stage.bin",
+        "locustkeno show - --names - < names.txt",
+    ] {
+        week.refused(line, &["-: standard input is read only once"]);
+    }
+    for line in [
+        "import stage.bin tuesday.txt - --names names.txt",
+        "reclaim tuesday.bin -",
+        "export tuesday.bin --out -",
+    ] {
+        week.refused(line, &["-: is standard input, name a file to write"]);
+    }
+}
+
+/// The longest name that a file may have is one that can be written.
+#[test]
+fn long_names() {
+    let week = Week::pressed("long");
+    let out = "a".repeat(255);
+    week.run(&format!("export monday.bin --out {out}")).said(0);
+    assert_eq!(week.text(&out), week.run("export monday.bin").said(0));
+    let long = "a".repeat(256);
+    week.refused(
+        &format!("export monday.bin --out {long}"),
+        &["File name too long"],
+    );
+}
+
+/// Whatever a file or a name has in it, what is wrong is told in one line that can be read.
+#[test]
+fn failures_are_lines() {
+    let week = Week::pressed("lines");
+    week.write("escape.txt", "0 \u{1b}[2Jcomb 3\n");
+    week.refused(
+        "check stage.bin escape.txt",
+        &["escape.txt: line 1: there is no item with the name `\\u{1b}[2Jcomb`"],
+    );
+    week.write("long.txt", format!("0 {} 3\n", "comb".repeat(500_000)));
+    let long = week.run("check stage.bin long.txt");
+    assert_eq!((long.status, long.out.as_str()), (2, ""));
+    let head = "locustkeno: long.txt: line 1: there is no item with the name `comb";
+    assert!(
+        long.err.starts_with(head) && long.err.len() < 700,
+        "{}",
+        long.err
+    );
+    let broken = "locustkeno show 'two\nlines.bin' ; exit $?";
+    week.refused(broken, &["two\\u{a}lines.bin: No such file"]);
+}
+
+/// The mark with which some editors begin a text is no part of it.
+#[test]
+fn marked_texts() {
+    let week = Week::pressed("marked");
+    for name in ["monday.txt", "names.txt"] {
+        week.write(
+            &format!("marked-{name}"),
+            format!("\u{FEFF}{}", week.text(name)),
+        );
+    }
+    week.run("import stage.bin marked-monday.txt back.bin --names marked-names.txt")
+        .said(0);
+    assert_eq!(week.read("back.bin"), week.read("monday.bin"));
+}
+
+/// A short text may have very many saves: they are run as they are read, in the memory of a few, and the last ones of a walk are not lost.
+#[cfg(target_os = "linux")]
+#[test]
+fn sweep_in_little_memory() {
+    let week = Week::pressed("little");
+    let saves = |many: usize| "save s\nflag:night=1\n".repeat(many);
+    for (many, told) in [
+        (1, "\n1 save\n"),
+        (64, "\n64 saves\n"),
+        (65, "\n65 saves\n"),
+        (40_000, "\n40,000 saves\n"),
+    ] {
+        week.write("many.txt", saves(many));
+        let line = format!("ulimit -v 100000; locustkeno sweep tuesday.bin many.txt {NAMES} 2>&1");
+        let ran = week.shell(&line);
+        assert_eq!((ran.status, ran.err.as_str()), (1, ""), "{}", ran.out);
+        assert!(ran.out.contains(told), "{}", ran.out);
+        // Slot 0 is listed under each of them.
+        let listed = ran.line(
+            ran.out
+                .lines()
+                .position(|line| line.contains("toothbrush"))
+                .unwrap(),
+        );
+        let listed = listed
+            .split_whitespace()
+            .nth(3)
+            .map(|count| count.replace(',', ""));
+        assert_eq!(listed, Some(many.to_string()), "{}", ran.out);
+    }
+    let line = format!("ulimit -v 100000; locustkeno preview tuesday.bin --save many.txt {NAMES}");
+    week.refused(&line, &["many.txt: has 40000 saves, one is due"]);
+}
+
+/// A part that another run left is told by its name, and is left alone.
+#[test]
+fn a_part_that_is_there() {
+    let week = Week::pressed("part");
+    let line = "echo mine > .out.txt.$$.part; exec locustkeno export monday.bin --out out.txt";
+    let ran = week.shell(line);
+    assert_eq!((ran.status, ran.out.as_str()), (2, ""));
+    let (file, why) = ran.err.split_once(": .out.txt.").unwrap();
+    assert_eq!(file, "locustkeno: out.txt");
+    assert!(
+        why.ends_with(".part, where it is to be filled, is there already\n"),
+        "{why}"
+    );
+    assert!(!week.path("out.txt").exists());
+    let files = week.files();
+    assert!(files.values().any(|bytes| bytes == b"mine\n"));
 }

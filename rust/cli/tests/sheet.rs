@@ -103,6 +103,9 @@ fn alone_and_black_on_white() {
 #[test]
 fn what_should_not_be_signed() {
     let week = Week::pressed("unsigned");
+    week.write("far-names.txt", "flag 4000 far_away\n");
+    let empty: String = (1..20).map(|i| format!("{i} - 0\n")).collect();
+    week.write("far.txt", format!("0 7 3 flag:far_away\n{empty}"));
     week.run("import stage.bin wrong.txt out.bin --names names.txt --force")
         .said(0);
     let page = week.run("approve out.bin").said(1);
@@ -111,6 +114,13 @@ fn what_should_not_be_signed() {
     assert!(page.contains("<li>the script is not what compiling this table gives"));
     assert!(page.contains("<p>No last pressing was given.</p>"));
     assert!(page.contains("<p>No save was given.</p>"));
+    // What a finding is about has its name there.
+    week.run("import stage.bin far.txt far.bin --names far-names.txt --force")
+        .said(0);
+    let page = week.run("approve far.bin --names far-names.txt").said(1);
+    let due =
+        "<li>slot 0: flag 4000 is in no save: every run stops there (flag 4000 is far_away)</li>";
+    assert!(page.contains(due), "{page}");
     // A flag that no save has stops every run; the page is made and says so.
     let text = week.text("monday.txt").replace("flag:night", "flag:20480");
     week.write("typo.txt", text);

@@ -34,7 +34,7 @@ fn spoil(week: &Week) {
     week.changed("monday.txt", "4 spoon", "4 500", "item.txt");
     week.changed("names.txt", "item 5 mug", "item 4 mug", "twice.txt");
     week.changed("names.txt", "atc 0 hose", "atc hose 0", "turned.txt");
-    week.write("latin.txt", [b'0', b' ', 0xE9]);
+    week.write("latin.txt", [b'#', b'\n', 0xE9]);
 }
 
 /// What is wrong with a stage file, and the refusal that tells.
@@ -87,7 +87,7 @@ number.txt --names names.txt => number.txt: line 6:
 short.txt --names names.txt => short.txt: line 22:
 order.txt --names names.txt => order.txt: line 8:
 item.txt --names names.txt => item.txt: | (refusal 8)
-latin.txt --names names.txt => latin.txt: is not UTF-8 text
+latin.txt --names names.txt => latin.txt: line 2: is not UTF-8 text
 nowhere.txt --names names.txt => nowhere.txt: No such file
 monday.txt --names twice.txt => twice.txt: line 6: item 4 was named before
 monday.txt --names turned.txt => turned.txt: line 11: `hose` is not a number
@@ -154,19 +154,26 @@ fn full_disk(week: &Week) {
 const QUESTIONS: &str = "
 preview monday.bin --save save.txt --names names.txt => save.txt: line 2: there is no flag with the name `nobody`
 preview monday.bin --save saves.txt --names names.txt => saves.txt: has 3 saves, one is due
-preview monday.bin --save two.txt => monday.bin: | (refusal 12)
+preview monday.bin --save two.txt => two.txt: | (refusal 12)
+preview monday.bin --save two.txt item:7=1 => two.txt item:7=1: | (refusal 12)
 preview monday.bin item:12=1 => item:12=1: there is no item 12: there are 12
-preview monday.bin item:7=-1 => monday.bin: | (refusal 12)
+preview monday.bin item:7=-1 => item:7=-1: | (refusal 12)
 preview monday.bin item7 => item7: `item7` is no setting
 approve monday.bin --save late => late: is no NAME=SAVE
+approve monday.bin --save =late.txt => =late.txt: is no NAME=SAVE
+approve monday.bin --names names.txt --save a=late.txt --save a=early.txt => a=early.txt: another save has this name
 approve monday.bin --save x=two.txt => two.txt: | (refusal 12)
 bill monday.bin => --tariff: is due
-bill monday.bin --tariff dear.txt => monday.bin: | (refusal 24)
+bill monday.bin --tariff dear.txt => dear.txt: | (refusal 24)
+bill monday.bin --tariff flat.txt --save two.txt => two.txt: | (refusal 12)
 bill monday.bin --tariff cheap.txt --names names.txt => cheap.txt: line 2: an item has no price
-bill monday.bin --tariff tariff.txt --names names.txt --take 0=4 => monday.bin: | (refusal 25)
+bill monday.bin --tariff tariff.txt --names names.txt --take 0=4 => --take: | (refusal 25)
+bill monday.bin --tariff flat.txt --take 0=2 --take 0=1 => 0=1: slot 0 was taken of before
 bill monday.bin --tariff tariff.txt --names names.txt --take 20=1 => 20=1: is no slot and number
-shopper monday.bin --names names.txt --tariff tariff.txt --money 1000001 --wish 0 => monday.bin: | (refusal 28)
-shopper monday.bin --names names.txt --tariff tariff.txt --money 9 --wish 0 20 => monday.bin: | (refusal 27)
+shopper monday.bin --names names.txt --tariff tariff.txt --money 1000001 --wish 0 => --money: | (refusal 28)
+shopper monday.bin --tariff dear.txt --money 9 --wish 0 => dear.txt: | (refusal 24)
+shopper monday.bin --tariff flat.txt --money 9 --wish 0 --save two.txt => two.txt: | (refusal 12)
+shopper monday.bin --names names.txt --tariff tariff.txt --money 9 --wish 0 20 => --wish: | (refusal 27)
 shopper monday.bin --names names.txt --tariff tariff.txt --money 9 --wish 256 => --wish: `256` is no number that fits
 shopper monday.bin --names names.txt --tariff tariff.txt --money 9 => --wish: is due
 reclaim monday.bin --root 4096 monday.bin => monday.bin: | (refusal 18)
@@ -174,6 +181,7 @@ reclaim monday.bin --root monday.bin => reclaim: --root needs N..
 sweep monday.bin => sweep: usage: FILE SAVES..
 press monday.bin => press: is no command
 show monday.bin --colour => show: unknown option --colour
+show -c monday.bin => show: unknown option -c
  => no command; `locustkeno --help` lists them
 ";
 
@@ -181,6 +189,7 @@ fn wrong_questions(week: &Week) {
     week.write("save.txt", "item:toothbrush=1\nflag:nobody=1\n");
     week.write("two.txt", "flag:3=2\n");
     week.write("dear.txt", "others 30001\n");
+    week.write("flat.txt", "others 1\n");
     week.write("cheap.txt", "price toothbrush 1\n");
     for (line, words) in cases(QUESTIONS) {
         week.refused(line, &words);

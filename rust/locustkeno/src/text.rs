@@ -53,12 +53,14 @@ impl TextReason {
 impl fmt::Display for TextReason {
     fn fmt(&self, f: &mut fmt::Formatter<'_>) -> fmt::Result {
         f.write_str(match self {
-            Self::NoSlot => "the slot's number and a blank are missing at its start",
-            Self::NoItem => {
-                "an item's number or -, and a blank, are missing behind the slot's number"
+            Self::NoSlot => {
+                "the slot's number is due at its start, 0 to 19 in order, and a blank"
             }
-            Self::NoLimit => "a limit is missing behind the item",
-            Self::NoRequirement => "a requirement is a letter of IiAaFf and a number",
+            Self::NoItem => {
+                "an item's number or - is due behind the slot's number, and a blank before the limit"
+            }
+            Self::NoLimit => "a limit from -32768 to 32767 is due behind the item",
+            Self::NoRequirement => "a requirement is a letter of IiAaFf and a number that fits",
             Self::ManyRequirements => "a slot has at most 14 requirements",
             Self::NoEnd => "a blank or the end of the line is missing",
             Self::MoreText => "nothing may follow the last line",
@@ -150,7 +152,7 @@ impl Shop {
 /// assert!(text.starts_with("0 7 3\n1 - 0\n"));
 /// assert_eq!(text.parse(), Ok(shop));
 /// let bad = "0 7 3\n2 - 0\n".parse::<Shop>().unwrap_err();
-/// assert_eq!(bad.to_string(), "line 2: `2 - 0`: the slot's number and a blank are missing at its start");
+/// assert_eq!(bad.to_string(), "line 2: `2 - 0`: the slot's number is due at its start, 0 to 19 in order, and a blank");
 /// ```
 impl fmt::Display for Shop {
     fn fmt(&self, f: &mut fmt::Formatter<'_>) -> fmt::Result {

@@ -160,7 +160,7 @@ fn the_line_and_the_reason_are_told() {
     assert_eq!(bad, expected);
     assert_eq!(
         bad.to_string(),
-        "line 5: `4 7 3 F2 Q9`: a requirement is a letter of IiAaFf and a number"
+        "line 5: `4 7 3 F2 Q9`: a requirement is a letter of IiAaFf and a number that fits"
     );
 }
 

@@ -7,11 +7,11 @@ use crate::names::Names;
 use crate::page::{Page, Previewed};
 use crate::pressing::{NAMES, Pressing, names};
 use crate::said::{Answer, Failure, Said, Status};
-use crate::saves;
+use crate::saves::{self, SAVE};
 use locustkeno::Refusal;
 
 const SAVES: Opt = Opt {
-    name: "--save",
+    name: SAVE.name,
     takes: Takes::Each,
     value: "NAME=SAVE",
     about: "a preview under the settings of a file, by this name; may be given again",
@@ -30,10 +30,13 @@ pub const COMMAND: Command = Command {
 
 /// The previews under the saves that were named.
 fn previews(args: &Args, new: &Pressing, names: &Names) -> Result<Vec<Previewed>, Failure> {
-    let mut previews = Vec::new();
+    let mut previews: Vec<Previewed> = Vec::new();
     for given in args.all(SAVES.name) {
-        let parts = given.split_once('=');
+        let parts = given.split_once('=').filter(|(name, _)| !name.is_empty());
         let (name, file) = parts.ok_or_else(|| Failure::of(given, "is no NAME=SAVE"))?;
+        if previews.iter().any(|(before, _)| before == name) {
+            return Err(Failure::of(given, "another save has this name"));
+        }
         let save = saves::one_of_file(file, &new.stage.sheet, names)?;
         let seen = new.shop.preview(&new.stage.sheet, &save);
         // A shop that no run gets through is for the page to say; all else is wrong with the save.
@@ -54,9 +57,10 @@ fn run(args: &Args) -> Answer {
         .map(|old| Pressing::read(old))
         .transpose()?;
     let old = old.as_ref();
+    let changed = |old| Ok((old, diff::changes(old, &new, &names)?));
     let page = Page {
         new: &new,
-        old: old.map(|old| (old, diff::changes(old, &new, &names))),
+        old: old.map(changed).transpose()?,
         verdict: new.verdict()?,
         previews: previews(args, &new, &names)?,
         names: &names,

@@ -9,7 +9,8 @@ use crate::saves::{self, SAVE};
 use crate::table::{Side, Table};
 use crate::tariffs;
 use crate::words;
-use locustkeno::{Basket, NUM_SLOTS, Sheet, Tariff};
+use locustkeno::{Basket, NUM_SLOTS, Refusal, Refused, Sheet, Tariff};
+use std::mem;
 
 /// The prices.
 pub const TARIFF: Opt = Opt {
@@ -43,9 +44,19 @@ pub fn tariff(args: &Args, sheet: &Sheet, names: &Names) -> Result<Tariff, Failu
     tariffs::read(&text, sheet, names).map_err(|bad| Failure::at(file, &bad))
 }
 
-/// The basket that was asked for, if one was.
+/// A refusal, with the file or the option that it is about.
+pub fn refused(args: &Args, refused: Refused) -> Failure {
+    match refused.refusal() {
+        Refusal::BadTariff => Failure::of(args.one(TARIFF.name).unwrap_or_default(), refused),
+        Refusal::BadBasket if args.has(TAKE.name) => Failure::of(TAKE.name, refused),
+        _ => saves::refused(args, refused),
+    }
+}
+
+/// The basket that was asked for, if one was; of a slot once.
 fn basket(args: &Args) -> Result<Option<Basket>, Failure> {
     let mut basket = None;
+    let mut taken = [false; NUM_SLOTS];
     for take in args.all(TAKE.name) {
         let parts = take.split_once('=').and_then(|(slot, number)| {
             let slot: usize = slot.parse().ok()?;
@@ -54,6 +65,12 @@ fn basket(args: &Args) -> Result<Option<Basket>, Failure> {
         let parts = parts.filter(|(slot, _)| *slot < NUM_SLOTS);
         let (slot, number) =
             parts.ok_or_else(|| Failure::of(take, "is no slot and number, as 0=2 is"))?;
+        if mem::replace(&mut taken[slot], true) {
+            return Err(Failure::of(
+                take,
+                format!("slot {slot} was taken of before"),
+            ));
+        }
         basket = Some(basket.unwrap_or(Basket::empty()).with(slot, number));
     }
     Ok(basket)
@@ -61,8 +78,7 @@ fn basket(args: &Args) -> Result<Option<Basket>, Failure> {
 
 fn run(args: &Args) -> Answer {
     let (names, basket) = (names(args)?, basket(args)?);
-    let file = args.words[0];
-    let stage = stage(file)?;
+    let stage = stage(args.words[0])?;
     let tariff = tariff(args, &stage.sheet, &names)?;
     let mut save = saves::of_args(args, &args.words[1..], &stage.sheet, &names)?;
     // As many blocks as a script may have: more than a compiled shop enters.
@@ -70,11 +86,11 @@ fn run(args: &Args) -> Answer {
         .script
         .run(&stage.sheet, stage.setup, &mut save, 4_096);
     if let Some(refused) = ran.refusal {
-        return Err(Failure::of(file, refused));
+        return Err(self::refused(args, refused));
     }
     let basket = basket.unwrap_or_else(|| Basket::counts(&save));
     let bill = save.bill(&stage.sheet, &tariff, &basket);
-    let bill = bill.map_err(|refused| Failure::of(file, refused))?;
+    let bill = bill.map_err(|refused| self::refused(args, refused))?;
     let mut table = Table::new(&[
         ("item", Side::Left),
         ("slot", Side::Right),

@@ -3,8 +3,10 @@
 use crate::args::{Args, Command};
 use crate::files;
 use crate::named;
+use crate::names::Names;
 use crate::pressing::{NAMES, Pressing, forbids, names, stage};
 use crate::said::{Answer, Failure, Said, Status};
+use crate::words;
 
 pub const COMMAND: Command = Command {
     name: "check",
@@ -18,22 +20,24 @@ pub const COMMAND: Command = Command {
 };
 
 /// The findings of a text, and whether one forbids to sign.
-fn of_text(args: &Args, text: &str) -> Result<(Vec<String>, bool), Failure> {
-    let (names, stage) = (names(args)?, stage(args.words[0])?);
-    let shop = named::read(&files::read_text(text)?, &names);
+fn of_text(file: &str, text: &str, names: &Names) -> Result<(Vec<String>, bool), Failure> {
+    let stage = stage(file)?;
+    let shop = named::read(&files::read_text(text)?, names);
     let shop = shop.map_err(|bad| Failure::at(text, &bad))?;
     let findings = shop.check(&stage.sheet);
     let findings = findings.map_err(|refused| Failure::of(text, refused))?;
-    let lines = findings.iter().map(ToString::to_string).collect();
+    let lines = findings.iter().map(|one| words::finding(one, names));
+    let lines = lines.collect();
     Ok((lines, findings.iter().any(forbids)))
 }
 
 fn run(args: &Args) -> Answer {
+    let names = names(args)?;
     let (lines, no) = match args.words[1..] {
-        [text] => of_text(args, text)?,
+        [text] => of_text(args.words[0], text, &names)?,
         _ => {
             let verdict = Pressing::read(args.words[0])?.verdict()?;
-            (verdict.lines(), verdict.says_no())
+            (verdict.lines(&names), verdict.says_no())
         }
     };
     let mut text: String = lines.iter().map(|line| format!("{line}\n")).collect();

@@ -2,22 +2,26 @@
 
 use crate::args::{Args, Command};
 use crate::names::Names;
-use crate::pressing::{NAMES, Pressing, names};
-use crate::said::{Answer, Said, Status};
+use crate::pressing::{NAMES, Pressing, names, run_alike};
+use crate::said::{Answer, Failure, Said, Status};
 use crate::words;
 
 pub const COMMAND: Command = Command {
     name: "diff",
     usage: "OLD NEW [--names NAMES]",
     brief: "Prints slot by slot what changed between two pressings",
-    about: "Status 1 where a slot or the sheet changed. That other blocks lead to the same slots is said, and is no change.",
+    about: "Status 1 where a slot or the sheet changed, or blocks that are not the slots compiled. That other compiled blocks lead\n\
+        to the same slots is said, and is no change.",
     options: &[&NAMES],
     words: 2..=2,
     run,
 };
 
-/// A line for each thing that changed, the sheet first.
-pub fn changes(old: &Pressing, new: &Pressing, names: &Names) -> Vec<String> {
+/// Said where the same slots are no proof of the same run.
+const RUNS: &str = "the blocks changed and are not the slots compiled: what runs may have changed";
+
+/// A line for each thing that changed, the sheet first; where no slot did, whether the blocks may run otherwise.
+pub fn changes(old: &Pressing, new: &Pressing, names: &Names) -> Result<Vec<String>, Failure> {
     let mut told = Vec::new();
     if old.stage.sheet != new.stage.sheet {
         told.push("the sheet changed: numbers may stand for other things".to_owned());
@@ -27,7 +31,10 @@ pub fn changes(old: &Pressing, new: &Pressing, names: &Names) -> Vec<String> {
         let changed = words::changes(was, is, names);
         told.extend(changed.into_iter().map(|what| format!("slot {i}: {what}")));
     }
-    told
+    if told.is_empty() && !run_alike(old, new).map_err(|refused| new.refused(refused))? {
+        told.push(RUNS.into());
+    }
+    Ok(told)
 }
 
 fn run(args: &Args) -> Answer {
@@ -36,7 +43,7 @@ fn run(args: &Args) -> Answer {
         Pressing::read(args.words[0])?,
         Pressing::read(args.words[1])?,
     );
-    let told = changes(&old, &new, &names);
+    let told = changes(&old, &new, &names)?;
     let mut text: String = told.iter().map(|line| format!("{line}\n")).collect();
     if told.is_empty() {
         text += if old.bytes == new.bytes {

@@ -5,6 +5,7 @@ use crate::files;
 use crate::named;
 use crate::pressing::{NAMES, Pressing, names};
 use crate::said::{Answer, Failure, Said};
+use crate::saves::SAVE;
 use crate::table::grouped;
 
 /// Where to put what would be printed.
@@ -26,11 +27,20 @@ pub const COMMAND: Command = Command {
     run,
 };
 
+/// The files that a command reads which prints one: its words, its names and its saves.
+fn read<'a>(args: &'a Args) -> impl Iterator<Item = &'a str> {
+    let saves = args.all(SAVE.name).filter_map(|save| save.split_once('='));
+    let saves = saves.map(|(_, file)| file);
+    let words = args.words.iter().copied();
+    words.chain(args.all(NAMES.name)).chain(saves)
+}
+
 /// Says the text, or writes it to the file that was asked for.
 pub fn put(args: &Args, text: String) -> Result<String, Failure> {
     let Some(out) = args.one(OUT.name) else {
         return Ok(text);
     };
+    files::apart(out, read(args))?;
     files::write_whole(out, text.as_bytes())?;
     Ok(format!("{out}: {} bytes\n", grouped(text.len())))
 }

@@ -80,6 +80,7 @@ fn run(args: &Args) -> Answer {
     let [file, text, out] = args.words[..] else {
         return Err(COMMAND.misused("three files are due"));
     };
+    files::apart(out, args.one(NAMES.name).into_iter().chain([text]))?;
     let (names, loader, old) = (names(args)?, loader(args)?, stage(file)?);
     let given = named::read(&files::read_text(text)?, &names);
     let given = given.map_err(|bad| Failure::at(text, &bad))?;
@@ -88,7 +89,7 @@ fn run(args: &Args) -> Answer {
         .map_err(|refused| Failure::of(text, refused))?;
     let mut said: String = findings
         .iter()
-        .map(|finding| format!("{finding}\n"))
+        .map(|finding| words::finding(finding, &names) + "\n")
         .collect();
     let refused = |refused: Refused| Failure::of(file, refused);
     let (mut new, mut read) = pressed(&old, loader, &given).map_err(refused)?;

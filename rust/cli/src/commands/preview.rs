@@ -41,7 +41,7 @@ fn run(args: &Args) -> Answer {
     let sheet = &pressing.stage.sheet;
     let save = saves::of_args(args, &args.words[1..], sheet, &names)?;
     let seen = pressing.shop.preview(sheet, &save);
-    let seen = seen.map_err(|refused| pressing.refused(refused))?;
+    let seen = seen.map_err(|refused| saves::refused(args, refused))?;
     let table = pairs(seen.pairs.into_iter(), &names);
     Ok(Said::done(format!(
         "{table}variable 0 ends as {}\n",

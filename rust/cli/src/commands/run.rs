@@ -37,8 +37,7 @@ fn budget(args: &Args) -> Result<u32, Failure> {
 
 fn run(args: &Args) -> Answer {
     let (names, budget) = (names(args)?, budget(args)?);
-    let file = args.words[0];
-    let stage = stage(file)?;
+    let stage = stage(args.words[0])?;
     let mut save = saves::of_args(args, &args.words[1..], &stage.sheet, &names)?;
     let ran = stage
         .script
@@ -49,6 +48,6 @@ fn run(args: &Args) -> Answer {
         "{table}variable 0 ends as {variable0}; {} blocks entered\n",
         ran.entered
     ));
-    said.failure = ran.refusal.map(|refused| Failure::of(file, refused));
+    said.failure = ran.refusal.map(|refused| saves::refused(args, refused));
     Ok(said)
 }

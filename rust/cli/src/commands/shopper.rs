@@ -1,13 +1,13 @@
 //! `shopper`: a shopper with money and wishes.
 
-use super::bill::{TARIFF, tariff};
+use super::bill::{self, TARIFF, tariff};
 use crate::args::{Args, Command, Opt, Takes};
 use crate::names::Names;
 use crate::pressing::{NAMES, Pressing, names};
 use crate::said::{Answer, Failure, Said};
 use crate::saves::{self, SAVE};
 use crate::words;
-use locustkeno::{Shopper, Slot, Step};
+use locustkeno::{Refusal, Refused, Shopper, Slot, Step};
 
 const MONEY: Opt = Opt {
     name: "--money",
@@ -50,6 +50,15 @@ fn step(step: Step, slot: &Slot, names: &Names) -> String {
     }
 }
 
+/// A refusal, with the file or the option that it is about.
+fn refused(args: &Args, refused: Refused) -> Failure {
+    match refused.refusal() {
+        Refusal::TooManyWishes | Refusal::NoSuchWish => Failure::of(WISH.name, refused),
+        Refusal::BadMoney => Failure::of(MONEY.name, refused),
+        _ => bill::refused(args, refused),
+    }
+}
+
 fn run(args: &Args) -> Answer {
     let names = names(args)?;
     let money = number(MONEY.name, args.due(MONEY.name)?)?;
@@ -62,7 +71,7 @@ fn run(args: &Args) -> Answer {
     let save = saves::of_args(args, &args.words[1..], sheet, &names)?;
     let mut shopper = Shopper { save, money };
     let steps = shopper.shop(sheet, &pressing.shop, &tariff, &wishes);
-    let steps = steps.map_err(|refused| pressing.refused(refused))?;
+    let steps = steps.map_err(|refused| self::refused(args, refused))?;
     let slots = pressing.shop.slots();
     let mut said = Said::done(String::new());
     for (i, (made, wish)) in steps.iter().zip(&wishes).enumerate() {

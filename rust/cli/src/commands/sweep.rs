@@ -112,10 +112,10 @@ fn sweep(files: &[&str], stage: &Stage, names: &Names) -> Result<Seen, Failure> 
         told: Instant::now(),
     };
     for (i, file) in files.iter().enumerate() {
-        for named in saves::of_file(file, &stage.sheet, names)? {
+        saves::each_of_file(file, &stage.sheet, names, |named| {
             sweep.add(named);
             sweep.tell(i + 1, files.len());
-        }
+        })?;
     }
     sweep.run();
     Ok(sweep.seen)
@@ -147,7 +147,8 @@ fn text(seen: &Seen, shop: &Shop, names: &Names) -> (String, bool) {
             never.push(i.to_string());
         }
     }
-    let mut text = format!("{}{} saves\n", table.text(), grouped(seen.saves));
+    let saves = if seen.saves == 1 { "save" } else { "saves" };
+    let mut text = format!("{}{} {saves}\n", table.text(), grouped(seen.saves));
     if !never.is_empty() {
         text += &format!("never shown: slot {}\n", never.join(", "));
     }
