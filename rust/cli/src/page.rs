@@ -25,8 +25,25 @@ p, li { overflow-wrap: anywhere; }
 .sign td { height: 14mm; }
 ";
 
-/// A save's name and what the shop means for it, or that its run is stopped.
-pub type Previewed = (String, Result<Preview, Refused>);
+/// A save that the page is to show.
+pub struct Previewed {
+    pub name: String,
+    /// What it holds.
+    pub settings: Vec<String>,
+    /// What the shop means for it, or that its run is stopped.
+    pub seen: Result<Preview, Refused>,
+}
+
+impl Previewed {
+    /// The save's name and all that it holds.
+    fn line(&self) -> String {
+        let held = match &self.settings[..] {
+            [] => "nothing".into(),
+            settings => settings.join(", "),
+        };
+        format!("{}: {held}", self.name)
+    }
+}
 
 /// What a slot is under a save.
 fn cell(seen: &Result<Preview, Refused>, slot: usize) -> String {
@@ -108,11 +125,7 @@ impl Page<'_> {
     /// Some saves side by side, a row for each slot with an item.
     fn abreast(&self, previews: &[Previewed]) -> String {
         let mut heading = vec![("slot", 7), ("item", 25)];
-        heading.extend(
-            previews
-                .iter()
-                .map(|(name, _)| (name.as_str(), 68 / ABREAST)),
-        );
+        heading.extend(previews.iter().map(|one| (one.name.as_str(), 68 / ABREAST)));
         let slots = self.new.shop.slots();
         let filled = slots
             .iter()
@@ -120,7 +133,7 @@ impl Page<'_> {
             .filter(|(_, slot)| slot.item.is_some());
         let rows = filled.map(|(i, slot)| {
             let mut row = vec![i.to_string(), words::item(slot.item, self.names)];
-            row.extend(previews.iter().map(|(_, seen)| cell(seen, i)));
+            row.extend(previews.iter().map(|one| cell(&one.seen, i)));
             row
         });
         table(&heading, &rows.collect::<Vec<_>>())
@@ -131,7 +144,9 @@ impl Page<'_> {
             return list(&[], "No save was given.");
         }
         let parts = self.previews.chunks(ABREAST);
-        parts.map(|part| self.abreast(part)).collect()
+        let tables: String = parts.map(|part| self.abreast(part)).collect();
+        let held: Vec<String> = self.previews.iter().map(Previewed::line).collect();
+        tables + &list(&held, "")
     }
 
     fn findings(&self) -> String {

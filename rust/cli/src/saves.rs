@@ -55,6 +55,35 @@ fn set(save: &mut Save, setting: &str, names: &Names) -> Result<(), String> {
     }
 }
 
+/// The settings of one kind that are not what a save begins with.
+fn changed<T: Copy + PartialEq + Into<i32>>(
+    kind: Kind,
+    now: &[T],
+    before: &[T],
+    names: &Names,
+) -> Vec<String> {
+    let pairs = (0..).zip(now.iter().zip(before));
+    let others = pairs.filter(|(_, (now, before))| now != before);
+    let told = others.map(|(i, (now, _))| {
+        let value: i32 = (*now).into();
+        format!("{} {} = {value}", kind.word(), names.label(kind, i))
+    });
+    told.collect()
+}
+
+/// What sets a save apart from the one that has nothing, for a reader: `item 7 toothbrush = 2`.
+pub fn told(save: &Save, sheet: &Sheet, names: &Names) -> Vec<String> {
+    let before = start(sheet);
+    [
+        changed(Kind::Item, &save.items, &before.items, names),
+        changed(Kind::Atc, &save.atcs, &before.atcs, names),
+        changed(Kind::Flag, &save.flags, &before.flags, names),
+        changed(Kind::Time, &save.times, &before.times, names),
+        changed(Kind::Variable, &save.variables, &before.variables, names),
+    ]
+    .concat()
+}
+
 /// A save with its name.
 #[derive(Debug, Clone, PartialEq, Eq)]
 pub struct Named {
@@ -155,7 +184,7 @@ pub fn refused(args: &Args, refused: Refused) -> Failure {
 
 #[cfg(test)]
 mod tests {
-    use super::{Named, each, set, start};
+    use super::{Named, each, set, start, told};
     use crate::lines::BadLine;
     use crate::names::Names;
     use locustkeno::{Item, Sheet};
@@ -187,6 +216,10 @@ mod tests {
         assert_eq!((save.items[7], save.atcs[1], save.flags[2_047]), (2, 1, 1));
         assert_eq!((save.times[2], save.variables[0]), (-200, 70_000));
         assert_eq!((save.pair(0), save.pair(19)), ((-1, 0), (-1, 0)));
+        let settings = told(&save, &sheet(), &names);
+        let due = "item 7 comb = 2; atc 1 = 1; flag 2047 = 1; time 2 rate = -200; var 0 = 70000";
+        assert_eq!(settings.join("; "), due);
+        assert!(told(&start(&sheet()), &sheet(), &names).is_empty());
     }
 
     #[test]

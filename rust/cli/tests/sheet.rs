@@ -52,6 +52,7 @@ fn rows() {
         "<th>early</th><th>&lt;b&gt;&#39;late&#39;&amp;</th>",
         "<tr><td>0</td><td>7 toothbrush</td><td>1</td><td>hidden</td></tr>",
         "<tr><td>6</td><td>11 soap</td><td>hidden</td><td>5</td></tr>",
+        "<li>early: item 7 toothbrush = 1, time 2 rate = 200</li>",
         "<p>Nothing was found.</p>",
         "<p>What is printed is what runs.</p>",
         "<th>name</th><th>date</th><th>signature</th>",

@@ -34,7 +34,7 @@ fn previews(args: &Args, new: &Pressing, names: &Names) -> Result<Vec<Previewed>
     for given in args.all(SAVES.name) {
         let parts = given.split_once('=').filter(|(name, _)| !name.is_empty());
         let (name, file) = parts.ok_or_else(|| Failure::of(given, "is no NAME=SAVE"))?;
-        if previews.iter().any(|(before, _)| before == name) {
+        if previews.iter().any(|before| before.name == name) {
             return Err(Failure::of(given, "another save has this name"));
         }
         let save = saves::one_of_file(file, &new.stage.sheet, names)?;
@@ -42,7 +42,11 @@ fn previews(args: &Args, new: &Pressing, names: &Names) -> Result<Vec<Previewed>
         // A shop that no run gets through is for the page to say; all else is wrong with the save.
         match seen {
             Err(refused) if refused != Refusal::NoFlag => return Err(Failure::of(file, refused)),
-            seen => previews.push((name.to_owned(), seen)),
+            seen => previews.push(Previewed {
+                name: name.to_owned(),
+                settings: saves::told(&save, &new.stage.sheet, names),
+                seen,
+            }),
         }
     }
     Ok(previews)
