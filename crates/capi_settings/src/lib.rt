@@ -4,29 +4,12 @@ ghost use Rattle.shop.specs.Shapes.{sheetOf, slotOf};
 ghost use Rattle.capi_values.specs.Values.{sheetBy};
 ghost use Rattle.settings_model.specs.Settings.{settingsCall};
 ghost use Rattle.settings.specs.Answer.{settingsOf};
-ghost use Rattle.capi_settings.specs.Slots.{slotBy};
+ghost use Rattle.shop_arrays.specs.Arrays.{slotIn};
 use capi_values::sheet_by;
 use settings::Settings;
 use settings::settings_of;
 use shop::Row;
-use shop::SLOTS;
-use shop::Slot;
-use shop_arrays::item_at;
-
-// -1 is no item; a number that no item can have stands for an item that no sheet has, as in the arrays of a shop.
-fn slot_by(item: i32, limit: i16, codes: &Row, len: u8) -> Slot
-    ensures { λ r. ⌜ r ≡ slotBy item limit (now (codes .entry)) len ⌝ }
-{
-    let items = [item; SLOTS];
-    let it = item_at(&items, 0);
-    let row = *codes;
-    Slot {
-        item: it,
-        limit: limit,
-        requirements: row,
-        len: len,
-    }
-}
+use shop_arrays::slot_by;
 
 // The slot's subjects, and in how many combinations of their answers it is listed and hidden; refused, every number is 0.
 #[no_mangle]
@@ -41,7 +24,7 @@ pub extern "C" fn lk_settings(
     codes: &Row,
     len: u8,
 ) -> Settings
-    ensures { λ r. ⌜ r ≡ settingsOf (settingsCall (sheetOf (now (attached .entry)) (sheetBy atcs timer5 timer10 timer15)) (slotOf (slotBy item limit (now (codes .entry)) len))) ⌝ }
+    ensures { λ r. ⌜ r ≡ settingsOf (settingsCall (sheetOf (now (attached .entry)) (sheetBy atcs timer5 timer10 timer15)) (slotOf (slotIn item limit (now (codes .entry)) len))) ⌝ }
 {
     let sheet = sheet_by(atcs, timer5, timer10, timer15);
     let slot = slot_by(item, limit, codes, len);

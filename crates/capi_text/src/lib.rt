@@ -3,15 +3,15 @@ ghost use mathlib.Core.Path.{_≡_};
 ghost use lib.ListN.{length};
 ghost use Rattle.model.specs.Limits.{slotCount};
 ghost use Rattle.model.specs.Sheet.{all};
-ghost use Rattle.shop_arrays.specs.Arrays.{arraysIn, arraysOf, itemTo, itemsOf};
+ghost use Rattle.shop_arrays.specs.Arrays.{arraysIn, arraysOf, itemsOf};
 ghost use Rattle.text_model.specs.Text.{readText};
 ghost use Rattle.capi_text.specs.Calls.{readCall, few, printCall};
 use shop::Codes;
 use shop::ENTRIES;
 use shop::SLOTS;
 use shop::Shop;
-use shop::SlotItem;
 use shop_arrays::arrays_of;
+use shop_arrays::item_to;
 use shop_arrays::shop_from;
 use shop_arrays::sizes;
 use slots_text::Text;
@@ -37,15 +37,6 @@ fn known_items(items: &[i32; SLOTS]) -> usize
     part.len()
 }
 
-fn item_word(item: SlotItem) -> i32
-    ensures { λ r. ⌜ r ≡ itemTo item ⌝ }
-{
-    match item {
-        SlotItem::Nothing => -1,
-        SlotItem::Of(w) => w.0 as i32,
-    }
-}
-
 fn put_items(shop: Shop, items: &mut [i32; SLOTS])
     ensures { λ _. ⌜ now (items .exit) ≡ itemsOf shop ⌝ }
 {
@@ -54,7 +45,7 @@ fn put_items(shop: Shop, items: &mut [i32; SLOTS])
     while i < SLOTS {
         let slot = shop.slots[i];
         let item = slot.item;
-        let x = item_word(item);
+        let x = item_to(item);
         items[i] = x;
         i += 1;
     }

@@ -14,6 +14,7 @@ use Rattle.model.specs.Sheet.{Sheet, itemCount, all}
 use Rattle.model.specs.Requirement.{Requirement}
 use Rattle.model.specs.Shop
 use Rattle.model.specs.Parse.{updateSlot, updateSlots, fewEntries, blank}
+use Rattle.model.specs.Laws.Walks.{updates-length}
 use Rattle.shop.specs.Shapes.{slotOf, slotsOf, placed}
 use Rattle.shop.specs.Good.{beyond, GoodSlot, GoodShop, own-few}
 use Rattle.shop.specs.declared.Slot.{Slot}
@@ -39,12 +40,6 @@ pub record SlotsUpdated (shop : Shop) (items : ℕ) (ms ns : List (Option ℤ)) 
 
 true-false : true ≡ false → ⊥
 true-false e = let z : _≡_ {A = ℕ} 0 1 = cc in omega arith
-
-slots-length : (h : Sheet) (rs : List Requirement) (ms ns : List (Option ℤ)) (xs : List Shop.Slot) → length (updateSlots h rs ms ns xs) ≡ length xs
-slots-length h rs [] ns xs = refl
-slots-length h rs (a ∷ ms) [] xs = refl
-slots-length h rs (a ∷ ms) (b ∷ ns) [] = refl
-slots-length h rs (a ∷ ms) (b ∷ ns) (x ∷ xs) = ap suc (slots-length h rs ms ns xs)
 
 slots-at : (h : Sheet) (rs : List Requirement) (ms ns : List (Option ℤ)) (xs : List Shop.Slot) (j : ℕ) (d : Shop.Slot) → length ms ≡ length xs → length ns ≡ length xs → j < length xs
     → getD (updateSlots h rs ms ns xs) j d ≡ updateSlot h rs (getD ms j none) (getD ns j none) (getD xs j d)
@@ -155,7 +150,7 @@ module _ (shop : Shop) (items : ℕ) (ms ns : List (Option ℤ)) (P : List Requi
         let y : fewEntries (getD (slotsThen h rs ms ns shop) i (slotOf beyond)) ≡ false =
         ap fewEntries (z ∙ ap (updateSlot h rs (getD ms i none) (getD ns i none)) (List·getD-map slotOf (shop .slots) i beyond ∙ ap slotOf (sym (v .rest i (omega arith))))) ∙ sym (a .ok) ∙ f in
         record {
-          ok = sym (all-false fewEntries (slotsThen h rs ms ns shop) i (slotOf beyond) (omega (arith, slots-length h rs ms ns (slotsOf shop), k)) y);
+          ok = sym (all-false fewEntries (slotsThen h rs ms ns shop) i (slotOf beyond) (omega (arith, updates-length h rs ms ns (slotsOf shop), k)) y);
           is = λ t. absurd (true-false (sym t));
           good = λ t. absurd (true-false (sym t));
         }
@@ -165,7 +160,7 @@ module _ (shop : Shop) (items : ℕ) (ms ns : List (Option ℤ)) (P : List Requi
       → (h : Sheet) (rs : List Requirement) → itemCount h ≡ items → P rs → UpdatedBy h rs shop ms ns true out
   unfolding slotsOf
   half-done q s out at l v h rs i w =
-      let n = slots-length h rs ms ns (slotsOf shop) in
+      let n = updates-length h rs ms ns (slotsOf shop) in
       let m = length-map (shop .slots) slotOf in
       let m′ = length-map (out .slots) slotOf in
       let d = v .done h rs i w in

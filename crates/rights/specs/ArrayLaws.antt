@@ -14,8 +14,7 @@ use Rattle.model.specs.Sheet as Model
 use Rattle.rights_model.specs.Rights.{Table, editRefusal}
 use Rattle.rights_model.specs.Fields.{allowed}
 use Rattle.shop.specs.declared.Slot.{Slot}
-use Rattle.shop.specs.declared.SlotItem.{SlotItem}
-use Rattle.shop_arrays.specs.Arrays.{Arrays, arraysIn, itemFrom}
+use Rattle.shop_arrays.specs.Arrays.{Arrays, arraysIn}
 use Rattle.shop_arrays.specs.Slots.{noArrays}
 use Rattle.rights.specs.InArrays.{Contents, arraysEdited, arraysShown, arraysWith, editedAs, fieldFrom, firstShown, placeFor, shownAt, slotBy}
 use Rattle.rights.specs.Values.{editOf}
@@ -49,9 +48,6 @@ place-high zero i l = absurd (omega arith)
 place-high (suc zero) i l = absurd (omega arith)
 place-high (suc (suc zero)) i l = absurd (omega arith)
 place-high (suc (suc (suc n))) i l = refl
-
-pub slot-made : (x : Contents) (o : SlotItem) (z : ℤ) → o ≡ itemFrom (x .item) → z ≡ x .limit → record { item = o; limit = z; requirements = x .codes; len = x .len } ≡ slotBy x
-slot-made x o z e d = rw (e, d)
 
 -- one array written, the others as they were
 module _ (n : ℕ) (x : Contents) (i : ℕ) (a : Arrays) where

@@ -11,7 +11,7 @@ use Rattle.model.specs.Refusal.{accepted, check, noUser}
 use Rattle.model.specs.Sheet as Model
 use Rattle.rights_model.specs.Rights.{Rights, Table, editRefusal}
 use Rattle.shop.specs.declared.Slot.{Slot}
-use Rattle.shop_arrays.specs.Arrays.{Arrays, arraysIn, itemFrom}
+use Rattle.shop_arrays.specs.Arrays.{Arrays, arraysIn, slotIn}
 use Rattle.shop_arrays.specs.Slots.{noArrays}
 use Rattle.rights.specs.Values.{editOf}
 use Rattle.rights.specs.declared.Field.{Field}
@@ -41,7 +41,7 @@ abbrev pub contents : ℤ → ℤ → List ℕ → ℕ → Contents
 contents z l cs n = record { item = z; limit = l; codes = cs; len = n }
 
 abbrev pub slotBy : Contents → Slot
-slotBy x = record { item = itemFrom (x .item); limit = x .limit; requirements = x .codes; len = x .len }
+slotBy x = slotIn (x .item) (x .limit) (x .codes) (x .len)
 
 -- the content at slot i, all else as it was
 abbrev pub arraysWith : Field → Contents → ℕ → Arrays → Arrays

@@ -11,7 +11,7 @@ ghost use Rattle.shop.specs.Shapes.{sheetOf, itemOf, noSlot, placed};
 ghost use Rattle.shop_arrays.specs.Arrays.{arraysIn};
 ghost use Rattle.rights.specs.Values.{bitOf, contentOf, editOf, fieldIs, tableOf, weightOf};
 ghost use Rattle.rights.specs.InShops.{changedSlot, shopEdited, shopShown};
-ghost use Rattle.rights.specs.InArrays.{arraysEdited, arraysShown, arraysWith, contents, emptied, fieldFrom, placeFor, shownAt, slotBy};
+ghost use Rattle.rights.specs.InArrays.{arraysEdited, arraysShown, arraysWith, contents, emptied, fieldFrom, placeFor, shownAt};
 use shop::Codes;
 use shop::ENTRIES;
 use shop::Row;
@@ -27,7 +27,7 @@ use shop::empty_shop;
 use shop::empty_slot;
 use shop::with_slot;
 use shop_arrays::clear_arrays;
-use shop_arrays::item_at;
+use shop_arrays::slot_by;
 
 // Up to so many users work on one shop; a byte of rights for each user and slot, user by user.
 pub const USERS: usize = 16;
@@ -265,20 +265,6 @@ fn place_for(field: u8, slot: u32) -> u32
         return slot;
     }
     SLOTS_HERE
-}
-
-fn slot_by(item: i32, limit: i16, entries: &Row, len: u8) -> Slot
-    ensures { λ r. ⌜ r ≡ slotBy (contents item limit (now (entries .entry)) len) ⌝ }
-{
-    let items = [item; SLOTS];
-    let it = item_at(&items, 0);
-    let row = *entries;
-    Slot {
-        item: it,
-        limit: limit,
-        requirements: row,
-        len: len,
-    }
 }
 
 // How long the array is: the proof of the loop over it asks for that.

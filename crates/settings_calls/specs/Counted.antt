@@ -17,7 +17,7 @@ use Rattle.model.specs.RecordCalls.{Born, runIn}
 use Rattle.model.specs.Lists.{Along, afterAll, lastAt, nowAt}
 use Rattle.shop.specs.Shapes.{noSlot, slotOf, slotsOf}
 use Rattle.shop.specs.Slots.{empty-slot}
-use Rattle.shop_arrays.specs.Arrays.{Arrays, rowAt, shopFrom, slotAt}
+use Rattle.shop_arrays.specs.Arrays.{Arrays, rowAt, shopFrom, slotAt, slotIn}
 use Rattle.shop_arrays.specs.Slots.{slot-in}
 use Rattle.reclaim_record.specs.Stands.{LongBorn}
 use Rattle.settings_model.specs.Settings.{combos, count, listedBy, settingOf, settingsCall, subjects}
@@ -28,12 +28,11 @@ use Rattle.settings.specs.declared.Settings.{Settings}
 use Rattle.settings.specs.Answer.{settingsOf}
 use Rattle.capi.specs.declared.Ran.{Ran}
 use Rattle.capi.specs.Answers.{ranAs}
-use Rattle.capi_settings.specs.Slots.{slotBy}
 use Rattle.library.specs.Delivered.{AsPromised, Made, means-of, made, shopOf}
 
 -- slot i of the shop that four arrays stand for is the one that lk_settings takes by its item, limit, codes and length
 pub slot-of-arrays : (a : Arrays) (i : ℕ) → i < slotCount
-    → slotOf (slotBy (getD (a .items) i (pos 0)) (getD (a .limits) i (pos 0)) (rowAt (a .codes) i) (getD (a .lens) i 0)) ≡ getD (shopOf a) i emptySlot
+    → slotOf (slotIn (getD (a .items) i (pos 0)) (getD (a .limits) i (pos 0)) (rowAt (a .codes) i) (getD (a .lens) i 0)) ≡ getD (shopOf a) i emptySlot
 unfolding slotsOf slotAt
 slot-of-arrays a i l = sym (ap (λ d. getD (shopOf a) i d) (sym empty-slot) ∙ List·getD-map slotOf (shopFrom a .slots) i noSlot ∙ ap slotOf (slot-in a i noSlot l))
 
@@ -78,7 +77,7 @@ runs-so h x s z e = record {
 -- the first call gets the script k, each later one the script as the one before left it; ys is the shop that was accepted last at block b, which is b′ after the list
 module _ (h : Sheet) (k : Born) (xs : List Made) (long : LongBorn k) (promised : Along made (AsPromised h) k xs) (b b′ : ℕ) (ys : List Slot) (now : nowAt made k xs b ≡ some b′) (last : lastAt made k xs b ≡ some ys) where
   -- lk_settings of its slot i, by any numbers that stand for that slot, answered q; lk_run from there under a save that fits was not refused and left v
-  pub settings-run : (i : ℕ) → i < length ys → (z l : ℤ) (cs : List ℕ) (n : ℕ) → slotOf (slotBy z l cs n) ≡ getD ys i emptySlot → (q : Settings) → q ≡ settingsOf (settingsCall h (slotOf (slotBy z l cs n))) → q .refusal ≡ 0
+  pub settings-run : (i : ℕ) → i < length ys → (z l : ℤ) (cs : List ℕ) (n : ℕ) → slotOf (slotIn z l cs n) ≡ getD ys i emptySlot → (q : Settings) → q ≡ settingsOf (settingsCall h (slotOf (slotIn z l cs n))) → q .refusal ≡ 0
       → (s : Save) → saveRefusal h s ≡ 0 → (budget : ℕ) (r : Ran) (v : List ℤ) → ranAs r v ≡ runIn h (afterAll made k xs .memory) b′ s budget → r .refusal ≡ 0
       → Counted h (getD ys i emptySlot) q × Runs h (getD ys i emptySlot) (q .subjects) s (getD v (itemFirst + i) (pos 0))
   settings-run i low z l cs n e q p a s f budget r v u o =

@@ -33,13 +33,16 @@ arraysIn items limits codes lens = record { items = items; limits = limits; code
 
 -- ---- from arrays
 
+-- the slot that numbers stand for
+abbrev pub slotIn : ℤ → ℤ → List ℕ → ℕ → Slot
+slotIn item limit codes len = record { item = itemFrom item; limit = limit; requirements = codes; len = len }
+
 -- the codes of slot i
 abbrev pub rowAt : List ℕ → ℕ → List ℕ
 rowAt codes i = take entryLimit (drop (entryLimit * i) codes)
 
 unfoldable pub slotAt : Arrays → ℕ → Slot
-slotAt a i =
-    record { item = itemFrom (getD (a .items) i (pos 0)); limit = getD (a .limits) i (pos 0); requirements = rowAt (a .codes) i; len = getD (a .lens) i 0 }
+slotAt a i = slotIn (getD (a .items) i (pos 0)) (getD (a .limits) i (pos 0)) (rowAt (a .codes) i) (getD (a .lens) i 0)
 
 -- n of the slots from slot i on
 unfoldable pub slotsFrom : Arrays → ℕ → ℕ → List Slot

@@ -23,6 +23,7 @@ use Rattle.model.specs.Requirement.{Requirement, haveItem, missingItem, haveAtc
 use Rattle.model.specs.Sheet.{Sheet, all, itemCount}
 use Rattle.model.specs.Parse.{addReq, compareReq, gather, idBelow, ifZero, isJoin, isNot, join, mapReq, parseRequirement, parseRequirements, readReq, signed, value}
 use Rattle.model.specs.Laws.Checks.{and-left, and-right}
+use Rattle.model.specs.Laws.Normal.{all-insert}
 use Rattle.model.specs.Laws.Signed.{lowBits-under}
 use Rattle.model.specs.Laws.ImageExpr.{FitsExpr}
 use Rattle.text_model.specs.Text.{half32, reqPrintable}
@@ -157,16 +158,6 @@ requirement-fits h other f = refl
 
 -- ---- sets of them
 
-insert-fits : (r : Requirement) (xs : List Requirement) → reqPrintable r ≡ true → all reqPrintable xs ≡ true → all reqPrintable (insert r xs) ≡ true
-unfolding insert
-insert-fits r [] p q = rw p
-insert-fits r (x ∷ xs) p q = by (sameReq r x) (before r x) (insert-fits r xs p (and-right (reqPrintable x) (all reqPrintable xs) q))
-  where
-    by : (s b : Bool) → all reqPrintable (insert r xs) ≡ true → all reqPrintable (cond s (x ∷ xs) (cond b (r ∷ x ∷ xs) (x ∷ insert r xs))) ≡ true
-    by true b ih = q
-    by false true ih = both (reqPrintable r) (all reqPrintable (x ∷ xs)) p q
-    by false false ih = both (reqPrintable x) (all reqPrintable (insert r xs)) (and-left (reqPrintable x) (all reqPrintable xs) q) ih
-
 keep-fits : (k : Requirement → Bool) (xs : List Requirement) → all reqPrintable xs ≡ true → all reqPrintable (keep k xs) ≡ true
 keep-fits k [] q = refl
 keep-fits k (x ∷ xs) q = by (k x) (keep-fits k xs (and-right (reqPrintable x) (all reqPrintable xs) q))
@@ -179,7 +170,7 @@ pub extend-fits : (rs xs : List Requirement) → all reqPrintable rs ≡ true �
 extend-fits rs [] p q = p
 extend-fits rs (x ∷ xs) p q =
     extend-fits (insert (negateReq x) rs) xs
-    (insert-fits (negateReq x) rs (negate-fits x ∙ and-left (reqPrintable x) (all reqPrintable xs) q) p) (and-right (reqPrintable x) (all reqPrintable xs) q)
+    (all-insert reqPrintable (negateReq x) rs (negate-fits x ∙ and-left (reqPrintable x) (all reqPrintable xs) q) p) (and-right (reqPrintable x) (all reqPrintable xs) q)
 
 -- ---- those of a condition
 
@@ -189,7 +180,7 @@ signed-fits false r p = p
 
 add-fits : (n : Bool) (o : Option Requirement) (rs : List Requirement) → reqFits o ≡ true → all reqPrintable rs ≡ true → all reqPrintable (addReq n o rs) ≡ true
 add-fits n none rs p q = q
-add-fits n (some r) rs p q = insert-fits (signed n r) rs (signed-fits n r p) q
+add-fits n (some r) rs p q = all-insert reqPrintable (signed n r) rs (signed-fits n r p) q
 
 gather-fits : (h : Sheet) (e : Expr) (n : Bool) (rs : List Requirement) → immsFit e ≡ true → all reqPrintable rs ≡ true → all reqPrintable (gather h e n rs) ≡ true
 unfolding gather

@@ -27,6 +27,7 @@ use Rattle.model.specs.Judge.{counted, scriptRefusal, setupRefusal, sharedRefus
 use Rattle.model.specs.Laws.Checked.{all-at}
 use Rattle.model.specs.Laws.Checks.{and-left, and-right, first-passed}
 use Rattle.model.specs.Laws.Judged.{accepted-held}
+use Rattle.model.specs.Laws.Walks.{updates-length}
 use Rattle.model.specs.Laws.Sound.{SoundBlock, SoundBlocks, SoundCommand, SoundCommands}
 use Rattle.text_model.specs.Text.{slots, bad, itemPrintable, noSlot, printable, readLines, readNatural, readNumber, readSlot, readText, reqPrintable, slotPrintable}
 use Rattle.text_model.specs.Inverse.{bad≢slots, printed-reads, slots-same}
@@ -157,12 +158,6 @@ module _ (h : Sheet) (rs : List Requirement) (r : all reqPrintable rs ≡ true) 
     updates-fit ms ns xs (and-right (numberFits w16 a) (all (numberFits w16) ms) f) (and-right (numberFits w16 b) (all (numberFits w16) ns) g) (s .1),
   )
 
-updates-long : (h : Sheet) (rs : List Requirement) (ms ns : List (Option ℤ)) (xs : List Slot) → length (updateSlots h rs ms ns xs) ≡ length xs
-updates-long h rs [] ns xs = refl
-updates-long h rs (a ∷ ms) [] xs = refl
-updates-long h rs (a ∷ ms) (b ∷ ns) [] = refl
-updates-long h rs (a ∷ ms) (b ∷ ns) (x ∷ xs) = ap suc (updates-long h rs ms ns xs)
-
 -- ---- the walk
 
 record StateFits (st : State) : Type 0 where
@@ -188,7 +183,7 @@ module _ (h : Sheet) (c : Option Expr) (g : conditionFits c ≡ true) (cs : List
       let k = scanned-fits st s in
       record {
         slots = updates-fit h (parseRequirements h c) (condition-fits h c g) (scanned c cs st .items) (scanned c cs st .counts) (st .slots) (k .items) (k .counts) (s .slots);
-        long = updates-long h (parseRequirements h c) (scanned c cs st .items) (scanned c cs st .counts) (st .slots) ∙ s .long;
+        long = updates-length h (parseRequirements h c) (scanned c cs st .items) (scanned c cs st .counts) (st .slots) ∙ s .long;
         current = k .limit;
         few = few (all fewEntries (slotsAfter h c cs st));
       }

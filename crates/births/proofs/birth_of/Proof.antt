@@ -5,20 +5,8 @@ use borrow.Author.Needs.{needs}
 use Rattle.births.proofs.birth_of.Statement.{statement}
 use Rattle.births.proofs.birth_of.Tie as tie
 
-cast-i : tie.Need-cast-i
-cast-i c = search needs
-
-mul-result : tie.Need-mul-result
-mul-result c = search needs
-
-shared-slice-read-result : tie.Need-shared-slice-read-result
-shared-slice-read-result c = search needs
-
-returns : tie.Need-returns
-returns c = search needs
-
 returns-2 : tie.Need-returns-2
 returns-2 c = sym (List·getD-eq-default (c .before .before .before .args .births .now) 0 (c .if1 .left))
 
 pub birth-of-spec : {M : Type 1} → statement M
-birth-of-spec = tie.close (tie.spec cast-i mul-result shared-slice-read-result returns returns-2)
+birth-of-spec = tie.close (tie.spec (λ c. search needs) (λ c. search needs) (λ c. search needs) (λ c. search needs) returns-2)

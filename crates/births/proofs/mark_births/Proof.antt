@@ -16,21 +16,6 @@ abbrev μ-loop : tie.MeasureT-loop
 loop-holds : tie.Need-loop-holds Inv-loop μ-loop
 loop-holds c = (c .pre .0, refl)
 
-cast-births : tie.Need-cast-births Inv-loop μ-loop
-cast-births c = search needs
-
-mul-births : tie.Need-mul-births Inv-loop μ-loop
-mul-births c = search needs
-
-element-write-births : tie.Need-element-write-births Inv-loop μ-loop
-element-write-births c = search needs
-
-add-b : tie.Need-add-b Inv-loop μ-loop
-add-b c = search needs
-
-loop-less : tie.Need-loop-less Inv-loop μ-loop
-loop-less c = search needs
-
 loop-again : tie.Need-loop-again Inv-loop μ-loop
 loop-again c = (omega (arith, c .loop-test .taken), c .before .loop .inv .1 ∙ marks-one _ _ _ _ (c .loop-test .taken))
 
@@ -44,10 +29,10 @@ mark-births-spec =
     Inv-loop
     μ-loop
     loop-holds
-    cast-births
-    mul-births
-    element-write-births
-    add-b
-    loop-less
+    (λ c. search needs)
+    (λ c. search needs)
+    (λ c. search needs)
+    (λ c. search needs)
+    (λ c. search needs)
     loop-again
     returns)

@@ -4,9 +4,6 @@ use Rattle.births.specs.Births.{compile-more, compile-stays}
 use Rattle.births.proofs.one_compile.Statement.{statement}
 use Rattle.births.proofs.one_compile.Tie as tie
 
-add-result : tie.Need-add-result
-add-result c = search needs
-
 returns : tie.Need-returns
 returns c = compile-more _ (c .if1 .taken)
 
@@ -14,4 +11,4 @@ returns-2 : tie.Need-returns-2
 returns-2 c = compile-stays _ (c .if1 .left)
 
 pub one-compile-spec : {M : Type 1} → statement M
-one-compile-spec = tie.close (tie.spec add-result returns returns-2)
+one-compile-spec = tie.close (tie.spec (λ c. search needs) returns returns-2)

@@ -5,16 +5,10 @@ use borrow.Author.Needs.{needs}
 use Rattle.capi.proofs.lk_preview.Statement.{statement}
 use Rattle.capi.proofs.lk_preview.Tie as tie
 
-sheet-by-requires : tie.Need-sheet-by-requires
-sheet-by-requires c κs = search needs
-
-preview-arrays-requires : tie.Need-preview-arrays-requires
-preview-arrays-requires c κs = search needs
-
 returns : tie.Need-returns
 returns c =
     let t = toZ-ofZ {w = w32} {z = c .before .before .before .preview-arrays .result .temp} (record { sfits = c .struct-told .given .1 .1 .1 .0 .1 }) in
     rw t (rw (c .before .before .before .before .sheet-by .ensures) at (c .before .before .before .preview-arrays .ensures))
 
 pub lk-preview-spec : {M : Type 1} → statement M
-lk-preview-spec = tie.close (tie.spec sheet-by-requires preview-arrays-requires returns)
+lk-preview-spec = tie.close (tie.spec (λ c κs. search needs) (λ c κs. search needs) returns)

@@ -5,18 +5,6 @@ use borrow.Author.Needs.{needs}
 use Rattle.capi.proofs.lk_read.Statement.{statement}
 use Rattle.capi.proofs.lk_read.Tie as tie
 
-start-anew-requires : tie.Need-start-anew-requires
-start-anew-requires c κs = search needs
-
-read-script-requires : tie.Need-read-script-requires
-read-script-requires c κs = search needs
-
-enum-known-r : tie.Need-enum-known-r
-enum-known-r c = search needs
-
-enum-known-r-2 : tie.Need-enum-known-r-2
-enum-known-r-2 c = search needs
-
 returns : tie.Need-returns
 returns c =
     let d = c .before .before .before in
@@ -29,4 +17,4 @@ returns-2 c =
 
 pub lk-read-spec : {M : Type 1} → statement M
 lk-read-spec =
-    tie.close (tie.spec start-anew-requires read-script-requires enum-known-r enum-known-r-2 returns returns-2)
+    tie.close (tie.spec (λ c κs. search needs) (λ c κs. search needs) (λ c. search needs) (λ c. search needs) returns returns-2)

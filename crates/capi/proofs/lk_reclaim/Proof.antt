@@ -3,11 +3,8 @@ use borrow.Author.Needs.{needs}
 use Rattle.capi.proofs.lk_reclaim.Statement.{statement}
 use Rattle.capi.proofs.lk_reclaim.Tie as tie
 
-reclaim-requires : tie.Need-reclaim-requires
-reclaim-requires c κs = search needs
-
 returns : tie.Need-returns
 returns c = c .before .reclaim .ensures _
 
 pub lk-reclaim-spec : {M : Type 1} → statement M
-lk-reclaim-spec = tie.close (tie.spec reclaim-requires returns)
+lk-reclaim-spec = tie.close (tie.spec (λ c κs. search needs) returns)

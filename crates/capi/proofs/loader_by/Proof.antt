@@ -11,11 +11,8 @@ other : (n : ℕ) → (n ≡ 0 → ⊥) → Demo ≡ loaderBy n
 other zero d = absurd (d refl)
 other (suc n) d = refl
 
-returns : tie.Need-returns
-returns c = search needs
-
 returns-2 : tie.Need-returns-2
 returns-2 c = other (c .before .args .number) (c .match .rest .1)
 
 pub loader-by-spec : {M : Type 1} → statement M
-loader-by-spec = tie.close (tie.spec returns returns-2)
+loader-by-spec = tie.close (tie.spec (λ c. search needs) returns-2)

@@ -3,14 +3,8 @@ use borrow.Author.Needs.{needs}
 use Rattle.capi_bill.proofs.lk_bill.Statement.{statement}
 use Rattle.capi_bill.proofs.lk_bill.Tie as tie
 
-sheet-by-requires : tie.Need-sheet-by-requires
-sheet-by-requires c κs = search needs
-
-bill-requires : tie.Need-bill-requires
-bill-requires c κs = search needs
-
 returns : tie.Need-returns
 returns c = rw (c .before .before .before .before .sheet-by .ensures) at (c .bill .ensures)
 
 pub lk-bill-spec : {M : Type 1} → statement M
-lk-bill-spec = tie.close (tie.spec sheet-by-requires bill-requires returns)
+lk-bill-spec = tie.close (tie.spec (λ c κs. search needs) (λ c κs. search needs) returns)

@@ -3,17 +3,8 @@ use borrow.Author.Needs.{needs}
 use Rattle.capi_lanes.proofs.lk_run_all.Statement.{statement}
 use Rattle.capi_lanes.proofs.lk_run_all.Tie as tie
 
-sheet-by-requires : tie.Need-sheet-by-requires
-sheet-by-requires c κs = search needs
-
-run-all-requires : tie.Need-run-all-requires
-run-all-requires c κs = search needs
-
-same-length : tie.Need-same-length
-same-length c = search needs
-
 returns : tie.Need-returns
 returns c = rw (c .before .before .before .before .before .sheet-by .ensures) at (c .before .run-all .ensures)
 
 pub lk-run-all-spec : {M : Type 1} → statement M
-lk-run-all-spec = tie.close (tie.spec sheet-by-requires run-all-requires same-length returns)
+lk-run-all-spec = tie.close (tie.spec (λ c κs. search needs) (λ c κs. search needs) (λ c. search needs) returns)

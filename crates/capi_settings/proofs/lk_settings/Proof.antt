@@ -12,15 +12,6 @@ use borrow.Author.Needs.{needs}
 use Rattle.capi_settings.proofs.lk_settings.Statement.{statement}
 use Rattle.capi_settings.proofs.lk_settings.Tie as tie
 
-sheet-by-requires : tie.Need-sheet-by-requires
-sheet-by-requires c κs = search needs
-
-slot-by-requires : tie.Need-slot-by-requires
-slot-by-requires c κs = search needs
-
-settings-of-requires : tie.Need-settings-of-requires
-settings-of-requires c κs = search needs
-
 returns : tie.Need-returns
 returns c =
     let s = c .before .before .before .before in
@@ -30,4 +21,4 @@ returns c =
     ∙ ap (λ (x : Slot). settingsOf (settingsCall (sheetOf (s .args .attached .now) (sheetBy (s .args .atcs) (s .args .timer5) (s .args .timer10) (s .args .timer15))) (slotOf x))) p
 
 pub lk-settings-spec : {M : Type 1} → statement M
-lk-settings-spec = tie.close (tie.spec sheet-by-requires slot-by-requires settings-of-requires returns)
+lk-settings-spec = tie.close (tie.spec (λ c κs. search needs) (λ c κs. search needs) (λ c κs. search needs) returns)

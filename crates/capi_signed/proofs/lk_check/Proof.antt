@@ -9,16 +9,10 @@ use borrow.Author.Needs.{needs}
 use Rattle.capi_signed.proofs.lk_check.Statement.{statement}
 use Rattle.capi_signed.proofs.lk_check.Tie as tie
 
-sheet-by-requires : tie.Need-sheet-by-requires
-sheet-by-requires c κs = search needs
-
-check-shop-requires : tie.Need-check-shop-requires
-check-shop-requires c κs = search needs
-
 returns : tie.Need-returns
 returns c =
     let s = c .before .before .before in
     c .check-shop .ensures ∙ ap (λ (h : Sheet). checkedOf (checkCall (sheetOf (s .args .attached .now) h) (slotsOf (shopFrom (arraysIn (s .args .items .now) (s .args .limits .now) (s .args .codes .now) (s .args .lens .now)))))) (c .before .sheet-by .ensures)
 
 pub lk-check-spec : {M : Type 1} → statement M
-lk-check-spec = tie.close (tie.spec sheet-by-requires check-shop-requires returns)
+lk-check-spec = tie.close (tie.spec (λ c κs. search needs) (λ c κs. search needs) returns)

@@ -5,20 +5,11 @@ use borrow.Author.Needs.{needs}
 use Rattle.capi_stage.proofs.lk_read_heading.Statement.{statement}
 use Rattle.capi_stage.proofs.lk_read_heading.Tie as tie
 
-no-head-requires : tie.Need-no-head-requires
-no-head-requires c κs = search needs
-
 returns : tie.Need-returns
 returns c = rw (c .no-head .ensures) (told-long (c .before .before .before .before .args .bytes .now) (c .before .before .before .before .args .attached .now) (omega (arith, c .before .before .if1 .taken)))
-
-read-heading-requires : tie.Need-read-heading-requires
-read-heading-requires c κs = search needs
-
-headed-of-requires : tie.Need-headed-of-requires
-headed-of-requires c κs = search needs
 
 returns-2 : tie.Need-returns-2
 returns-2 c = rw (c .headed-of .ensures) (told-read (c .before .before .before .before .before .args .bytes .now) (c .before .before .before .before .before .args .attached .now) (c .before .read-heading .result) _ (omega (arith, c .before .before .before .if1 .left)) (c .before .read-heading .ensures .0) (c .before .read-heading .ensures .1))
 
 pub lk-read-heading-spec : {M : Type 1} → statement M
-lk-read-heading-spec = tie.close (tie.spec no-head-requires returns read-heading-requires headed-of-requires returns-2)
+lk-read-heading-spec = tie.close (tie.spec (λ c κs. search needs) returns (λ c κs. search needs) (λ c κs. search needs) returns-2)

@@ -19,17 +19,8 @@ abbrev μ-loop : tie.MeasureT-loop
 loop-holds : tie.Need-loop-holds Inv-loop μ-loop
 loop-holds c = start _ _
 
-shared-slice-read-if1 : tie.Need-shared-slice-read-if1 Inv-loop μ-loop
-shared-slice-read-if1 c = search needs
-
 returns : tie.Need-returns Inv-loop μ-loop
 returns c = stop few (c .before .before .before .before .args .lens .now) (c .before .before .before .loop .i) (c .before .before .before .loop .inv) 0 (c .before .before .loop-test .taken) (lt-leb _ entryLimit (c .if1 .taken))
-
-add-i : tie.Need-add-i Inv-loop μ-loop
-add-i c = search needs
-
-loop-less : tie.Need-loop-less Inv-loop μ-loop
-loop-less c = omega arith
 
 loop-again : tie.Need-loop-again Inv-loop μ-loop
 loop-again c = more few (c .before .before .before .before .args .lens .now) (c .before .before .before .loop .i) (c .before .before .before .loop .inv) 0 (c .before .before .loop-test .taken) (le-leb _ entryLimit (c .if1 .left))
@@ -44,9 +35,9 @@ few-each-spec =
     Inv-loop
     μ-loop
     loop-holds
-    shared-slice-read-if1
+    (λ c. search needs)
     returns
-    add-i
-    loop-less
+    (λ c. search needs)
+    (λ c. omega arith)
     loop-again
     returns-2)

@@ -7,17 +7,8 @@ use borrow.Author.Needs.{needs}
 use Rattle.capi_text.proofs.lk_print_shop.Statement.{statement}
 use Rattle.capi_text.proofs.lk_print_shop.Tie as tie
 
-sizes-requires : tie.Need-sizes-requires
-sizes-requires c κs = search needs
-
-few-each-requires : tie.Need-few-each-requires
-few-each-requires c κs = search needs
-
 returns : tie.Need-returns
 returns c = print-none _ _ (sym (c .before .few-each .ensures) ∙ not-true _ (c .if1 .taken))
-
-shop-from-requires : tie.Need-shop-from-requires
-shop-from-requires c κs = search needs
 
 put-slots-requires : tie.Need-put-slots-requires
 put-slots-requires c κs = few-slots _ (c .before .before .before .before .before .sizes .ensures) (sym (c .before .before .before .few-each .ensures) ∙ not-false _ (c .before .before .if1 .left)) _ (c .before .shop-from .ensures)
@@ -32,10 +23,10 @@ pub lk-print-shop-spec : {M : Type 1} → statement M
 lk-print-shop-spec =
     tie.close
     (tie.spec
-    sizes-requires
-    few-each-requires
+    (λ c κs. search needs)
+    (λ c κs. search needs)
     returns
-    shop-from-requires
+    (λ c κs. search needs)
     put-slots-requires
     cast-result
     returns-2)

@@ -5,17 +5,11 @@ use borrow.Author.Needs.{needs}
 use Rattle.capi_text.proofs.lk_read_shop.Statement.{statement}
 use Rattle.capi_text.proofs.lk_read_shop.Tie as tie
 
-read-text-requires : tie.Need-read-text-requires
-read-text-requires c κs = search needs
-
 returns : tie.Need-returns
 returns c = read-refused (readText (c .before .before .before .before .args .text .now)) _ _ (c .before .before .read-text .ensures) (c .if1 .taken)
-
-put-shop-requires : tie.Need-put-shop-requires
-put-shop-requires c κs = search needs
 
 returns-2 : tie.Need-returns-2
 returns-2 c = read-taken _ _ _ _ (c .before .before .before .before .before .before .before .before .read-text .ensures) (c .before .before .before .before .before .before .if1 .left) (c .put-shop .ensures)
 
 pub lk-read-shop-spec : {M : Type 1} → statement M
-lk-read-shop-spec = tie.close (tie.spec read-text-requires returns put-shop-requires returns-2)
+lk-read-shop-spec = tie.close (tie.spec (λ c κs. search needs) returns (λ c κs. search needs) returns-2)

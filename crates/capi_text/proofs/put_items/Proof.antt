@@ -22,35 +22,11 @@ abbrev μ-loop : tie.MeasureT-loop
 size : (c : tie.Start Inv-loop μ-loop) → length (c .args .t1 .slots) ≡ slotCount
 size c = search (length-mapped, needs)
 
-known-items-requires : tie.Need-known-items-requires Inv-loop μ-loop
-known-items-requires c κs = search needs
-
 loop-holds : tie.Need-loop-holds Inv-loop μ-loop
 loop-holds c = (omega arith, record { long = c .known-items .ensures; same = refl })
 
-mul-slot : tie.Need-mul-slot Inv-loop μ-loop
-mul-slot c = search needs
-
-element-copy-out-slot : tie.Need-element-copy-out-slot Inv-loop μ-loop
-element-copy-out-slot c = search needs
-
-item-word-requires : tie.Need-item-word-requires Inv-loop μ-loop
-item-word-requires c κs = search needs
-
-mul-x : tie.Need-mul-x Inv-loop μ-loop
-mul-x c = search needs
-
-element-set-from-x : tie.Need-element-set-from-x Inv-loop μ-loop
-element-set-from-x c = search needs
-
-add-i : tie.Need-add-i Inv-loop μ-loop
-add-i c = search needs
-
-loop-less : tie.Need-loop-less Inv-loop μ-loop
-loop-less c = omega arith
-
 loop-again : tie.Need-loop-again Inv-loop μ-loop
-loop-again c = (omega arith, items-next _ _ _ (c .before .before .before .loop .inv .1) (size (c .before .before .before .before .before .before)) beyond _ (c .before .before .loop-test .taken) (toZ-ofZ {w = w32} (record { sfits = c .item-word .ok }) ∙ c .item-word .ensures))
+loop-again c = (omega arith, items-next _ _ _ (c .before .before .before .loop .inv .1) (size (c .before .before .before .before .before .before)) beyond _ (c .before .before .loop-test .taken) (toZ-ofZ {w = w32} (record { sfits = c .item-to .ok }) ∙ c .item-to .ensures .0))
 
 returns : tie.Need-returns Inv-loop μ-loop
 returns c = items-all _ _ _ (c .before .loop .inv .1) (size (c .before .before .before .before)) (c .loop-test .left)
@@ -61,14 +37,14 @@ put-items-spec =
     (tie.spec
     Inv-loop
     μ-loop
-    known-items-requires
+    (λ c κs. search needs)
     loop-holds
-    mul-slot
-    element-copy-out-slot
-    item-word-requires
-    mul-x
-    element-set-from-x
-    add-i
-    loop-less
+    (λ c. search needs)
+    (λ c. search needs)
+    (λ c κs. search needs)
+    (λ c. search needs)
+    (λ c. search needs)
+    (λ c. search needs)
+    (λ c. omega arith)
     loop-again
     returns)

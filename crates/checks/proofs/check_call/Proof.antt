@@ -9,14 +9,8 @@ use Rattle.checks.proofs.Checks.{call-sheet, call-setup, call-refused}
 use Rattle.checks.proofs.check_call.Statement.{statement}
 use Rattle.checks.proofs.check_call.Tie as tie
 
-check-sheet-requires : tie.Need-check-sheet-requires
-check-sheet-requires c κs = search needs
-
 returns : tie.Need-returns
 returns c = call-sheet _ _ _ (sym (c .before .check-sheet .ensures) ∙ not-true _ (c .if1 .taken))
-
-check-record-requires : tie.Need-check-record-requires
-check-record-requires c κs = search needs
 
 returns-2 : tie.Need-returns-2
 returns-2 c =
@@ -35,4 +29,4 @@ returns-3 c =
 pub check-call-spec : {M : Type 1} → statement M
 check-call-spec =
     tie.close
-    (tie.spec check-sheet-requires returns check-record-requires returns-2 check-setup-requires returns-3)
+    (tie.spec (λ c κs. search needs) returns (λ c κs. search needs) returns-2 check-setup-requires returns-3)

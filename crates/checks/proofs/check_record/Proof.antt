@@ -7,20 +7,8 @@ use Rattle.checks.proofs.Checks.{fine-got, no-got}
 use Rattle.checks.proofs.check_record.Statement.{statement}
 use Rattle.checks.proofs.check_record.Tie as tie
 
-is-plain-requires : tie.Need-is-plain-requires
-is-plain-requires c κs = search needs
-
 returns : tie.Need-returns
 returns c = sym (ap refusalOf (c .before .is-plain .ensures (c .if1 .taken) .judged))
-
-judge-record-requires : tie.Need-judge-record-requires
-judge-record-requires c κs = search needs
-
-enum-told : tie.Need-enum-told
-enum-told c = search needs
-
-enum-known-j : tie.Need-enum-known-j
-enum-known-j c = search needs
 
 returns-2 : tie.Need-returns-2
 returns-2 c =
@@ -38,4 +26,4 @@ returns-3 c =
 
 pub check-record-spec : {M : Type 1} → statement M
 check-record-spec =
-    tie.close (tie.spec is-plain-requires returns judge-record-requires enum-told enum-known-j returns-2 returns-3)
+    tie.close (tie.spec (λ c κs. search needs) returns (λ c κs. search needs) (λ c. search needs) (λ c. search needs) returns-2 returns-3)

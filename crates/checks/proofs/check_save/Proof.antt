@@ -10,20 +10,11 @@ use Rattle.checks.proofs.check_save.Tie as tie
 returns : tie.Need-returns
 returns c = sym (save-is _ _ _ _ _ _ _ ∙ rw (ne-eqb _ _ (c .if1 .taken)))
 
-counts-ok-requires : tie.Need-counts-ok-requires
-counts-ok-requires c κs = search needs
-
 returns-2 : tie.Need-returns-2
 returns-2 c = sym (save-is _ _ _ _ _ _ _ ∙ rw (eq-eqb _ _ (c .before .before .if1 .left), sym (c .before .counts-ok .ensures) ∙ not-true _ (c .if2 .taken)))
 
-cast-if3 : tie.Need-cast-if3
-cast-if3 c = search needs
-
 returns-3 : tie.Need-returns-3
 returns-3 c = sym (save-is _ _ _ _ _ _ _ ∙ rw (eq-eqb _ _ (c .before .before .before .before .if1 .left), sym (c .before .before .before .counts-ok .ensures) ∙ not-false _ (c .before .before .if2 .left), ne-eqb _ _ (c .if3 .taken)))
-
-bits-ok-requires : tie.Need-bits-ok-requires
-bits-ok-requires c κs = search needs
 
 returns-4 : tie.Need-returns-4
 returns-4 c =
@@ -42,9 +33,6 @@ returns-5 c =
     let f = e .before in
     sym (save-is _ _ _ _ _ _ _ ∙ rw (eq-eqb _ _ (f .if1 .left), sym (e .counts-ok .ensures) ∙ not-false _ (d .if2 .left), eq-eqb _ _ (b .if3 .left), sym (a .bits-ok .ensures) ∙ not-false _ (c .before .if4 .left), ne-eqb _ _ (c .if5 .taken)))
 
-bits-ok-requires-2 : tie.Need-bits-ok-requires-2
-bits-ok-requires-2 c κs = search needs
-
 returns-6 : tie.Need-returns-6
 returns-6 c =
     let a = c .before .before in
@@ -55,12 +43,6 @@ returns-6 c =
     let g = f .before in
     let h = g .before in
     sym (save-is _ _ _ _ _ _ _ ∙ rw (eq-eqb _ _ (h .if1 .left), sym (g .counts-ok .ensures) ∙ not-false _ (f .if2 .left), eq-eqb _ _ (e .if3 .left), sym (d .bits-ok .ensures) ∙ not-false _ (b .if4 .left), eq-eqb _ _ (a .if5 .left), sym (c .before .bits-ok2 .ensures) ∙ not-true _ (c .if6 .taken)))
-
-shorts-known-requires : tie.Need-shorts-known-requires
-shorts-known-requires c κs = search needs
-
-numbers-known-requires : tie.Need-numbers-known-requires
-numbers-known-requires c κs = search needs
 
 returns-7 : tie.Need-returns-7
 returns-7 c =
@@ -94,16 +76,16 @@ check-save-spec =
     tie.close
     (tie.spec
     returns
-    counts-ok-requires
+    (λ c κs. search needs)
     returns-2
-    cast-if3
+    (λ c. search needs)
     returns-3
-    bits-ok-requires
+    (λ c κs. search needs)
     returns-4
     returns-5
-    bits-ok-requires-2
+    (λ c κs. search needs)
     returns-6
-    shorts-known-requires
-    numbers-known-requires
+    (λ c κs. search needs)
+    (λ c κs. search needs)
     returns-7
     returns-8)

@@ -8,18 +8,6 @@ use Rattle.checks.proofs.check_setup.Tie as tie
 returns : tie.Need-returns
 returns c = λ co. setup-none (blocksOver co (c .before .args .bw .now) (c .before .args .blocks)) (c .before .args .start .0) (c .if1 .taken)
 
-cast-at : tie.Need-cast-at
-cast-at c = search needs
-
-mul-kind : tie.Need-mul-kind
-mul-kind c = search needs
-
-mul-kind-2 : tie.Need-mul-kind-2
-mul-kind-2 c = search needs
-
-element-copy-out-kind : tie.Need-element-copy-out-kind
-element-copy-out-kind c = search needs
-
 returns-2 : tie.Need-returns-2
 returns-2 c = let s = c .before .before .before in λ co. setup-not-code (blocksOver co (s .args .bw .now) (s .args .blocks)) (s .args .start .0) (c .before .before .if1 .left) (c .if2 .taken)
 
@@ -29,4 +17,4 @@ returns-3 c = let s = c .before .before .before in λ co. setup-code (blocksOver
 pub check-setup-spec : {M : Type 1} → statement M
 check-setup-spec =
     tie.close
-    (tie.spec returns cast-at mul-kind mul-kind-2 element-copy-out-kind returns-2 returns-3)
+    (tie.spec returns (λ c. search needs) (λ c. search needs) (λ c. search needs) (λ c. search needs) returns-2 returns-3)

@@ -22,22 +22,13 @@ size s = slots-long _
 abbrev bornIn : tie.Start → Born
 bornIn s = bornOf (s .args .ws .now) (s .args .val .now) (s .args .cw .now) (s .args .bw .now) (s .args .counts) (s .args .births .now) (s .args .compiles)
 
-check-call-requires : tie.Need-check-call-requires
-check-call-requires c κs = search needs
-
 returns : tie.Need-returns
 returns c = refused-call _ _ _ _ _ (size (c .before .before .before)) _ (c .before .check-call .ensures) (c .if1 .taken)
-
-birth-of-requires : tie.Need-birth-of-requires
-birth-of-requires c κs = search needs
 
 returns-2 : tie.Need-returns-2
 returns-2 c =
     let a = c .before .before in
     refused-born _ _ _ _ _ (size (a .before .before .before)) (sym (a .before .check-call .ensures) ∙ a .if1 .left) (λ z. c .if2 .taken (c .before .birth-of .ensures ∙ z))
-
-check-arrays-requires : tie.Need-check-arrays-requires
-check-arrays-requires c κs = search needs
 
 returns-3 : tie.Need-returns-3
 returns-3 c =
@@ -66,11 +57,11 @@ pub check-compile-spec : {M : Type 1} → statement M
 check-compile-spec =
     tie.close
     (tie.spec
-    check-call-requires
+    (λ c κs. search needs)
     returns
-    birth-of-requires
+    (λ c κs. search needs)
     returns-2
-    check-arrays-requires
+    (λ c κs. search needs)
     returns-3
     check-room-requires
     returns-4)

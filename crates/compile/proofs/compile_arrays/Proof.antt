@@ -25,9 +25,6 @@ allowed : (c : tie.Else1) → let s = c .before .before .before .before .before 
     Granted (sheetOf (s .args .attached .now) (s .args .sheet)) (bornOf (s .args .ws .now) (s .args .val .now) (s .args .cw .now) (s .args .bw .now) (s .args .counts) (s .args .births .now) (s .args .compiles)) (s .args .loader) (s .args .setup .0) (given s) (size s)
 allowed c = granted _ _ _ _ _ _ (sym (c .before .check-compile .ensures) ∙ c .if1 .left)
 
-check-compile-requires : tie.Need-check-compile-requires
-check-compile-requires c κs = search needs
-
 returns : tie.Need-returns
 returns c = compiled-refused _ _ _ _ _ (size (c .before .before .before .before .before .before .before .before)) _ (c .before .check-compile .ensures) (c .if1 .taken)
 
@@ -39,9 +36,6 @@ cast-set-block c = let g = allowed (c .before .before .before .before .before .b
 
 set-block-requires : tie.Need-set-block-requires
 set-block-requires c κs = let g = allowed (c .before .before .before .before .before .before .before) in omega (arith, g .inside, g .room .blocks)
-
-one-compile-requires : tie.Need-one-compile-requires
-one-compile-requires c κs = search needs
 
 mark-births-requires : tie.Need-mark-births-requires
 mark-births-requires c κs =
@@ -60,11 +54,11 @@ pub compile-arrays-spec : {M : Type 1} → statement M
 compile-arrays-spec =
     tie.close
     (tie.spec
-    check-compile-requires
+    (λ c κs. search needs)
     returns
     compile-shop-requires
     cast-set-block
     set-block-requires
-    one-compile-requires
+    (λ c κs. search needs)
     mark-births-requires
     returns-2)

@@ -4,9 +4,6 @@ use borrow.Author.Needs.{needs}
 use Rattle.compile_emit.proofs.emit_left.Statement.{statement}
 use Rattle.compile_emit.proofs.emit_left.Tie as tie
 
-push-imm16-requires : tie.Need-push-imm16-requires
-push-imm16-requires c κs = search needs
-
 push-left-requires : tie.Need-push-left-requires
 unfolding size
 push-left-requires c κs = search needs
@@ -19,9 +16,6 @@ sub-push-command-2 : tie.Need-sub-push-command-2
 unfolding size
 sub-push-command-2 c = search needs
 
-push-command-requires : tie.Need-push-command-requires
-push-command-requires c κs = search needs
-
 returns : tie.Need-returns
 returns c = set-put (c .before .before .before .before .before .push-imm16 .ensures) (c .before .before .push-left .ensures) (c .push-command .ensures)
 
@@ -29,9 +23,9 @@ pub emit-left-spec : {M : Type 1} → statement M
 emit-left-spec =
     tie.close
     (tie.spec
-    push-imm16-requires
+    (λ c κs. search needs)
     push-left-requires
     sub-push-command
     sub-push-command-2
-    push-command-requires
+    (λ c κs. search needs)
     returns)

@@ -7,9 +7,6 @@ use borrow.Author.Needs.{needs}
 use Rattle.compile_emit.proofs.emit_number.Statement.{statement}
 use Rattle.compile_emit.proofs.emit_number.Tie as tie
 
-push-imm16-requires : tie.Need-push-imm16-requires
-push-imm16-requires c κs = search needs
-
 push-imm-requires : tie.Need-push-imm-requires
 unfolding size
 push-imm-requires c κs = search needs
@@ -18,12 +15,6 @@ sub-push-command : tie.Need-sub-push-command
 unfolding size
 sub-push-command c = search needs
 
-sub-push-command-2 : tie.Need-sub-push-command-2
-sub-push-command-2 c = search needs
-
-push-command-requires : tie.Need-push-command-requires
-push-command-requires c κs = search needs
-
 returns : tie.Need-returns
 returns c = set-put (c .before .before .before .before .before .push-imm16 .ensures) (imm-put (rw (toZ-ofZ {w = w32} (c .before .before .before .before .before .before .before .before .fits .z)) at (c .before .before .push-imm .ensures))) (c .push-command .ensures)
 
@@ -31,9 +22,9 @@ pub emit-number-spec : {M : Type 1} → statement M
 emit-number-spec =
     tie.close
     (tie.spec
-    push-imm16-requires
+    (λ c κs. search needs)
     push-imm-requires
     sub-push-command
-    sub-push-command-2
-    push-command-requires
+    (λ c. search needs)
+    (λ c κs. search needs)
     returns)

@@ -4,26 +4,11 @@ use borrow.Author.Needs.{needs}
 use Rattle.compile_emit.proofs.end_slot.Statement.{statement}
 use Rattle.compile_emit.proofs.end_slot.Tie as tie
 
-cast-to : tie.Need-cast-to
-cast-to c = search needs
-
 push-command-requires : tie.Need-push-command-requires
 push-command-requires c κs = omega (arith, rw (c .before .if1 .taken) at (c .before .before .before .pre .0))
 
-add-push-block : tie.Need-add-push-block
-add-push-block c = search needs
-
-push-block-requires : tie.Need-push-block-requires
-push-block-requires c κs = search needs
-
 returns : tie.Need-returns
 returns c = rw (c .before .before .before .before .if1 .taken) (record { commands-are = c .before .before .push-command .ensures .is; blocks-are = c .push-block .ensures .is; nodes = refl; commands = c .before .before .push-command .ensures .counted; blocks = c .push-block .ensures .counted })
-
-add-push-block-2 : tie.Need-add-push-block-2
-add-push-block-2 c = search needs
-
-push-block-requires-2 : tie.Need-push-block-requires-2
-push-block-requires-2 c κs = search needs
 
 returns-2 : tie.Need-returns-2
 returns-2 c = rw (c .before .before .if1 .left) (record { commands-are = refl; blocks-are = c .push-block2 .ensures .is; nodes = refl; commands = refl; blocks = c .push-block2 .ensures .counted })
@@ -32,11 +17,11 @@ pub end-slot-spec : {M : Type 1} → statement M
 end-slot-spec =
     tie.close
     (tie.spec
-    cast-to
+    (λ c. search needs)
     push-command-requires
-    add-push-block
-    push-block-requires
+    (λ c. search needs)
+    (λ c κs. search needs)
     returns
-    add-push-block-2
-    push-block-requires-2
+    (λ c. search needs)
+    (λ c κs. search needs)
     returns-2)

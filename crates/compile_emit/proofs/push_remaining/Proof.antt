@@ -7,9 +7,6 @@ use borrow.Author.Needs.{needs}
 use Rattle.compile_emit.proofs.push_remaining.Statement.{statement}
 use Rattle.compile_emit.proofs.push_remaining.Tie as tie
 
-cast-to : tie.Need-cast-to
-cast-to c = search needs
-
 emit-left-requires : tie.Need-emit-left-requires
 unfolding size blockCommands blockNodes commandsNodes commandNodes
 emit-left-requires c κs = (omega (arith, c .before .before .before .before .pre .0 .nodes), omega (arith, c .before .before .before .before .pre .0 .commands))
@@ -26,15 +23,6 @@ push-command-requires : tie.Need-push-command-requires
 unfolding size blockCommands blockNodes commandsNodes commandNodes
 push-command-requires c κs = omega (arith, c .before .before .before .before .before .before .before .before .before .pre .0 .commands, c .before .before .before .before .emit-left .ensures .counted)
 
-add-push-block : tie.Need-add-push-block
-add-push-block c = search needs
-
-add-push-block-2 : tie.Need-add-push-block-2
-add-push-block-2 c = search needs
-
-push-block-requires : tie.Need-push-block-requires
-push-block-requires c κs = search needs
-
 returns : tie.Need-returns
 returns c = block-put (two-commands (c .before .before .before .before .before .before .before .emit-left .ensures) (if-put (c .before .before .before .before .push-below .ensures) (c .before .before .push-command .ensures))) (c .push-block .ensures) (omega arith) (add-one (c .before .before .before .before .before .before .before .before .before .before .before .before .args .set .0))
 
@@ -42,12 +30,12 @@ pub push-remaining-spec : {M : Type 1} → statement M
 push-remaining-spec =
     tie.close
     (tie.spec
-    cast-to
+    (λ c. search needs)
     emit-left-requires
     push-below-requires
     sub-push-command
     push-command-requires
-    add-push-block
-    add-push-block-2
-    push-block-requires
+    (λ c. search needs)
+    (λ c. search needs)
+    (λ c κs. search needs)
     returns)

@@ -8,18 +8,9 @@ use borrow.Author.Needs.{needs}
 use Rattle.compile_emit.proofs.push_reset.Statement.{statement}
 use Rattle.compile_emit.proofs.push_reset.Tie as tie
 
-cast-to : tie.Need-cast-to
-cast-to c = search needs
-
 emit-number-requires : tie.Need-emit-number-requires
 unfolding size blockCommands blockNodes commandsNodes commandNodes
 emit-number-requires c κs = (omega (arith, c .before .before .before .before .pre .0 .nodes), omega (arith, c .before .before .before .before .pre .0 .commands), search needs)
-
-add-push-block : tie.Need-add-push-block
-add-push-block c = search needs
-
-push-block-requires : tie.Need-push-block-requires
-push-block-requires c κs = search needs
 
 returns : tie.Need-returns
 unfolding imm
@@ -27,4 +18,4 @@ returns c = block-put (next-put (c .before .before .emit-number .ensures) none-p
 
 pub push-reset-spec : {M : Type 1} → statement M
 push-reset-spec =
-    tie.close (tie.spec cast-to emit-number-requires add-push-block push-block-requires returns)
+    tie.close (tie.spec (λ c. search needs) emit-number-requires (λ c. search needs) (λ c κs. search needs) returns)

@@ -10,11 +10,8 @@ push-command-requires : tie.Need-push-command-requires
 unfolding blockCommands
 push-command-requires c κs = omega (arith, c .before .pre .commands)
 
-push-block-requires : tie.Need-push-block-requires
-push-block-requires c κs = search needs
-
 returns : tie.Need-returns
 returns c = block-put (next-put (return-put (c .before .before .push-command .ensures)) none-put) (c .push-block .ensures) refl refl
 
 pub push-return-spec : {M : Type 1} → statement M
-push-return-spec = tie.close (tie.spec push-command-requires push-block-requires returns)
+push-return-spec = tie.close (tie.spec push-command-requires (λ c κs. search needs) returns)

@@ -9,14 +9,8 @@ use borrow.Author.Needs.{needs}
 use Rattle.compile_emit.proofs.push_slot.Statement.{statement}
 use Rattle.compile_emit.proofs.push_slot.Tie as tie
 
-add-emit-number : tie.Need-add-emit-number
-add-emit-number c = search needs
-
 emit-number-requires : tie.Need-emit-number-requires
 emit-number-requires c κs = let r = slot-room _ (c .before .before .before .args .endif) (c .before .before .before .args .end .0) (c .before .before .before .args .index) (imm (c .before .before .before .args .item)) (imm (c .before .before .before .args .count)) (c .before .before .before .pre .0) in (omega (arith, r .nodes, size-imm (c .before .before .before .args .item)), omega (arith, r .commands), search needs)
-
-add-emit-number-2 : tie.Need-add-emit-number-2
-add-emit-number-2 c = search needs
 
 emit-number-requires-2 : tie.Need-emit-number-requires-2
 unfolding size commandNodes
@@ -53,9 +47,9 @@ pub push-slot-spec : {M : Type 1} → statement M
 push-slot-spec =
     tie.close
     (tie.spec
-    add-emit-number
+    (λ c. search needs)
     emit-number-requires
-    add-emit-number-2
+    (λ c. search needs)
     emit-number-requires-2
     end-slot-requires
     returns)

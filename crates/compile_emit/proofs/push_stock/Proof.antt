@@ -10,14 +10,8 @@ use borrow.Author.Needs.{needs}
 use Rattle.compile_emit.proofs.push_stock.Statement.{statement}
 use Rattle.compile_emit.proofs.push_stock.Tie as tie
 
-add-emit-number : tie.Need-add-emit-number
-add-emit-number c = search needs
-
 emit-number-requires : tie.Need-emit-number-requires
 emit-number-requires c κs = let r = slot-room _ (c .before .before .before .args .endif) (c .before .before .before .args .end .0) (c .before .before .before .args .index) (imm (c .before .before .before .args .item)) tempVar (c .before .before .before .pre .0) in (omega (arith, r .nodes, size-imm (c .before .before .before .args .item)), omega (arith, r .commands), search needs)
-
-add-emit-temp : tie.Need-add-emit-temp
-add-emit-temp c = search needs
 
 emit-temp-requires : tie.Need-emit-temp-requires
 unfolding size commandNodes
@@ -40,9 +34,9 @@ pub push-stock-spec : {M : Type 1} → statement M
 push-stock-spec =
     tie.close
     (tie.spec
-    add-emit-number
+    (λ c. search needs)
     emit-number-requires
-    add-emit-temp
+    (λ c. search needs)
     emit-temp-requires
     end-slot-requires
     returns)

@@ -13,12 +13,6 @@ use Rattle.compile_sizes.specs.Most.{most-within}
 use Rattle.compile_sizes.proofs.check_room.Statement.{statement}
 use Rattle.compile_sizes.proofs.check_room.Tie as tie
 
-limits-of-requires : tie.Need-limits-of-requires
-limits-of-requires c κs = search needs
-
-sized-requires : tie.Need-sized-requires
-sized-requires c κs = search needs
-
 room-requires : tie.Need-room-requires
 room-requires c κs = rw (c .sized .ensures) (record { blocks = omega arith; commands = omega arith; nodes = omega arith })
 
@@ -30,12 +24,6 @@ returns c = λ sc b m n.
     has-room (s .args .loader) (sheetOf (s .args .attached .now) (s .args .sheet)) (slotsOf (shopFrom a)) (s .args .k) _ refl sc b m n
     (most-within (limitsOf (s .args .loader)) (s .args .k) (sheetOf (s .args .attached .now) (s .args .sheet)) (shopFrom a) (s .pre) (slots-long a)
     (asked (l .result) (s .args .loader) (s .args .k) _ _ _ (l .ensures) (c .before .room .ensures ∙ ap (within (limitsIn (l .result)) (s .args .k)) (c .before .before .sized .ensures)) (c .if1 .taken)))
-
-shop-size-requires : tie.Need-shop-size-requires
-shop-size-requires c κs = search needs
-
-limits-of-requires-2 : tie.Need-limits-of-requires-2
-limits-of-requires-2 c κs = search needs
 
 room-requires-2 : tie.Need-room-requires-2
 room-requires-2 c κs = c .before .shop-size .ensures .1
@@ -73,12 +61,12 @@ pub check-room-spec : {M : Type 1} → statement M
 check-room-spec =
     tie.close
     (tie.spec
-    limits-of-requires
-    sized-requires
+    (λ c κs. search needs)
+    (λ c κs. search needs)
     room-requires
     returns
-    shop-size-requires
-    limits-of-requires-2
+    (λ c κs. search needs)
+    (λ c κs. search needs)
     room-requires-2
     returns-2
     room-requires-3

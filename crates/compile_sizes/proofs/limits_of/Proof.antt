@@ -3,12 +3,6 @@ use borrow.Author.Needs.{needs}
 use Rattle.compile_sizes.proofs.limits_of.Statement.{statement}
 use Rattle.compile_sizes.proofs.limits_of.Tie as tie
 
-enum-told : tie.Need-enum-told
-enum-told c = search needs
-
-enum-told-2 : tie.Need-enum-told-2
-enum-told-2 c = search needs
-
 returns : tie.Need-returns
 returns c = rw (c .enum-told .given .1)
 
@@ -16,4 +10,4 @@ returns-2 : tie.Need-returns-2
 returns-2 c = rw (c .enum-told2 .given .1)
 
 pub limits-of-spec : {M : Type 1} → statement M
-limits-of-spec = tie.close (tie.spec enum-told enum-told-2 returns returns-2)
+limits-of-spec = tie.close (tie.spec (λ c. search needs) (λ c. search needs) returns returns-2)

@@ -5,29 +5,11 @@ use borrow.Author.Needs.{needs}
 use Rattle.compile_sizes.proofs.room.Statement.{statement}
 use Rattle.compile_sizes.proofs.room.Tie as tie
 
-cast-if1 : tie.Need-cast-if1
-cast-if1 c = search needs
-
-add-if1 : tie.Need-add-if1
-add-if1 c = search needs
-
 returns : tie.Need-returns
 returns c = let s = c .before .before .before .before in sym (blocks-over (limitsIn (s .args .most)) (s .args .k) (s .args .s) (c .if1 .taken))
 
-cast-if2 : tie.Need-cast-if2
-cast-if2 c = search needs
-
-add-if2 : tie.Need-add-if2
-add-if2 c = search needs
-
 returns-2 : tie.Need-returns-2
 returns-2 c = let s = c .before .before .before .before .before .before .before .before in sym (commands-over (limitsIn (s .args .most)) (s .args .k) (s .args .s) (c .before .before .before .before .if1 .left) (c .if2 .taken))
-
-cast-result : tie.Need-cast-result
-cast-result c = search needs
-
-add-result : tie.Need-add-result
-add-result c = search needs
 
 returns-3 : tie.Need-returns-3
 returns-3 c = let s = c .before .before .before .before .before .before .before .before .before .before .before in sym (nodes-decide (limitsIn (s .args .most)) (s .args .k) (s .args .s) (c .before .before .before .before .before .before .before .if1 .left) (c .before .before .before .if2 .left))
@@ -35,4 +17,4 @@ returns-3 c = let s = c .before .before .before .before .before .before .before 
 pub room-spec : {M : Type 1} → statement M
 room-spec =
     tie.close
-    (tie.spec cast-if1 add-if1 returns cast-if2 add-if2 returns-2 cast-result add-result returns-3)
+    (tie.spec (λ c. search needs) (λ c. search needs) returns (λ c. search needs) (λ c. search needs) returns-2 (λ c. search needs) (λ c. search needs) returns-3)

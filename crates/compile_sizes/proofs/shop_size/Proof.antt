@@ -19,23 +19,14 @@ abbrev μ-loop : tie.MeasureT-loop
 abbrev given : tie.Start Inv-loop μ-loop → Arrays
 given s = arraysIn (s .args .items .now) (s .args .limits .now) (s .args .codes .now) (s .args .lens .now)
 
-sized-requires : tie.Need-sized-requires Inv-loop μ-loop
-sized-requires c κs = search needs
-
 loop-holds : tie.Need-loop-holds Inv-loop μ-loop
 loop-holds c = rw (c .sized .ensures) (none-summed _ _ (slots-long (given (c .before .before))))
-
-sub-i : tie.Need-sub-i Inv-loop μ-loop
-sub-i c = search needs
 
 slot-size-requires : tie.Need-slot-size-requires Inv-loop μ-loop
 slot-size-requires c κs = let l : c .before .loop .i - 1 < slotCount = omega (arith, c .before .loop .inv .low, c .loop-test .taken) in (l, exact-at (given (c .before .before .before .before)) (c .before .loop .i - 1) (c .before .before .before .before .pre) l)
 
 plus-requires : tie.Need-plus-requires Inv-loop μ-loop
 plus-requires c κs = (search needs, summed-few (c .before .before .loop .inv))
-
-loop-less : tie.Need-loop-less Inv-loop μ-loop
-loop-less c = omega arith
 
 loop-again : tie.Need-loop-again Inv-loop μ-loop
 loop-again c =
@@ -52,11 +43,11 @@ shop-size-spec =
     (tie.spec
     Inv-loop
     μ-loop
-    sized-requires
+    (λ c κs. search needs)
     loop-holds
-    sub-i
+    (λ c. search needs)
     slot-size-requires
     plus-requires
-    loop-less
+    (λ c. omega arith)
     loop-again
     returns)

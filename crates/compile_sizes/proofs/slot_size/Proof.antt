@@ -16,39 +16,12 @@ use Rattle.compile_sizes.proofs.slot_size.Tie as tie
 abbrev given : tie.Start → Arrays
 given s = arraysIn (s .args .items .now) (s .args .limits .now) (s .args .codes .now) (s .args .lens .now)
 
-item-at-requires : tie.Need-item-at-requires
-item-at-requires c κs = search needs
-
-enum-told : tie.Need-enum-told
-enum-told c = search needs
-
-sized-requires : tie.Need-sized-requires
-sized-requires c κs = search needs
-
-enum-known-item : tie.Need-enum-known-item
-enum-known-item c = search needs
-
 sort-row-requires : tie.Need-sort-row-requires
 unfolding slotAt
 sort-row-requires c κs = (c .before .before .before .before .before .before .pre .0, c .before .before .before .before .before .before .pre .1 .few, refl)
 
 tests-nodes-requires : tie.Need-tests-nodes-requires
 tests-nodes-requires c κs = let s = c .before .before .before .before .before .before .before in set-few (slotAt (given s) (s .args .i)) (s .pre .1) (reqsIn (c .sort-row .last .1 .1 .1 .0) (c .sort-row .result)) (c .sort-row .ensures _ _ (s .pre .1))
-
-mul-limit-of : tie.Need-mul-limit-of
-mul-limit-of c = search needs
-
-element-copy-out-limit-of : tie.Need-element-copy-out-limit-of
-element-copy-out-limit-of c = search needs
-
-limit-of-requires : tie.Need-limit-of-requires
-limit-of-requires c κs = search needs
-
-timer-of-requires : tie.Need-timer-of-requires
-timer-of-requires c κs = search needs
-
-unique-size-requires : tie.Need-unique-size-requires
-unique-size-requires c κs = search needs
 
 returns : tie.Need-returns
 unfolding slotAt
@@ -58,9 +31,6 @@ returns c =
     let z = c .before .before .before .before .before .before .sort-row .ensures (s .args .items .now) (s .args .limits .now) (s .pre .1) in
     let l = rw (toZ-ofZ {w = w16} {z = getD (s .args .limits .now) (s .args .i) (pos 0)} (record { sfits = c .before .before .before .before .limit-of-arg .given })) at (c .before .before .before .limit-of .ensures) in
     (c .unique-size .ensures .0 ∙ unique-is x (s .pre .1) (reqsIn (c .before .before .before .before .before .before .sort-row .last .1 .1 .1 .0) (c .before .before .before .before .before .before .sort-row .result)) z (sheetOf (s .args .attached .now) (s .args .sheet)) _ _ _ (sym (c .before .before .before .before .before .before .before .before .before .before .before .item-at .ensures) ∙ c .before .before .before .before .before .before .before .before .before .item .given .1) l (c .before .before .before .before .before .tests-nodes .ensures .0) _ (c .before .timer-of .ensures (s .args .attached .now)) (c .before .before .if1 .taken), c .unique-size .ensures .1)
-
-limit-size-requires : tie.Need-limit-size-requires
-limit-size-requires c κs = search needs
 
 returns-2 : tie.Need-returns-2
 unfolding slotAt
@@ -79,18 +49,18 @@ pub slot-size-spec : {M : Type 1} → statement M
 slot-size-spec =
     tie.close
     (tie.spec
-    item-at-requires
-    enum-told
-    sized-requires
-    enum-known-item
+    (λ c κs. search needs)
+    (λ c. search needs)
+    (λ c κs. search needs)
+    (λ c. search needs)
     sort-row-requires
     tests-nodes-requires
-    mul-limit-of
-    element-copy-out-limit-of
-    limit-of-requires
-    timer-of-requires
-    unique-size-requires
+    (λ c. search needs)
+    (λ c. search needs)
+    (λ c κs. search needs)
+    (λ c κs. search needs)
+    (λ c κs. search needs)
     returns
-    limit-size-requires
+    (λ c κs. search needs)
     returns-2
     returns-3)

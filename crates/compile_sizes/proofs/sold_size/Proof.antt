@@ -5,20 +5,11 @@ use borrow.Author.Needs.{needs}
 use Rattle.compile_sizes.proofs.sold_size.Statement.{statement}
 use Rattle.compile_sizes.proofs.sold_size.Tie as tie
 
-sized-requires : tie.Need-sized-requires
-sized-requires c κs = search needs
-
 returns : tie.Need-returns
 returns c = (c .sized .ensures ∙ rw (c .before .if1 .taken), rw (c .sized .ensures) (search needs))
-
-add-sized : tie.Need-add-sized
-add-sized c = search needs
-
-sized-requires-2 : tie.Need-sized-requires-2
-sized-requires-2 c κs = search needs
 
 returns-2 : tie.Need-returns-2
 returns-2 c = (c .sized2 .ensures ∙ sym (sold-some (c .before .before .args .len) (c .before .before .args .acquired) (c .before .if1 .left)), rw (c .sized2 .ensures) (search needs))
 
 pub sold-size-spec : {M : Type 1} → statement M
-sold-size-spec = tie.close (tie.spec sized-requires returns add-sized sized-requires-2 returns-2)
+sold-size-spec = tie.close (tie.spec (λ c κs. search needs) returns (λ c. search needs) (λ c κs. search needs) returns-2)

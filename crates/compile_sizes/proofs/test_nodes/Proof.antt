@@ -7,21 +7,6 @@ use borrow.Author.Needs.{needs}
 use Rattle.compile_sizes.proofs.test_nodes.Statement.{statement}
 use Rattle.compile_sizes.proofs.test_nodes.Tie as tie
 
-subject-of-requires : tie.Need-subject-of-requires
-subject-of-requires c κs = search needs
-
-enum-told : tie.Need-enum-told
-enum-told c = search needs
-
-enum-told-2 : tie.Need-enum-told-2
-enum-told-2 c = search needs
-
-enum-told-3 : tie.Need-enum-told-3
-enum-told-3 c = search needs
-
-is-missing-requires : tie.Need-is-missing-requires
-is-missing-requires c κs = search needs
-
 returns : tie.Need-returns
 returns c = let s = c .before .before .before .before in (sym (flag-nodes (s .before .args .code) _ (s .subject-of .ensures) _ true (ap subjectIs (c .before .before .enum-told3 .given .1)) (sym (c .before .is-missing .ensures) ∙ c .if1 .taken)), search needs)
 
@@ -38,11 +23,11 @@ pub test-nodes-spec : {M : Type 1} → statement M
 test-nodes-spec =
     tie.close
     (tie.spec
-    subject-of-requires
-    enum-told
-    enum-told-2
-    enum-told-3
-    is-missing-requires
+    (λ c κs. search needs)
+    (λ c. search needs)
+    (λ c. search needs)
+    (λ c. search needs)
+    (λ c κs. search needs)
     returns
     returns-2
     returns-3

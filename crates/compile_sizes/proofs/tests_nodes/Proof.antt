@@ -21,26 +21,8 @@ size c = search needs
 loop-holds : tie.Need-loop-holds Inv-loop μ-loop
 loop-holds c = (none-counted (c .args .t1), search needs)
 
-mul-test-nodes : tie.Need-mul-test-nodes Inv-loop μ-loop
-mul-test-nodes c = search needs
-
-array-read-test-nodes : tie.Need-array-read-test-nodes Inv-loop μ-loop
-array-read-test-nodes c = search needs
-
-test-nodes-requires : tie.Need-test-nodes-requires Inv-loop μ-loop
-test-nodes-requires c κs = search needs
-
-add-nodes : tie.Need-add-nodes Inv-loop μ-loop
-add-nodes c = search needs
-
 add-nodes-2 : tie.Need-add-nodes-2 Inv-loop μ-loop
 add-nodes-2 c = omega (arith, c .before .before .loop .inv .0 .few)
-
-add-i : tie.Need-add-i Inv-loop μ-loop
-add-i c = search needs
-
-loop-less : tie.Need-loop-less Inv-loop μ-loop
-loop-less c = omega arith
 
 loop-again : tie.Need-loop-again Inv-loop μ-loop
 loop-again c = (one-counted (c .before .before .before .args .t1) (c .before .before .loop .i) (c .before .before .loop .nodes) (c .test-nodes .result) (c .before .before .loop .inv .0) (omega (arith, size (c .before .before .before))) (c .test-nodes .ensures .0) (c .test-nodes .ensures .1), search needs)
@@ -55,12 +37,12 @@ tests-nodes-spec =
     Inv-loop
     μ-loop
     loop-holds
-    mul-test-nodes
-    array-read-test-nodes
-    test-nodes-requires
-    add-nodes
+    (λ c. search needs)
+    (λ c. search needs)
+    (λ c κs. search needs)
+    (λ c. search needs)
     add-nodes-2
-    add-i
-    loop-less
+    (λ c. search needs)
+    (λ c. omega arith)
     loop-again
     returns)

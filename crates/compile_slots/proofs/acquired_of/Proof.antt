@@ -6,15 +6,6 @@ use borrow.Author.Needs.{needs}
 use Rattle.compile_slots.proofs.acquired_of.Statement.{statement}
 use Rattle.compile_slots.proofs.acquired_of.Tie as tie
 
-atc-for-requires : tie.Need-atc-for-requires
-atc-for-requires c κs = search needs
-
-enum-told : tie.Need-enum-told
-enum-told c = search needs
-
-enum-known-atc : tie.Need-enum-known-atc
-enum-known-atc c = search needs
-
 returns : tie.Need-returns
 returns c =
     let s = c .before .before .before .before in
@@ -26,4 +17,4 @@ returns-2 c =
     acquired-atc (atcAt (s .args .attached .now) (s .args .item .0)) _ _ _ (sym (ap atcIs (c .before .atc .given .1)) ∙ c .before .before .before .atc-for .ensures)
 
 pub acquired-of-spec : {M : Type 1} → statement M
-acquired-of-spec = tie.close (tie.spec atc-for-requires enum-told enum-known-atc returns returns-2)
+acquired-of-spec = tie.close (tie.spec (λ c κs. search needs) (λ c. search needs) (λ c. search needs) returns returns-2)

@@ -5,12 +5,6 @@ use borrow.Author.Needs.{needs}
 use Rattle.compile_slots.proofs.compile_enable.Statement.{statement}
 use Rattle.compile_slots.proofs.compile_enable.Tie as tie
 
-add-t19 : tie.Need-add-t19
-add-t19 c = search needs
-
-add-t19-2 : tie.Need-add-t19-2
-add-t19-2 c = search needs
-
 compile-item-requires : tie.Need-compile-item-requires
 unfolding imm
 compile-item-requires c κs = (room-first (rw (c .before .before .before .before .before .before .if1 .taken) at (c .before .before .before .before .before .before .before .before .before .before .pre .0)), (c .before .before .before .before .before .before .before .before .before .before .pre .1 .0, c .before .before .before .before .before .before .before .before .before .before .pre .1 .1))
@@ -49,8 +43,8 @@ pub compile-enable-spec : {M : Type 1} → statement M
 compile-enable-spec =
     tie.close
     (tie.spec
-    add-t19
-    add-t19-2
+    (λ c. search needs)
+    (λ c. search needs)
     compile-item-requires
     push-if-no-timer-requires
     push-if-missing-requires

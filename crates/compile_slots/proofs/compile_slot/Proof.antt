@@ -18,42 +18,15 @@ use Rattle.compile_slots.proofs.compile_slot.Tie as tie
 abbrev given : tie.Start → Arrays
 given s = arraysIn (s .args .items .now) (s .args .limits .now) (s .args .codes .now) (s .args .lens .now)
 
-sub-t20 : tie.Need-sub-t20
-sub-t20 c = search needs
-
-cast-t21 : tie.Need-cast-t21
-cast-t21 c = search needs
-
-cast-index : tie.Need-cast-index
-cast-index c = search needs
-
-item-at-requires : tie.Need-item-at-requires
-item-at-requires c κs = search needs
-
-enum-told : tie.Need-enum-told
-enum-told c = search needs
-
 compile-slot-hidden-requires : tie.Need-compile-slot-hidden-requires
 unfolding slotAt
 compile-slot-hidden-requires c κs =
     let s = c .before .before .before .before .before .before .before .before .before in
     (rw (none-blocks (sheetOf (s .args .attached .now) (s .args .sheet)) (slotAt (given s) (s .args .i)) (s .args .i) (s .args .k .blocks - 1) (sym (c .before .before .before .before .before .before .item-at .ensures) ∙ c .before .before .before .before .enum-told .given .1)) at (s .pre .0), (s .pre .1 .1, omega (arith, s .pre .0 .blocks)))
 
-enum-known-item : tie.Need-enum-known-item
-enum-known-item c = search needs
-
 sort-row-requires : tie.Need-sort-row-requires
 unfolding slotAt
 sort-row-requires c κs = (c .before .before .before .before .before .before .before .pre .1 .1, c .before .before .before .before .before .before .before .pre .1 .0 .few, refl)
-
-mul-item-context : tie.Need-mul-item-context
-mul-item-context c = search needs
-
-element-copy-out-item-context : tie.Need-element-copy-out-item-context
-element-copy-out-item-context c = search needs
-
-item-context-requires : tie.Need-item-context-requires
-item-context-requires c κs = search needs
 
 compile-slot-filled-requires : tie.Need-compile-slot-filled-requires
 unfolding slotAt
@@ -85,17 +58,17 @@ pub compile-slot-spec : {M : Type 1} → statement M
 compile-slot-spec =
     tie.close
     (tie.spec
-    sub-t20
-    cast-t21
-    cast-index
-    item-at-requires
-    enum-told
+    (λ c. search needs)
+    (λ c. search needs)
+    (λ c. search needs)
+    (λ c κs. search needs)
+    (λ c. search needs)
     compile-slot-hidden-requires
-    enum-known-item
+    (λ c. search needs)
     sort-row-requires
-    mul-item-context
-    element-copy-out-item-context
-    item-context-requires
+    (λ c. search needs)
+    (λ c. search needs)
+    (λ c κs. search needs)
     compile-slot-filled-requires
     returns
     returns-2)

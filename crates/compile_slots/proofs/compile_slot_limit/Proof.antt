@@ -5,9 +5,6 @@ use borrow.Author.Needs.{needs}
 use Rattle.compile_slots.proofs.compile_slot_limit.Statement.{statement}
 use Rattle.compile_slots.proofs.compile_slot_limit.Tie as tie
 
-add-t20 : tie.Need-add-t20
-add-t20 c = search needs
-
 compile-stock-requires : tie.Need-compile-stock-requires
 compile-stock-requires c κs = let r = (rw (limit-none (c .before .before .before .before .before .before .before .before .args .x) (c .before .before .before .before .before .before .before .before .args .codes .now) (c .before .before .before .before .if1 .taken)) at (c .before .before .before .before .before .before .before .before .pre .0)) in (room-first r, (c .before .before .before .before .before .before .before .before .pre .1 .0, omega (arith, r .blocks, c .before .before .before .before .before .before .before .before .pre .1 .1)))
 
@@ -26,12 +23,6 @@ push-remaining-requires c κs = let r = (rw (limit-none (c .before .before .befo
 
 returns : tie.Need-returns
 returns c = rw (limit-none (c .before .before .before .before .before .before .before .before .before .before .before .before .before .before .before .before .before .before .before .args .x) (c .before .before .before .before .before .before .before .before .before .before .before .before .before .before .before .before .before .before .before .args .codes .now) (c .before .before .before .before .before .before .before .before .before .before .before .before .before .before .before .if1 .taken)) (blocks-put (c .before .before .before .before .before .before .before .before .before .before .compile-stock .ensures) (blocks-put (c .before .before .before .before .before .push-reset .ensures) (c .push-remaining .ensures)))
-
-add-t20-2 : tie.Need-add-t20-2
-add-t20-2 c = search needs
-
-add-t20-3 : tie.Need-add-t20-3
-add-t20-3 c = search needs
 
 compile-stock-requires-2 : tie.Need-compile-stock-requires-2
 compile-stock-requires-2 c κs = let r = (rw (limit-some (c .before .before .before .before .before .before .before .before .before .before .args .x) (c .before .before .before .before .before .before .before .before .before .before .args .codes .now) (c .before .before .before .before .before .before .if1 .left)) at (c .before .before .before .before .before .before .before .before .before .before .pre .0)) in (room-first r, (c .before .before .before .before .before .before .before .before .before .before .pre .1 .0, omega (arith, r .blocks, c .before .before .before .before .before .before .before .before .before .before .pre .1 .1)))
@@ -87,13 +78,13 @@ pub compile-slot-limit-spec : {M : Type 1} → statement M
 compile-slot-limit-spec =
     tie.close
     (tie.spec
-    add-t20
+    (λ c. search needs)
     compile-stock-requires
     push-reset-requires
     push-remaining-requires
     returns
-    add-t20-2
-    add-t20-3
+    (λ c. search needs)
+    (λ c. search needs)
     compile-stock-requires-2
     push-reset-requires-2
     push-remaining-requires-2

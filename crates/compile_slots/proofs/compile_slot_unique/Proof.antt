@@ -5,9 +5,6 @@ use borrow.Author.Needs.{needs}
 use Rattle.compile_slots.proofs.compile_slot_unique.Statement.{statement}
 use Rattle.compile_slots.proofs.compile_slot_unique.Tie as tie
 
-blocks-before-requires : tie.Need-blocks-before-requires
-blocks-before-requires c κs = search needs
-
 compile-sold-requires : tie.Need-compile-sold-requires
 compile-sold-requires c κs = (append-first _ _ (c .before .before .before .before .before .before .pre .0), c .before .before .before .before .before .before .pre .1)
 
@@ -34,7 +31,7 @@ pub compile-slot-unique-spec : {M : Type 1} → statement M
 compile-slot-unique-spec =
     tie.close
     (tie.spec
-    blocks-before-requires
+    (λ c κs. search needs)
     compile-sold-requires
     add-t17
     add-t17-2

@@ -32,9 +32,6 @@ here l = memoryOf (l .loop .ws) (l .loop .val) (l .loop .cw) (l .loop .bw) (l .l
 loop-holds : tie.Need-loop-holds Inv-loop μ-loop
 loop-holds c = let s = c .before in (none-yet (sheetOf (s .args .attached .now) (s .args .sheet)) (first s) (given s), omega arith)
 
-sub-i : tie.Need-sub-i Inv-loop μ-loop
-sub-i c = omega arith
-
 compile-slot-requires : tie.Need-compile-slot-requires Inv-loop μ-loop
 compile-slot-requires c κs =
     let s = c .before .before .before .before .before .before .before in
@@ -42,9 +39,6 @@ compile-slot-requires c κs =
       next-room (sheetOf (s .args .attached .now) (s .args .sheet)) (first s) (here (c .before .before .before .before .before)) (given s) (l .i) (c .before .before .before .before .loop-test .taken) (l .inv .1) (s .pre .1 .1) (l .inv .0) (s .pre .0),
       (exact-at (given s) (l .i - 1) (s .pre .1 .0) (omega (arith, c .before .before .before .before .loop-test .taken, l .inv .1)), omega (arith, c .before .before .before .before .loop-test .taken, l .inv .1), omega (arith, l .inv .0 .counted, s .pre .1 .1)),
     )
-
-loop-less : tie.Need-loop-less Inv-loop μ-loop
-loop-less c = omega arith
 
 loop-again : tie.Need-loop-again Inv-loop μ-loop
 loop-again c =
@@ -62,8 +56,8 @@ compile-slots-spec =
     Inv-loop
     μ-loop
     loop-holds
-    sub-i
+    (λ c. omega arith)
     compile-slot-requires
-    loop-less
+    (λ c. omega arith)
     loop-again
     returns)

@@ -18,12 +18,6 @@ returns : tie.Need-returns
 unfolding imm
 returns c = rw (once-none (c .before .before .before .before .before .before .before .before .before .before .before .before .before .before .args .x) (c .before .before .before .before .before .before .before .before .before .before .if1 .taken)) (blocks-put (c .before .before .before .before .before .compile-item .ensures) (c .compile-item2 .ensures))
 
-add-t23 : tie.Need-add-t23
-add-t23 c = search needs
-
-add-t23-2 : tie.Need-add-t23-2
-add-t23-2 c = search needs
-
 compile-item-requires-3 : tie.Need-compile-item-requires-3
 unfolding imm
 compile-item-requires-3 c κs = let r = (rw (once-some (c .before .before .before .before .before .before .before .before .before .before .args .x) (c .before .before .before .before .before .before .if1 .left)) at (c .before .before .before .before .before .before .before .before .before .before .pre .0)) in (room-first r, (c .before .before .before .before .before .before .before .before .before .before .pre .1 .0, omega (arith, r .blocks, c .before .before .before .before .before .before .before .before .before .before .pre .1 .1)))
@@ -67,8 +61,8 @@ compile-sold-spec =
     compile-item-requires
     compile-item-requires-2
     returns
-    add-t23
-    add-t23-2
+    (λ c. search needs)
+    (λ c. search needs)
     compile-item-requires-3
     push-if-acquired-requires
     compile-item-requires-4

@@ -5,9 +5,6 @@ use borrow.Author.Needs.{needs}
 use Rattle.compile_slots.proofs.compile_stock.Statement.{statement}
 use Rattle.compile_slots.proofs.compile_stock.Tie as tie
 
-cast-push-stock : tie.Need-cast-push-stock
-cast-push-stock c = search needs
-
 push-stock-requires : tie.Need-push-stock-requires
 push-stock-requires c κs = (rw (toZ-pos w32 {n = c .before .before .before .before .before .before .before .args .x .item .0} (omega arith)) (c .before .before .before .before .before .before .before .pre .0), (c .before .before .before .before .before .before .before .pre .1 .0 .index, c .before .before .before .before .before .before .before .pre .1 .1))
 
@@ -18,6 +15,6 @@ pub compile-stock-spec : {M : Type 1} → statement M
 compile-stock-spec =
     tie.close
     (tie.spec
-    cast-push-stock
+    (λ c. search needs)
     push-stock-requires
     returns)

@@ -5,24 +5,6 @@ use borrow.Author.Needs.{needs}
 use Rattle.compile_slots.proofs.item_context.Statement.{statement}
 use Rattle.compile_slots.proofs.item_context.Tie as tie
 
-timer-of-requires : tie.Need-timer-of-requires
-timer-of-requires c κs = search needs
-
-rate-of-requires : tie.Need-rate-of-requires
-rate-of-requires c κs = search needs
-
-cast-acquired-of : tie.Need-cast-acquired-of
-cast-acquired-of c = search needs
-
-acquired-of-requires : tie.Need-acquired-of-requires
-acquired-of-requires c κs = search needs
-
-limit-of-requires : tie.Need-limit-of-requires
-limit-of-requires c κs = search needs
-
-is-five-requires : tie.Need-is-five-requires
-is-five-requires c κs = search needs
-
 returns : tie.Need-returns
 returns c =
     let l = c .before .before .before in
@@ -37,10 +19,10 @@ pub item-context-spec : {M : Type 1} → statement M
 item-context-spec =
     tie.close
     (tie.spec
-    timer-of-requires
-    rate-of-requires
-    cast-acquired-of
-    acquired-of-requires
-    limit-of-requires
-    is-five-requires
+    (λ c κs. search needs)
+    (λ c κs. search needs)
+    (λ c. search needs)
+    (λ c κs. search needs)
+    (λ c κs. search needs)
+    (λ c κs. search needs)
     returns)

@@ -50,79 +50,15 @@ evaluate-below-below t =
 abbrev evaluate-below-claims : ℕ → evaluate-below-lts.Claims
 evaluate-below-claims t = (packed-reads.Asked, packed-reads.Learnt, kind-of-reads.Asked, kind-of-reads.Learnt, number-below-reads.Asked, number-below-reads.Learnt, evaluate-below-below t, evaluate-below.Post, unpacked-reads.Asked, unpacked-reads.Learnt, join-two-reads.Asked, join-two-reads.Learnt, read-one-reads.Asked, read-one-reads.Learnt, join-one-reads.Asked, join-one-reads.Learnt)
 
-evaluate-below-packed-requires : (t : ℕ) → evaluate-below-lts.Need-packed-requires (evaluate-below-claims t) (evaluate-below-at t) evaluate-below.Post
-evaluate-below-packed-requires t c κs = search needs
-
 evaluate-below-returns : (t : ℕ) → evaluate-below-lts.Need-returns (evaluate-below-claims t) (evaluate-below-at t) evaluate-below.Post
 evaluate-below-returns t c =
     let s = c .before .before .before .before in
     (λ n. ap valueOf (c .packed .ensures .is) ∙ out-done (reads (s .args .items .now) (s .args .atcs .now) (s .args .flags .now) (s .args .times .now)) (s .args .vars .now) (nodesIn (s .args .ws .now) (s .args .val .now) n) (s .args .b) (s .args .i) (c .before .if1 .taken), c .packed .ensures .low)
 
-evaluate-below-mul-kind-of : (t : ℕ) → evaluate-below-lts.Need-mul-kind-of (evaluate-below-claims t) (evaluate-below-at t) evaluate-below.Post
-evaluate-below-mul-kind-of t c = search needs
-
-evaluate-below-mul-kind-of-2 : (t : ℕ) → evaluate-below-lts.Need-mul-kind-of-2 (evaluate-below-claims t) (evaluate-below-at t) evaluate-below.Post
-evaluate-below-mul-kind-of-2 t c = search needs
-
-evaluate-below-element-copy-out-kind-of :
-    (t : ℕ) → evaluate-below-lts.Need-element-copy-out-kind-of (evaluate-below-claims t) (evaluate-below-at t) evaluate-below.Post
-evaluate-below-element-copy-out-kind-of t c = search needs
-
-evaluate-below-kind-of-requires : (t : ℕ) → evaluate-below-lts.Need-kind-of-requires (evaluate-below-claims t) (evaluate-below-at t) evaluate-below.Post
-evaluate-below-kind-of-requires t c κs = search needs
-
-evaluate-below-mul-left : (t : ℕ) → evaluate-below-lts.Need-mul-left (evaluate-below-claims t) (evaluate-below-at t) evaluate-below.Post
-evaluate-below-mul-left t c = search needs
-
-evaluate-below-add-left : (t : ℕ) → evaluate-below-lts.Need-add-left (evaluate-below-claims t) (evaluate-below-at t) evaluate-below.Post
-evaluate-below-add-left t c = search needs
-
-evaluate-below-mul-left-2 : (t : ℕ) → evaluate-below-lts.Need-mul-left-2 (evaluate-below-claims t) (evaluate-below-at t) evaluate-below.Post
-evaluate-below-mul-left-2 t c = search needs
-
-evaluate-below-element-copy-out-left : (t : ℕ) → evaluate-below-lts.Need-element-copy-out-left (evaluate-below-claims t) (evaluate-below-at t) evaluate-below.Post
-evaluate-below-element-copy-out-left t c = search needs
-
-evaluate-below-mul-right : (t : ℕ) → evaluate-below-lts.Need-mul-right (evaluate-below-claims t) (evaluate-below-at t) evaluate-below.Post
-evaluate-below-mul-right t c = search needs
-
-evaluate-below-add-right : (t : ℕ) → evaluate-below-lts.Need-add-right (evaluate-below-claims t) (evaluate-below-at t) evaluate-below.Post
-evaluate-below-add-right t c = search needs
-
-evaluate-below-mul-right-2 : (t : ℕ) → evaluate-below-lts.Need-mul-right-2 (evaluate-below-claims t) (evaluate-below-at t) evaluate-below.Post
-evaluate-below-mul-right-2 t c = search needs
-
-evaluate-below-element-copy-out-right : (t : ℕ) → evaluate-below-lts.Need-element-copy-out-right (evaluate-below-claims t) (evaluate-below-at t) evaluate-below.Post
-evaluate-below-element-copy-out-right t c = search needs
-
-evaluate-below-enum-known-k : (t : ℕ) → evaluate-below-lts.Need-enum-known-k (evaluate-below-claims t) (evaluate-below-at t) evaluate-below.Post
-evaluate-below-enum-known-k t c = search needs
-
-evaluate-below-number-below-requires : (t : ℕ) → evaluate-below-lts.Need-number-below-requires (evaluate-below-claims t) (evaluate-below-at t) evaluate-below.Post
-evaluate-below-number-below-requires t c κs = search needs
-
-evaluate-below-enum-known-p : (t : ℕ) → evaluate-below-lts.Need-enum-known-p (evaluate-below-claims t) (evaluate-below-at t) evaluate-below.Post
-evaluate-below-enum-known-p t c = search needs
-
-evaluate-below-enum-told : (t : ℕ) → evaluate-below-lts.Need-enum-told (evaluate-below-claims t) (evaluate-below-at t) evaluate-below.Post
-evaluate-below-enum-told t c = search needs
-
 evaluate-below-evaluate-below-requires : (t : ℕ) → evaluate-below-lts.Need-evaluate-below-requires (evaluate-below-claims t) (evaluate-below-at t) evaluate-below.Post
 evaluate-below-evaluate-below-requires t c κs =
     let s = c .before .before .before .before .before .before .before .before .before .before .before .before .before in
     let p : s .args .b ≡ t = s .pre .0 in omega (arith, s .pre .1, c .before .before .before .before .before .before .before .before .before .before .if1 .left)
-
-evaluate-below-unpacked-requires : (t : ℕ) → evaluate-below-lts.Need-unpacked-requires (evaluate-below-claims t) (evaluate-below-at t) evaluate-below.Post
-evaluate-below-unpacked-requires t c κs = search needs
-
-evaluate-below-number-below-requires-2 : (t : ℕ) → evaluate-below-lts.Need-number-below-requires-2 (evaluate-below-claims t) (evaluate-below-at t) evaluate-below.Post
-evaluate-below-number-below-requires-2 t c κs = search needs
-
-evaluate-below-enum-known-q : (t : ℕ) → evaluate-below-lts.Need-enum-known-q (evaluate-below-claims t) (evaluate-below-at t) evaluate-below.Post
-evaluate-below-enum-known-q t c = search needs
-
-evaluate-below-enum-told-2 : (t : ℕ) → evaluate-below-lts.Need-enum-told-2 (evaluate-below-claims t) (evaluate-below-at t) evaluate-below.Post
-evaluate-below-enum-told-2 t c = search needs
 
 evaluate-below-evaluate-below-requires-2 :
     (t : ℕ) → evaluate-below-lts.Need-evaluate-below-requires-2 (evaluate-below-claims t) (evaluate-below-at t) evaluate-below.Post
@@ -130,77 +66,11 @@ evaluate-below-evaluate-below-requires-2 t c κs =
     let s = c .before .before .before .before .before .before .before .before .before .before .before .before .before .before .before in
     let p : s .args .b ≡ t = s .pre .0 in omega (arith, s .pre .1, c .before .before .before .before .before .before .before .before .before .before .before .before .if1 .left)
 
-evaluate-below-unpacked-requires-2 : (t : ℕ) → evaluate-below-lts.Need-unpacked-requires-2 (evaluate-below-claims t) (evaluate-below-at t) evaluate-below.Post
-evaluate-below-unpacked-requires-2 t c κs = search needs
-
-evaluate-below-join-two-requires : (t : ℕ) → evaluate-below-lts.Need-join-two-requires (evaluate-below-claims t) (evaluate-below-at t) evaluate-below.Post
-evaluate-below-join-two-requires t c κs = search needs
-
-evaluate-below-packed-requires-2 : (t : ℕ) → evaluate-below-lts.Need-packed-requires-2 (evaluate-below-claims t) (evaluate-below-at t) evaluate-below.Post
-evaluate-below-packed-requires-2 t c κs = search needs
-
-evaluate-below-enum-known-k-2 : (t : ℕ) → evaluate-below-lts.Need-enum-known-k-2 (evaluate-below-claims t) (evaluate-below-at t) evaluate-below.Post
-evaluate-below-enum-known-k-2 t c = search needs
-
-evaluate-below-number-below-requires-3 : (t : ℕ) → evaluate-below-lts.Need-number-below-requires-3 (evaluate-below-claims t) (evaluate-below-at t) evaluate-below.Post
-evaluate-below-number-below-requires-3 t c κs = search needs
-
-evaluate-below-enum-known-v : (t : ℕ) → evaluate-below-lts.Need-enum-known-v (evaluate-below-claims t) (evaluate-below-at t) evaluate-below.Post
-evaluate-below-enum-known-v t c = search needs
-
-evaluate-below-read-one-requires : (t : ℕ) → evaluate-below-lts.Need-read-one-requires (evaluate-below-claims t) (evaluate-below-at t) evaluate-below.Post
-evaluate-below-read-one-requires t c κs = search needs
-
-evaluate-below-packed-requires-3 : (t : ℕ) → evaluate-below-lts.Need-packed-requires-3 (evaluate-below-claims t) (evaluate-below-at t) evaluate-below.Post
-evaluate-below-packed-requires-3 t c κs = search needs
-
-evaluate-below-enum-told-3 : (t : ℕ) → evaluate-below-lts.Need-enum-told-3 (evaluate-below-claims t) (evaluate-below-at t) evaluate-below.Post
-evaluate-below-enum-told-3 t c = search needs
-
 evaluate-below-evaluate-below-requires-3 :
     (t : ℕ) → evaluate-below-lts.Need-evaluate-below-requires-3 (evaluate-below-claims t) (evaluate-below-at t) evaluate-below.Post
 evaluate-below-evaluate-below-requires-3 t c κs =
     let s = c .before .before .before .before .before .before .before .before .before .before .before .before .before in
     let p : s .args .b ≡ t = s .pre .0 in omega (arith, s .pre .1, c .before .before .before .before .before .before .before .before .before .before .if1 .left)
-
-evaluate-below-unpacked-requires-3 : (t : ℕ) → evaluate-below-lts.Need-unpacked-requires-3 (evaluate-below-claims t) (evaluate-below-at t) evaluate-below.Post
-evaluate-below-unpacked-requires-3 t c κs = search needs
-
-evaluate-below-join-one-requires : (t : ℕ) → evaluate-below-lts.Need-join-one-requires (evaluate-below-claims t) (evaluate-below-at t) evaluate-below.Post
-evaluate-below-join-one-requires t c κs = search needs
-
-evaluate-below-packed-requires-4 : (t : ℕ) → evaluate-below-lts.Need-packed-requires-4 (evaluate-below-claims t) (evaluate-below-at t) evaluate-below.Post
-evaluate-below-packed-requires-4 t c κs = search needs
-
-evaluate-below-enum-told-4 : (t : ℕ) → evaluate-below-lts.Need-enum-told-4 (evaluate-below-claims t) (evaluate-below-at t) evaluate-below.Post
-evaluate-below-enum-told-4 t c = search needs
-
-evaluate-below-mul-t47 : (t : ℕ) → evaluate-below-lts.Need-mul-t47 (evaluate-below-claims t) (evaluate-below-at t) evaluate-below.Post
-evaluate-below-mul-t47 t c = search needs
-
-evaluate-below-element-copy-out-t50 : (t : ℕ) → evaluate-below-lts.Need-element-copy-out-t50 (evaluate-below-claims t) (evaluate-below-at t) evaluate-below.Post
-evaluate-below-element-copy-out-t50 t c = search needs
-
-evaluate-below-packed-requires-5 : (t : ℕ) → evaluate-below-lts.Need-packed-requires-5 (evaluate-below-claims t) (evaluate-below-at t) evaluate-below.Post
-evaluate-below-packed-requires-5 t c κs = search needs
-
-evaluate-below-enum-told-5 : (t : ℕ) → evaluate-below-lts.Need-enum-told-5 (evaluate-below-claims t) (evaluate-below-at t) evaluate-below.Post
-evaluate-below-enum-told-5 t c = search needs
-
-evaluate-below-mul-t52 : (t : ℕ) → evaluate-below-lts.Need-mul-t52 (evaluate-below-claims t) (evaluate-below-at t) evaluate-below.Post
-evaluate-below-mul-t52 t c = search needs
-
-evaluate-below-element-copy-out-t55 : (t : ℕ) → evaluate-below-lts.Need-element-copy-out-t55 (evaluate-below-claims t) (evaluate-below-at t) evaluate-below.Post
-evaluate-below-element-copy-out-t55 t c = search needs
-
-evaluate-below-packed-requires-6 : (t : ℕ) → evaluate-below-lts.Need-packed-requires-6 (evaluate-below-claims t) (evaluate-below-at t) evaluate-below.Post
-evaluate-below-packed-requires-6 t c κs = search needs
-
-evaluate-below-enum-told-6 : (t : ℕ) → evaluate-below-lts.Need-enum-told-6 (evaluate-below-claims t) (evaluate-below-at t) evaluate-below.Post
-evaluate-below-enum-told-6 t c = search needs
-
-evaluate-below-packed-requires-7 : (t : ℕ) → evaluate-below-lts.Need-packed-requires-7 (evaluate-below-claims t) (evaluate-below-at t) evaluate-below.Post
-evaluate-below-packed-requires-7 t c κs = search needs
 
 evaluate-below-returns-2 : (t : ℕ) → evaluate-below-lts.Need-returns-2 (evaluate-below-claims t) (evaluate-below-at t) evaluate-below.Post
 evaluate-below-returns-2 t c =
@@ -253,53 +123,53 @@ pub +evaluate-below-spec : {M : Type 1} → statement M
 +evaluate-below-spec = close μ-evaluate-below λ t. evaluate-below-lts.spec (evaluate-below-claims t)
     (evaluate-below-at t)
     evaluate-below.Post
-    (evaluate-below-packed-requires t)
+    (λ c κs. search needs)
     (evaluate-below-returns t)
-    (evaluate-below-mul-kind-of t)
-    (evaluate-below-mul-kind-of-2 t)
-    (evaluate-below-element-copy-out-kind-of t)
-    (evaluate-below-kind-of-requires t)
-    (evaluate-below-mul-left t)
-    (evaluate-below-add-left t)
-    (evaluate-below-mul-left-2 t)
-    (evaluate-below-element-copy-out-left t)
-    (evaluate-below-mul-right t)
-    (evaluate-below-add-right t)
-    (evaluate-below-mul-right-2 t)
-    (evaluate-below-element-copy-out-right t)
-    (evaluate-below-enum-known-k t)
-    (evaluate-below-number-below-requires t)
-    (evaluate-below-enum-known-p t)
-    (evaluate-below-enum-told t)
+    (λ c. search needs)
+    (λ c. search needs)
+    (λ c. search needs)
+    (λ c κs. search needs)
+    (λ c. search needs)
+    (λ c. search needs)
+    (λ c. search needs)
+    (λ c. search needs)
+    (λ c. search needs)
+    (λ c. search needs)
+    (λ c. search needs)
+    (λ c. search needs)
+    (λ c. search needs)
+    (λ c κs. search needs)
+    (λ c. search needs)
+    (λ c. search needs)
     (evaluate-below-evaluate-below-requires t)
-    (evaluate-below-unpacked-requires t)
-    (evaluate-below-number-below-requires-2 t)
-    (evaluate-below-enum-known-q t)
-    (evaluate-below-enum-told-2 t)
+    (λ c κs. search needs)
+    (λ c κs. search needs)
+    (λ c. search needs)
+    (λ c. search needs)
     (evaluate-below-evaluate-below-requires-2 t)
-    (evaluate-below-unpacked-requires-2 t)
-    (evaluate-below-join-two-requires t)
-    (evaluate-below-packed-requires-2 t)
-    (evaluate-below-enum-known-k-2 t)
-    (evaluate-below-number-below-requires-3 t)
-    (evaluate-below-enum-known-v t)
-    (evaluate-below-read-one-requires t)
-    (evaluate-below-packed-requires-3 t)
-    (evaluate-below-enum-told-3 t)
+    (λ c κs. search needs)
+    (λ c κs. search needs)
+    (λ c κs. search needs)
+    (λ c. search needs)
+    (λ c κs. search needs)
+    (λ c. search needs)
+    (λ c κs. search needs)
+    (λ c κs. search needs)
+    (λ c. search needs)
     (evaluate-below-evaluate-below-requires-3 t)
-    (evaluate-below-unpacked-requires-3 t)
-    (evaluate-below-join-one-requires t)
-    (evaluate-below-packed-requires-4 t)
-    (evaluate-below-enum-told-4 t)
-    (evaluate-below-mul-t47 t)
-    (evaluate-below-element-copy-out-t50 t)
-    (evaluate-below-packed-requires-5 t)
-    (evaluate-below-enum-told-5 t)
-    (evaluate-below-mul-t52 t)
-    (evaluate-below-element-copy-out-t55 t)
-    (evaluate-below-packed-requires-6 t)
-    (evaluate-below-enum-told-6 t)
-    (evaluate-below-packed-requires-7 t)
+    (λ c κs. search needs)
+    (λ c κs. search needs)
+    (λ c κs. search needs)
+    (λ c. search needs)
+    (λ c. search needs)
+    (λ c. search needs)
+    (λ c κs. search needs)
+    (λ c. search needs)
+    (λ c. search needs)
+    (λ c. search needs)
+    (λ c κs. search needs)
+    (λ c. search needs)
+    (λ c κs. search needs)
     (evaluate-below-returns-2 t)
     (evaluate-below-returns-3 t)
     (evaluate-below-returns-4 t)

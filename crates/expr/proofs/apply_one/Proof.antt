@@ -18,42 +18,6 @@ use Rattle.expr.proofs.apply_one.Tie as tie
 arm : (s : Save) (v : List ℤ) (x r : ℤ) (o p : Op1) → SFits w32 r → o ≡ p → r ≡ apply1 s v p x → toZ w32 (ofZ w32 r) ≡ apply1 s v o x
 arm s v x r o p f e q = toZ-ofZ f ∙ q ∙ ap (λ (k : Op1). apply1 s v k x) (sym e)
 
-enum-told : tie.Need-enum-told
-enum-told c = search needs
-
-bit-requires : tie.Need-bit-requires
-bit-requires c κs = search needs
-
-enum-told-2 : tie.Need-enum-told-2
-enum-told-2 c = search needs
-
-byte-at-requires : tie.Need-byte-at-requires
-byte-at-requires c κs = search needs
-
-enum-told-3 : tie.Need-enum-told-3
-enum-told-3 c = search needs
-
-number-at-requires : tie.Need-number-at-requires
-number-at-requires c κs = search needs
-
-enum-told-4 : tie.Need-enum-told-4
-enum-told-4 c = search needs
-
-short-at-requires : tie.Need-short-at-requires
-short-at-requires c κs = search needs
-
-enum-told-5 : tie.Need-enum-told-5
-enum-told-5 c = search needs
-
-byte-at-requires-2 : tie.Need-byte-at-requires-2
-byte-at-requires-2 c κs = search needs
-
-enum-told-6 : tie.Need-enum-told-6
-enum-told-6 c = search needs
-
-short-at-requires-2 : tie.Need-short-at-requires-2
-short-at-requires-2 c κs = search needs
-
 returns : tie.Need-returns
 returns c = arm (reads (c .before .before .before .before .before .args .items .now) (c .before .before .before .before .before .args .atcs .now) (c .before .before .before .before .before .args .flags .now) (c .before .before .before .before .before .args .times .now)) (c .before .before .before .before .before .args .vars .now) (c .before .before .before .before .before .args .x) _ _ _ (record { sfits = c .bit .ok }) (c .before .enum-told .given .1) (rw (eq-bits _ (pos 0) (c .before .before .before .before .before .fits .x) (sfits-lit tt)) at (c .bit .ensures))
 
@@ -76,18 +40,18 @@ pub apply-one-spec : {M : Type 1} → statement M
 apply-one-spec =
     tie.close
     (tie.spec
-    enum-told
-    bit-requires
-    enum-told-2
-    byte-at-requires
-    enum-told-3
-    number-at-requires
-    enum-told-4
-    short-at-requires
-    enum-told-5
-    byte-at-requires-2
-    enum-told-6
-    short-at-requires-2
+    (λ c. search needs)
+    (λ c κs. search needs)
+    (λ c. search needs)
+    (λ c κs. search needs)
+    (λ c. search needs)
+    (λ c κs. search needs)
+    (λ c. search needs)
+    (λ c κs. search needs)
+    (λ c. search needs)
+    (λ c κs. search needs)
+    (λ c. search needs)
+    (λ c κs. search needs)
     returns
     returns-2
     returns-3

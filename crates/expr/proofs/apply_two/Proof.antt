@@ -15,66 +15,6 @@ use Rattle.expr.proofs.apply_two.Tie as tie
 arm : (x y r : ℤ) (o p : Op2) → SFits w32 r → o ≡ p → r ≡ apply2 p x y → toZ w32 (ofZ w32 r) ≡ apply2 o x y
 arm x y r o p f e q = toZ-ofZ f ∙ q ∙ ap (λ (k : Op2). apply2 k x y) (sym e)
 
-enum-told : tie.Need-enum-told
-enum-told c = search needs
-
-bit-requires : tie.Need-bit-requires
-bit-requires c κs = search needs
-
-enum-told-2 : tie.Need-enum-told-2
-enum-told-2 c = search needs
-
-bit-requires-2 : tie.Need-bit-requires-2
-bit-requires-2 c κs = search needs
-
-enum-told-3 : tie.Need-enum-told-3
-enum-told-3 c = search needs
-
-bit-requires-3 : tie.Need-bit-requires-3
-bit-requires-3 c κs = search needs
-
-enum-told-4 : tie.Need-enum-told-4
-enum-told-4 c = search needs
-
-bit-requires-4 : tie.Need-bit-requires-4
-bit-requires-4 c κs = search needs
-
-enum-told-5 : tie.Need-enum-told-5
-enum-told-5 c = search needs
-
-bit-requires-5 : tie.Need-bit-requires-5
-bit-requires-5 c κs = search needs
-
-enum-told-6 : tie.Need-enum-told-6
-enum-told-6 c = search needs
-
-bit-requires-6 : tie.Need-bit-requires-6
-bit-requires-6 c κs = search needs
-
-enum-told-7 : tie.Need-enum-told-7
-enum-told-7 c = search needs
-
-wrapping-add-i32-requires : tie.Need-wrapping-add-i32-requires
-wrapping-add-i32-requires c κs = search needs
-
-enum-told-8 : tie.Need-enum-told-8
-enum-told-8 c = search needs
-
-wrapping-sub-i32-requires : tie.Need-wrapping-sub-i32-requires
-wrapping-sub-i32-requires c κs = search needs
-
-enum-told-9 : tie.Need-enum-told-9
-enum-told-9 c = search needs
-
-and-i32-requires : tie.Need-and-i32-requires
-and-i32-requires c κs = search needs
-
-enum-told-10 : tie.Need-enum-told-10
-enum-told-10 c = search needs
-
-or-i32-requires : tie.Need-or-i32-requires
-or-i32-requires c κs = search needs
-
 returns : tie.Need-returns
 returns c = arm (c .before .before .before .args .x) (c .before .before .before .args .y) _ _ _ (record { sfits = c .bit .ok }) (c .before .enum-told .given .1) (rw (eq-bits _ _ (c .before .before .before .fits .x) (c .before .before .before .fits .y)) at (c .bit .ensures))
 
@@ -109,26 +49,26 @@ pub apply-two-spec : {M : Type 1} → statement M
 apply-two-spec =
     tie.close
     (tie.spec
-    enum-told
-    bit-requires
-    enum-told-2
-    bit-requires-2
-    enum-told-3
-    bit-requires-3
-    enum-told-4
-    bit-requires-4
-    enum-told-5
-    bit-requires-5
-    enum-told-6
-    bit-requires-6
-    enum-told-7
-    wrapping-add-i32-requires
-    enum-told-8
-    wrapping-sub-i32-requires
-    enum-told-9
-    and-i32-requires
-    enum-told-10
-    or-i32-requires
+    (λ c. search needs)
+    (λ c κs. search needs)
+    (λ c. search needs)
+    (λ c κs. search needs)
+    (λ c. search needs)
+    (λ c κs. search needs)
+    (λ c. search needs)
+    (λ c κs. search needs)
+    (λ c. search needs)
+    (λ c κs. search needs)
+    (λ c. search needs)
+    (λ c κs. search needs)
+    (λ c. search needs)
+    (λ c κs. search needs)
+    (λ c. search needs)
+    (λ c κs. search needs)
+    (λ c. search needs)
+    (λ c κs. search needs)
+    (λ c. search needs)
+    (λ c κs. search needs)
     returns
     returns-2
     returns-3

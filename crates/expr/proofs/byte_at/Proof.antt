@@ -7,15 +7,6 @@ use borrow.Author.Needs.{needs}
 use Rattle.expr.proofs.byte_at.Statement.{statement}
 use Rattle.expr.proofs.byte_at.Tie as tie
 
-place-of-requires : tie.Need-place-of-requires
-place-of-requires c κs = search needs
-
-shared-slice-read-signed-of : tie.Need-shared-slice-read-signed-of
-shared-slice-read-signed-of c = search needs
-
-signed-of-requires : tie.Need-signed-of-requires
-signed-of-requires c κs = search needs
-
 returns : tie.Need-returns
 returns c = toZ-ofZ {w = w32} (record { sfits = c .signed-of .ok }) ∙ c .signed-of .ensures ∙ nat-in _ (c .before .before .before .before .before .args .x) _ (rw (toZ-ofZ (c .before .before .before .before .before .fits .x)) at (c .before .before .before .place-of .ensures))
 
@@ -25,4 +16,4 @@ returns-2 c = nat-out _ (c .before .before .before .args .x) _ (rw (toZ-ofZ (c .
 pub byte-at-spec : {M : Type 1} → statement M
 byte-at-spec =
     tie.close
-    (tie.spec place-of-requires shared-slice-read-signed-of signed-of-requires returns returns-2)
+    (tie.spec (λ c κs. search needs) (λ c. search needs) (λ c κs. search needs) returns returns-2)

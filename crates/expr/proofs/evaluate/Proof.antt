@@ -13,21 +13,6 @@ use borrow.Author.Needs.{needs}
 use Rattle.expr.proofs.evaluate.Statement.{statement}
 use Rattle.expr.proofs.evaluate.Tie as tie
 
-number-below-requires : tie.Need-number-below-requires
-number-below-requires c κs = search needs
-
-enum-known-v : tie.Need-enum-known-v
-enum-known-v c = search needs
-
-enum-told : tie.Need-enum-told
-enum-told c = search needs
-
-evaluate-below-requires : tie.Need-evaluate-below-requires
-evaluate-below-requires c κs = search needs
-
-unpacked-requires : tie.Need-unpacked-requires
-unpacked-requires c κs = search needs
-
 returns : tie.Need-returns
 returns c =
     let start = c .before .before .before .before .before .before in
@@ -40,10 +25,10 @@ pub evaluate-spec : {M : Type 1} → statement M
 evaluate-spec =
     tie.close
     (tie.spec
-    number-below-requires
-    enum-known-v
-    enum-told
-    evaluate-below-requires
-    unpacked-requires
+    (λ c κs. search needs)
+    (λ c. search needs)
+    (λ c. search needs)
+    (λ c κs. search needs)
+    (λ c κs. search needs)
     returns
     returns-2)

@@ -9,15 +9,6 @@ use borrow.Author.Needs.{needs}
 use Rattle.expr.proofs.join_one.Statement.{statement}
 use Rattle.expr.proofs.join_one.Tie as tie
 
-enum-known-a : tie.Need-enum-known-a
-enum-known-a c = search needs
-
-read-one-requires : tie.Need-read-one-requires
-read-one-requires c κs = search needs
-
-enum-known-a-2 : tie.Need-enum-known-a-2
-enum-known-a-2 c = search needs
-
 returns : tie.Need-returns
 returns c =
     let f : SFits w32 (c .before .before .a .given .0 .0) = record { sfits = c .before .known-told .given .0 .1 } in
@@ -29,4 +20,4 @@ returns-2 c = sym (ap (λ (a : Value). join1 (reads (c .before .before .before .
 
 pub join-one-spec : {M : Type 1} → statement M
 join-one-spec =
-    tie.close (tie.spec enum-known-a read-one-requires enum-known-a-2 returns returns-2)
+    tie.close (tie.spec (λ c. search needs) (λ c κs. search needs) (λ c. search needs) returns returns-2)

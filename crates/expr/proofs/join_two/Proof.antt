@@ -10,21 +10,6 @@ use borrow.Author.Needs.{needs}
 use Rattle.expr.proofs.join_two.Statement.{statement}
 use Rattle.expr.proofs.join_two.Tie as tie
 
-enum-known-a : tie.Need-enum-known-a
-enum-known-a c = search needs
-
-enum-known-b : tie.Need-enum-known-b
-enum-known-b c = search needs
-
-apply-two-requires : tie.Need-apply-two-requires
-apply-two-requires c κs = search needs
-
-enum-known-b-2 : tie.Need-enum-known-b-2
-enum-known-b-2 c = search needs
-
-enum-known-a-2 : tie.Need-enum-known-a-2
-enum-known-a-2 c = search needs
-
 returns : tie.Need-returns
 returns c =
     let a = c .before .before .before .before .before .a .given in
@@ -44,11 +29,11 @@ pub join-two-spec : {M : Type 1} → statement M
 join-two-spec =
     tie.close
     (tie.spec
-    enum-known-a
-    enum-known-b
-    apply-two-requires
-    enum-known-b-2
-    enum-known-a-2
+    (λ c. search needs)
+    (λ c. search needs)
+    (λ c κs. search needs)
+    (λ c. search needs)
+    (λ c. search needs)
     returns
     returns-2
     returns-3)

@@ -7,15 +7,6 @@ use borrow.Author.Needs.{needs}
 use Rattle.expr.proofs.number_at.Statement.{statement}
 use Rattle.expr.proofs.number_at.Tie as tie
 
-place-of-requires : tie.Need-place-of-requires
-place-of-requires c κs = search needs
-
-mul-result : tie.Need-mul-result
-mul-result c = search needs
-
-shared-slice-copy-out-result : tie.Need-shared-slice-copy-out-result
-shared-slice-copy-out-result c = search needs
-
 returns : tie.Need-returns
 returns c = toZ-ofZ {w = w32} (record { sfits = c .result .given }) ∙ int-in _ (c .before .before .before .before .args .x) _ (rw (toZ-ofZ (c .before .before .before .before .fits .x)) at (c .before .before .place-of .ensures))
 
@@ -25,4 +16,4 @@ returns-2 c = int-out _ (c .before .before .before .args .x) _ (rw (toZ-ofZ (c .
 pub number-at-spec : {M : Type 1} → statement M
 number-at-spec =
     tie.close
-    (tie.spec place-of-requires mul-result shared-slice-copy-out-result returns returns-2)
+    (tie.spec (λ c κs. search needs) (λ c. search needs) (λ c. search needs) returns returns-2)

@@ -10,45 +10,6 @@ use Rattle.expr.proofs.number_below.Tie as tie
 returns : tie.Need-returns
 returns c = λ n. no-number (nodesIn (c .before .args .ws .now) (c .before .args .val .now) n) (c .before .args .b) (c .before .args .i) (c .if1 .taken)
 
-mul-kind-of : tie.Need-mul-kind-of
-mul-kind-of c = search needs
-
-mul-kind-of-2 : tie.Need-mul-kind-of-2
-mul-kind-of-2 c = search needs
-
-element-copy-out-kind-of : tie.Need-element-copy-out-kind-of
-element-copy-out-kind-of c = search needs
-
-kind-of-requires : tie.Need-kind-of-requires
-kind-of-requires c κs = search needs
-
-enum-told : tie.Need-enum-told
-enum-told c = search needs
-
-enum-told-2 : tie.Need-enum-told-2
-enum-told-2 c = search needs
-
-enum-told-3 : tie.Need-enum-told-3
-enum-told-3 c = search needs
-
-mul-t14 : tie.Need-mul-t14
-mul-t14 c = search needs
-
-element-copy-out-t17 : tie.Need-element-copy-out-t17
-element-copy-out-t17 c = search needs
-
-enum-told-4 : tie.Need-enum-told-4
-enum-told-4 c = search needs
-
-mul-t18 : tie.Need-mul-t18
-mul-t18 c = search needs
-
-element-copy-out-t21 : tie.Need-element-copy-out-t21
-element-copy-out-t21 c = search needs
-
-enum-told-5 : tie.Need-enum-told-5
-enum-told-5 c = search needs
-
 returns-2 : tie.Need-returns-2
 returns-2 c = λ n. number-two (nodesIn (c .before .before .before .before .before .args .ws .now) (c .before .before .before .before .before .args .val .now) n) (c .before .before .before .before .before .args .b) (c .before .before .before .before .before .args .i) (c .before .before .before .before .if1 .left) _ (c .before .before .kind-of .ensures) _ (c .enum-told .given .1)
 
@@ -69,19 +30,19 @@ number-below-spec =
     tie.close
     (tie.spec
     returns
-    mul-kind-of
-    mul-kind-of-2
-    element-copy-out-kind-of
-    kind-of-requires
-    enum-told
-    enum-told-2
-    enum-told-3
-    mul-t14
-    element-copy-out-t17
-    enum-told-4
-    mul-t18
-    element-copy-out-t21
-    enum-told-5
+    (λ c. search needs)
+    (λ c. search needs)
+    (λ c. search needs)
+    (λ c κs. search needs)
+    (λ c. search needs)
+    (λ c. search needs)
+    (λ c. search needs)
+    (λ c. search needs)
+    (λ c. search needs)
+    (λ c. search needs)
+    (λ c. search needs)
+    (λ c. search needs)
+    (λ c. search needs)
     returns-2
     returns-3
     returns-4

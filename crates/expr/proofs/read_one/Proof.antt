@@ -14,12 +14,6 @@ use Rattle.expr.proofs.read_one.Tie as tie
 answered : (r a : Bool) (x y : Value) → r ≡ a → (b : Bool) → r ≡ b → cond a x y ≡ cond b x y
 answered r a x y p b q = ap (λ (t : Bool). cond t x y) (sym p ∙ q)
 
-is-readable-requires : tie.Need-is-readable-requires
-is-readable-requires c κs = search needs
-
-apply-one-requires : tie.Need-apply-one-requires
-apply-one-requires c κs = search needs
-
 returns : tie.Need-returns
 returns c =
     let s = c .before .before .before .before .before in
@@ -32,4 +26,4 @@ returns-2 c =
     sym (answered _ _ _ _ (rw (toZ-ofZ (s .fits .x)) at (c .before .is-readable .ensures)) false (c .if1 .left))
 
 pub read-one-spec : {M : Type 1} → statement M
-read-one-spec = tie.close (tie.spec is-readable-requires apply-one-requires returns returns-2)
+read-one-spec = tie.close (tie.spec (λ c κs. search needs) (λ c κs. search needs) returns returns-2)

@@ -7,18 +7,6 @@ use borrow.Author.Needs.{needs}
 use Rattle.expr.proofs.short_at.Statement.{statement}
 use Rattle.expr.proofs.short_at.Tie as tie
 
-place-of-requires : tie.Need-place-of-requires
-place-of-requires c κs = search needs
-
-mul-widen16 : tie.Need-mul-widen16
-mul-widen16 c = search needs
-
-shared-slice-copy-out-widen16 : tie.Need-shared-slice-copy-out-widen16
-shared-slice-copy-out-widen16 c = search needs
-
-widen16-requires : tie.Need-widen16-requires
-widen16-requires c κs = search needs
-
 returns : tie.Need-returns
 returns c = toZ-ofZ {w = w32} (record { sfits = c .widen16 .ok }) ∙ (rw (toZ-ofZ {w = w16} (record { sfits = c .before .widen16-arg .given })) at (c .widen16 .ensures)) ∙ int-in _ (c .before .before .before .before .args .x) _ (rw (toZ-ofZ (c .before .before .before .before .fits .x)) at (c .before .before .before .place-of .ensures))
 
@@ -29,9 +17,9 @@ pub short-at-spec : {M : Type 1} → statement M
 short-at-spec =
     tie.close
     (tie.spec
-    place-of-requires
-    mul-widen16
-    shared-slice-copy-out-widen16
-    widen16-requires
+    (λ c κs. search needs)
+    (λ c. search needs)
+    (λ c. search needs)
+    (λ c κs. search needs)
     returns
     returns-2)

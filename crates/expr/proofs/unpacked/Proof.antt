@@ -9,20 +9,11 @@ use Rattle.expr.proofs.Packing.{low-unpacked, high-unpacked}
 use Rattle.expr.proofs.unpacked.Statement.{statement}
 use Rattle.expr.proofs.unpacked.Tie as tie
 
-cast-from-bits : tie.Need-cast-from-bits
-cast-from-bits c = search needs
-
-from-bits-requires : tie.Need-from-bits-requires
-from-bits-requires c κs = search needs
-
 returns : tie.Need-returns
 returns c = ap Is (toZ-ofZ {w = w32} (record { sfits = c .from-bits .ok }) ∙ c .from-bits .ensures) ∙ sym (low-unpacked (c .before .before .args .x) (omega arith))
-
-cast-t6 : tie.Need-cast-t6
-cast-t6 c = search needs
 
 returns-2 : tie.Need-returns-2
 returns-2 c = sym (high-unpacked _ (omega arith))
 
 pub unpacked-spec : {M : Type 1} → statement M
-unpacked-spec = tie.close (tie.spec cast-from-bits from-bits-requires returns cast-t6 returns-2)
+unpacked-spec = tie.close (tie.spec (λ c. search needs) (λ c κs. search needs) returns (λ c. search needs) returns-2)

@@ -14,9 +14,6 @@ use borrow.Author.Needs.{needs}
 use Rattle.expr_build.proofs.push_acquired.Statement.{statement}
 use Rattle.expr_build.proofs.push_acquired.Tie as tie
 
-cast-push-compare : tie.Need-cast-push-compare
-cast-push-compare c = search needs
-
 push-compare-requires : tie.Need-push-compare-requires
 push-compare-requires c κs = omega (arith, c .before .before .before .pre .0, size-least (c .before .before .before .args .a))
 
@@ -44,7 +41,7 @@ pub push-acquired-spec : {M : Type 1} → statement M
 push-acquired-spec =
     tie.close
     (tie.spec
-    cast-push-compare
+    (λ c. search needs)
     push-compare-requires
     returns
     push-rate-requires

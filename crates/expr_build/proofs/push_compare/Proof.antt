@@ -8,24 +8,6 @@ use borrow.Author.Needs.{needs}
 use Rattle.expr_build.proofs.push_compare.Statement.{statement}
 use Rattle.expr_build.proofs.push_compare.Tie as tie
 
-push-imm-requires : tie.Need-push-imm-requires
-push-imm-requires c κs = search needs
-
-sub-push-one : tie.Need-sub-push-one
-sub-push-one c = search needs
-
-push-one-requires : tie.Need-push-one-requires
-push-one-requires c κs = search needs
-
-push-imm16-requires : tie.Need-push-imm16-requires
-push-imm16-requires c κs = search needs
-
-sub-push-two : tie.Need-sub-push-two
-sub-push-two c = search needs
-
-sub-push-two-2 : tie.Need-sub-push-two-2
-sub-push-two-2 c = search needs
-
 push-two-requires : tie.Need-push-two-requires
 unfolding size
 push-two-requires c κs = search needs
@@ -37,11 +19,11 @@ pub push-compare-spec : {M : Type 1} → statement M
 push-compare-spec =
     tie.close
     (tie.spec
-    push-imm-requires
-    sub-push-one
-    push-one-requires
-    push-imm16-requires
-    sub-push-two
-    sub-push-two-2
+    (λ c κs. search needs)
+    (λ c. search needs)
+    (λ c κs. search needs)
+    (λ c κs. search needs)
+    (λ c. search needs)
+    (λ c. search needs)
     push-two-requires
     returns)

@@ -6,14 +6,8 @@ use borrow.Author.Needs.{needs}
 use Rattle.expr_build.proofs.push_imm16.Statement.{statement}
 use Rattle.expr_build.proofs.push_imm16.Tie as tie
 
-cast-push-node : tie.Need-cast-push-node
-cast-push-node c = search needs
-
-push-node-requires : tie.Need-push-node-requires
-push-node-requires c κs = search needs
-
 returns : tie.Need-returns
 returns c = imm16-put (rw (toZ-pos w32 {n = c .before .before .before .args .k} (omega (arith, c .before .before .before .pre))) at (c .push-node .ensures))
 
 pub push-imm16-spec : {M : Type 1} → statement M
-push-imm16-spec = tie.close (tie.spec cast-push-node push-node-requires returns)
+push-imm16-spec = tie.close (tie.spec (λ c. search needs) (λ c κs. search needs) returns)

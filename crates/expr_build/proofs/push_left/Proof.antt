@@ -8,18 +8,9 @@ use borrow.Author.Needs.{needs}
 use Rattle.expr_build.proofs.push_left.Statement.{statement}
 use Rattle.expr_build.proofs.push_left.Tie as tie
 
-push-imm16-requires : tie.Need-push-imm16-requires
-push-imm16-requires c κs = search needs
-
-cast-push-imm : tie.Need-cast-push-imm
-cast-push-imm c = search needs
-
 push-imm-requires : tie.Need-push-imm-requires
 unfolding size
 push-imm-requires c κs = search needs
-
-sub-push-one : tie.Need-sub-push-one
-sub-push-one c = search needs
 
 push-one-requires : tie.Need-push-one-requires
 unfolding size
@@ -28,9 +19,6 @@ push-one-requires c κs = search needs
 sub-push-two : tie.Need-sub-push-two
 unfolding size
 sub-push-two c = search needs
-
-sub-push-two-2 : tie.Need-sub-push-two-2
-sub-push-two-2 c = search needs
 
 push-two-requires : tie.Need-push-two-requires
 unfolding size
@@ -43,12 +31,12 @@ pub push-left-spec : {M : Type 1} → statement M
 push-left-spec =
     tie.close
     (tie.spec
-    push-imm16-requires
-    cast-push-imm
+    (λ c κs. search needs)
+    (λ c. search needs)
     push-imm-requires
-    sub-push-one
+    (λ c. search needs)
     push-one-requires
     sub-push-two
-    sub-push-two-2
+    (λ c. search needs)
     push-two-requires
     returns)

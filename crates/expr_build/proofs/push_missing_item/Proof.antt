@@ -14,12 +14,6 @@ use borrow.Author.Needs.{needs}
 use Rattle.expr_build.proofs.push_missing_item.Statement.{statement}
 use Rattle.expr_build.proofs.push_missing_item.Tie as tie
 
-cast-push-compare : tie.Need-cast-push-compare
-cast-push-compare c = search needs
-
-push-compare-requires : tie.Need-push-compare-requires
-push-compare-requires c κs = search needs
-
 negate-requires : tie.Need-negate-requires
 negate-requires c κs = last-put (rw (toZ-pos w32 {n = c .before .before .before .before .before .before .args .item .0} (omega arith)) at (c .before .before .push-compare .ensures)) (flips (compared refl refl)) (omega (arith, c .before .before .before .before .before .before .pre, size-compare Equal Item (pos (c .before .before .before .before .before .before .args .item .0))))
 
@@ -28,4 +22,4 @@ returns c = c .negate .ensures _ _ (flips (compared refl refl)) (rw (toZ-pos w32
 
 pub push-missing-item-spec : {M : Type 1} → statement M
 push-missing-item-spec =
-    tie.close (tie.spec cast-push-compare push-compare-requires negate-requires returns)
+    tie.close (tie.spec (λ c. search needs) (λ c κs. search needs) negate-requires returns)

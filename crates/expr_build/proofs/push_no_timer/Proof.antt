@@ -9,9 +9,6 @@ use borrow.Author.Needs.{needs}
 use Rattle.expr_build.proofs.push_no_timer.Statement.{statement}
 use Rattle.expr_build.proofs.push_no_timer.Tie as tie
 
-push-missing-item-requires : tie.Need-push-missing-item-requires
-push-missing-item-requires c κs = search needs
-
 push-missing-item-requires-2 : tie.Need-push-missing-item-requires-2
 push-missing-item-requires-2 c κs = omega (arith, c .before .before .before .before .before .pre, c .before .before .push-missing-item .ensures .counted, size-compare Equal Item (pos (c .before .before .before .before .before .args .ten .0)))
 
@@ -31,7 +28,7 @@ pub push-no-timer-spec : {M : Type 1} → statement M
 push-no-timer-spec =
     tie.close
     (tie.spec
-    push-missing-item-requires
+    (λ c κs. search needs)
     push-missing-item-requires-2
     sub-push-two
     sub-push-two-2

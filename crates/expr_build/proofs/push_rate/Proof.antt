@@ -5,9 +5,6 @@ use borrow.Author.Needs.{needs}
 use Rattle.expr_build.proofs.push_rate.Statement.{statement}
 use Rattle.expr_build.proofs.push_rate.Tie as tie
 
-push-imm16-requires : tie.Need-push-imm16-requires
-push-imm16-requires c κs = search needs
-
 sub-push-one : tie.Need-sub-push-one
 unfolding size
 sub-push-one c = search needs
@@ -20,12 +17,6 @@ push-imm16-requires-2 : tie.Need-push-imm16-requires-2
 unfolding size
 push-imm16-requires-2 c κs = search needs
 
-sub-push-two : tie.Need-sub-push-two
-sub-push-two c = search needs
-
-sub-push-two-2 : tie.Need-sub-push-two-2
-sub-push-two-2 c = search needs
-
 push-two-requires : tie.Need-push-two-requires
 unfolding size
 push-two-requires c κs = search needs
@@ -37,11 +28,11 @@ pub push-rate-spec : {M : Type 1} → statement M
 push-rate-spec =
     tie.close
     (tie.spec
-    push-imm16-requires
+    (λ c κs. search needs)
     sub-push-one
     push-one-requires
     push-imm16-requires-2
-    sub-push-two
-    sub-push-two-2
+    (λ c. search needs)
+    (λ c. search needs)
     push-two-requires
     returns)

@@ -10,29 +10,17 @@ use borrow.Author.Needs.{needs}
 use Rattle.expr_build.proofs.push_subject.Statement.{statement}
 use Rattle.expr_build.proofs.push_subject.Tie as tie
 
-subject-of-requires : tie.Need-subject-of-requires
-subject-of-requires c κs = search needs
-
-enum-known-about : tie.Need-enum-known-about
-enum-known-about c = search needs
-
 cast-push-compare : tie.Need-cast-push-compare
 cast-push-compare c = record { sfits = subject-low (c .before .before .before .before .before .before .args .code) _ (sym (ap subjectIs (c .before .before .before .about .given .1)) ∙ c .before .before .before .before .before .subject-of .ensures) }
 
 push-compare-requires : tie.Need-push-compare-requires
 push-compare-requires c κs = omega (arith, c .before .before .before .before .before .before .pre, size-item (c .before .before .before .before .before .before .args .code) _ (c .before .before .before .before .before .subject-of .ensures) _ (ap subjectIs (c .before .before .before .about .given .1)))
 
-enum-known-about-2 : tie.Need-enum-known-about-2
-enum-known-about-2 c = search needs
-
 cast-push-compare-2 : tie.Need-cast-push-compare-2
 cast-push-compare-2 c = record { sfits = subject-low (c .before .before .before .before .before .before .args .code) _ (sym (ap subjectIs (c .before .before .before .about2 .given .1)) ∙ c .before .before .before .before .before .subject-of .ensures) }
 
 push-compare-requires-2 : tie.Need-push-compare-requires-2
 push-compare-requires-2 c κs = omega (arith, c .before .before .before .before .before .before .pre, size-atc (c .before .before .before .before .before .before .args .code) _ (c .before .before .before .before .before .subject-of .ensures) _ (ap subjectIs (c .before .before .before .about2 .given .1)))
-
-enum-known-about-3 : tie.Need-enum-known-about-3
-enum-known-about-3 c = search needs
 
 push-flag-requires : tie.Need-push-flag-requires
 push-flag-requires c κs = omega (arith, c .before .before .before .before .before .before .pre, size-a-flag (c .before .before .before .before .before .before .args .code) _ (c .before .before .before .before .before .subject-of .ensures) _ (ap subjectIs (c .before .before .before .about3 .given .1)))
@@ -50,14 +38,14 @@ pub push-subject-spec : {M : Type 1} → statement M
 push-subject-spec =
     tie.close
     (tie.spec
-    subject-of-requires
-    enum-known-about
+    (λ c κs. search needs)
+    (λ c. search needs)
     cast-push-compare
     push-compare-requires
-    enum-known-about-2
+    (λ c. search needs)
     cast-push-compare-2
     push-compare-requires-2
-    enum-known-about-3
+    (λ c. search needs)
     push-flag-requires
     returns
     returns-2

@@ -4,9 +4,6 @@ use borrow.Author.Needs.{needs}
 use Rattle.expr_build.proofs.push_temp.Statement.{statement}
 use Rattle.expr_build.proofs.push_temp.Tie as tie
 
-push-imm16-requires : tie.Need-push-imm16-requires
-push-imm16-requires c κs = search needs
-
 sub-push-one : tie.Need-sub-push-one
 unfolding size
 sub-push-one c = search needs
@@ -22,7 +19,7 @@ pub push-temp-spec : {M : Type 1} → statement M
 push-temp-spec =
     tie.close
     (tie.spec
-    push-imm16-requires
+    (λ c κs. search needs)
     sub-push-one
     push-one-requires
     returns)

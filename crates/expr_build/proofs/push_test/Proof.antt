@@ -10,9 +10,6 @@ use Rattle.expr_build.proofs.push_test.Tie as tie
 push-subject-requires : tie.Need-push-subject-requires
 push-subject-requires c κs = omega (arith, c .before .before .pre, subject-small (c .before .before .args .code))
 
-is-missing-requires : tie.Need-is-missing-requires
-is-missing-requires c κs = search needs
-
 negate-requires : tie.Need-negate-requires
 negate-requires c κs = last-put (c .before .before .before .before .push-subject .ensures) (subject-turns (c .before .before .before .before .before .before .before .args .code)) (rw (test-missing (c .before .before .before .before .before .before .before .args .code) (sym (c .before .before .before .is-missing .ensures) ∙ c .before .before .if1 .taken)) at (c .before .before .before .before .before .before .before .pre))
 
@@ -25,4 +22,4 @@ returns-2 c = rw (test-had (c .before .before .before .before .before .args .cod
 pub push-test-spec : {M : Type 1} → statement M
 push-test-spec =
     tie.close
-    (tie.spec push-subject-requires is-missing-requires negate-requires returns returns-2)
+    (tie.spec push-subject-requires (λ c κs. search needs) negate-requires returns returns-2)

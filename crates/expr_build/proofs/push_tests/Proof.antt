@@ -44,12 +44,6 @@ room c h =
     let r = joined-room (test (requirementOf (getD (a .codes .now) 0 0))) (a .codes .now) (c .loop .i) (a .len) (c .loop .inv .1) (omega (arith, all-there c, c .before .before .before .before .before .before .pre .0)) h in
     omega (arith, c .before .before .before .before .before .before .pre .1, so-far c .counted, r)
 
-capacity-requires : tie.Need-capacity-requires Inv-loop μ-loop
-capacity-requires c κs = search needs
-
-element-copy-out-push-test : tie.Need-element-copy-out-push-test Inv-loop μ-loop
-element-copy-out-push-test c = search needs
-
 push-test-requires : tie.Need-push-test-requires Inv-loop μ-loop
 push-test-requires c κs = omega (arith, c .before .before .before .before .pre .1, joined-grows (test (requirementOf (getD (c .before .before .before .before .args .codes .now) 0 0))) (codesRest (c .before .before .before .before .args .codes .now) (c .before .before .before .before .args .len)))
 
@@ -60,12 +54,6 @@ loop-holds c = ((λ s e p. p), search needs, search needs)
 sub-left-root : tie.Need-sub-left-root Inv-loop μ-loop
 sub-left-root c = omega (arith, so-far (c .before) .counted, size-pos (joinCodes (c .before .before .before .before .before .before .before .args .codes .now) (c .before .loop .i)))
 
-mul-push-test : tie.Need-mul-push-test Inv-loop μ-loop
-mul-push-test c = search needs
-
-element-copy-out-push-test-2 : tie.Need-element-copy-out-push-test-2 Inv-loop μ-loop
-element-copy-out-push-test-2 c = search needs
-
 push-test-requires-2 : tie.Need-push-test-requires-2 Inv-loop μ-loop
 push-test-requires-2 c κs = omega (arith, room (c .before .before .before .before) (c .before .before .before .loop-test .taken))
 
@@ -74,12 +62,6 @@ sub-push-two c = omega (arith, c .before .before .push-test2 .ensures .counted, 
 
 push-two-requires : tie.Need-push-two-requires Inv-loop μ-loop
 push-two-requires c κs = omega (arith, c .before .before .push-test2 .ensures .counted, room (c .before .before .before .before .before .before .before) (c .before .before .before .before .before .before .loop-test .taken))
-
-add-i : tie.Need-add-i Inv-loop μ-loop
-add-i c = search needs
-
-loop-less : tie.Need-loop-less Inv-loop μ-loop
-loop-less c = search needs
 
 loop-again : tie.Need-loop-again Inv-loop μ-loop
 loop-again c = (
@@ -100,17 +82,17 @@ push-tests-spec =
     (tie.spec
     Inv-loop
     μ-loop
-    capacity-requires
-    element-copy-out-push-test
+    (λ c κs. search needs)
+    (λ c. search needs)
     push-test-requires
     loop-holds
     sub-left-root
-    mul-push-test
-    element-copy-out-push-test-2
+    (λ c. search needs)
+    (λ c. search needs)
     push-test-requires-2
     sub-push-two
     push-two-requires
-    add-i
-    loop-less
+    (λ c. search needs)
+    (λ c. search needs)
     loop-again
     returns)

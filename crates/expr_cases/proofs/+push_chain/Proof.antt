@@ -33,14 +33,8 @@ push-chain-below t =
 abbrev push-chain-claims : ℕ → push-chain-lts.Claims
 push-chain-claims t = (push-yes-reads.Asked, push-yes-reads.Learnt, push-chain-below t, push-chain.Post, push-node-reads.Asked, push-node-reads.Learnt)
 
-push-chain-push-yes-requires : (t : ℕ) → push-chain-lts.Need-push-yes-requires (push-chain-claims t) (push-chain-at t) push-chain.Post
-push-chain-push-yes-requires t c κs = search needs
-
 push-chain-returns : (t : ℕ) → push-chain-lts.Need-returns (push-chain-claims t) (push-chain-at t) push-chain.Post
 push-chain-returns t c = first (c .before .before .before .before .args .d) (c .before .before .before .if1 .taken) (c .push-yes .ensures)
-
-push-chain-sub-push-chain : (t : ℕ) → push-chain-lts.Need-sub-push-chain (push-chain-claims t) (push-chain-at t) push-chain.Post
-push-chain-sub-push-chain t c = search needs
 
 push-chain-push-chain-requires : (t : ℕ) → push-chain-lts.Need-push-chain-requires (push-chain-claims t) (push-chain-at t) push-chain.Post
 push-chain-push-chain-requires t c κs = let p : c .before .before .before .args .d ≡ t = c .before .before .before .pre .0 in (omega (arith, c .before .before .if1 .left), omega (arith, c .before .before .before .pre .1, c .before .before .if1 .left))
@@ -66,9 +60,9 @@ pub +push-chain-spec : {M : Type 1} → statement M
 +push-chain-spec = close μ-push-chain λ t. push-chain-lts.spec (push-chain-claims t)
     (push-chain-at t)
     push-chain.Post
-    (push-chain-push-yes-requires t)
+    (λ c κs. search needs)
     (push-chain-returns t)
-    (push-chain-sub-push-chain t)
+    (λ c. search needs)
     (push-chain-push-chain-requires t)
     (push-chain-push-yes-requires-2 t)
     (push-chain-sub-push-node t)

@@ -9,9 +9,6 @@ use borrow.Author.Needs.{needs}
 use Rattle.expr_cases.proofs.deepest.Statement.{statement}
 use Rattle.expr_cases.proofs.deepest.Tie as tie
 
-push-chain-requires : tie.Need-push-chain-requires
-push-chain-requires c κs = search needs
-
 sub-show : tie.Need-sub-show
 sub-show c = omega (arith, chain-size 62, c .before .before .push-chain .ensures .counted)
 
@@ -27,17 +24,14 @@ sub-show-2 c = omega (arith, chain-size 62, flips-size (chain-flips 62), c .befo
 show-requires-2 : tie.Need-show-requires-2
 show-requires-2 c κs = omega (arith, chain-size 62, flips-size (chain-flips 62), c .before .before .negate .ensures (nodesIn (c .before .before .before .before .before .before .before .before .before .before .before .args .ws .now) (c .before .before .before .before .before .before .before .before .before .before .before .args .val .now) 0) (chain 62) (flips (chain-flips 62)) (c .before .before .before .before .before .before .before .before .push-chain .ensures) .counted)
 
-returns : tie.Need-returns
-returns c = search needs
-
 pub deepest-spec : {M : Type 1} → statement M
 deepest-spec =
     tie.close
     (tie.spec
-    push-chain-requires
+    (λ c κs. search needs)
     sub-show
     show-requires
     negate-requires
     sub-show-2
     show-requires-2
-    returns)
+    (λ c. search needs))

@@ -11,21 +11,6 @@ Inv-loop ws₀ val₀ n₀ ws val n = n ≤ 16384
 abbrev μ-loop : tie.MeasureT-loop
 μ-loop ws₀ val₀ n₀ ws val n = 16384 - n
 
-loop-holds : tie.Need-loop-holds Inv-loop μ-loop
-loop-holds c = omega arith
-
-push-node-requires : tie.Need-push-node-requires Inv-loop μ-loop
-push-node-requires c κs = search needs
-
-loop-less : tie.Need-loop-less Inv-loop μ-loop
-loop-less c = omega arith
-
-loop-again : tie.Need-loop-again Inv-loop μ-loop
-loop-again c = omega arith
-
-returns : tie.Need-returns Inv-loop μ-loop
-returns c = search needs
-
 pub push-numbers-spec : {M : Type 1} → statement M
 push-numbers-spec =
-    tie.close (tie.spec Inv-loop μ-loop loop-holds push-node-requires loop-less loop-again returns)
+    tie.close (tie.spec Inv-loop μ-loop (λ c. omega arith) (λ c κs. search needs) (λ c. omega arith) (λ c. omega arith) (λ c. search needs))

@@ -32,51 +32,6 @@ negate-node-below t =
 abbrev negate-node-claims : ℕ → negate-node-lts.Claims
 negate-node-claims t = (flipped-reads.Asked, flipped-reads.Learnt, negate-node-below t, negate-node.Post)
 
-negate-node-mul-code : (t : ℕ) → negate-node-lts.Need-mul-code (negate-node-claims t) (negate-node-at t) negate-node.Post
-negate-node-mul-code t c = search needs
-
-negate-node-mul-code-2 : (t : ℕ) → negate-node-lts.Need-mul-code-2 (negate-node-claims t) (negate-node-at t) negate-node.Post
-negate-node-mul-code-2 t c = search needs
-
-negate-node-element-copy-out-code : (t : ℕ) → negate-node-lts.Need-element-copy-out-code (negate-node-claims t) (negate-node-at t) negate-node.Post
-negate-node-element-copy-out-code t c = search needs
-
-negate-node-mul-left : (t : ℕ) → negate-node-lts.Need-mul-left (negate-node-claims t) (negate-node-at t) negate-node.Post
-negate-node-mul-left t c = search needs
-
-negate-node-add-left : (t : ℕ) → negate-node-lts.Need-add-left (negate-node-claims t) (negate-node-at t) negate-node.Post
-negate-node-add-left t c = search needs
-
-negate-node-mul-left-2 : (t : ℕ) → negate-node-lts.Need-mul-left-2 (negate-node-claims t) (negate-node-at t) negate-node.Post
-negate-node-mul-left-2 t c = search needs
-
-negate-node-element-copy-out-left : (t : ℕ) → negate-node-lts.Need-element-copy-out-left (negate-node-claims t) (negate-node-at t) negate-node.Post
-negate-node-element-copy-out-left t c = search needs
-
-negate-node-mul-right : (t : ℕ) → negate-node-lts.Need-mul-right (negate-node-claims t) (negate-node-at t) negate-node.Post
-negate-node-mul-right t c = search needs
-
-negate-node-add-right : (t : ℕ) → negate-node-lts.Need-add-right (negate-node-claims t) (negate-node-at t) negate-node.Post
-negate-node-add-right t c = search needs
-
-negate-node-mul-right-2 : (t : ℕ) → negate-node-lts.Need-mul-right-2 (negate-node-claims t) (negate-node-at t) negate-node.Post
-negate-node-mul-right-2 t c = search needs
-
-negate-node-element-copy-out-right : (t : ℕ) → negate-node-lts.Need-element-copy-out-right (negate-node-claims t) (negate-node-at t) negate-node.Post
-negate-node-element-copy-out-right t c = search needs
-
-negate-node-flipped-requires : (t : ℕ) → negate-node-lts.Need-flipped-requires (negate-node-claims t) (negate-node-at t) negate-node.Post
-negate-node-flipped-requires t c κs = search needs
-
-negate-node-mul-ws : (t : ℕ) → negate-node-lts.Need-mul-ws (negate-node-claims t) (negate-node-at t) negate-node.Post
-negate-node-mul-ws t c = search needs
-
-negate-node-mul-ws-2 : (t : ℕ) → negate-node-lts.Need-mul-ws-2 (negate-node-claims t) (negate-node-at t) negate-node.Post
-negate-node-mul-ws-2 t c = search needs
-
-negate-node-element-write-ws : (t : ℕ) → negate-node-lts.Need-element-write-ws (negate-node-claims t) (negate-node-at t) negate-node.Post
-negate-node-element-write-ws t c = search needs
-
 negate-node-returns : (t : ℕ) → negate-node-lts.Need-returns (negate-node-claims t) (negate-node-at t) negate-node.Post
 negate-node-returns t c = λ k e h. compare-done (c .before .flipped .result) (c .if1 .taken) (c .before .flipped .ensures) h
 
@@ -108,21 +63,21 @@ pub +negate-node-spec : {M : Type 1} → statement M
 +negate-node-spec = close μ-negate-node λ t. negate-node-lts.spec (negate-node-claims t)
     (negate-node-at t)
     negate-node.Post
-    (negate-node-mul-code t)
-    (negate-node-mul-code-2 t)
-    (negate-node-element-copy-out-code t)
-    (negate-node-mul-left t)
-    (negate-node-add-left t)
-    (negate-node-mul-left-2 t)
-    (negate-node-element-copy-out-left t)
-    (negate-node-mul-right t)
-    (negate-node-add-right t)
-    (negate-node-mul-right-2 t)
-    (negate-node-element-copy-out-right t)
-    (negate-node-flipped-requires t)
-    (negate-node-mul-ws t)
-    (negate-node-mul-ws-2 t)
-    (negate-node-element-write-ws t)
+    (λ c. search needs)
+    (λ c. search needs)
+    (λ c. search needs)
+    (λ c. search needs)
+    (λ c. search needs)
+    (λ c. search needs)
+    (λ c. search needs)
+    (λ c. search needs)
+    (λ c. search needs)
+    (λ c. search needs)
+    (λ c. search needs)
+    (λ c κs. search needs)
+    (λ c. search needs)
+    (λ c. search needs)
+    (λ c. search needs)
     (negate-node-returns t)
     (negate-node-negate-node-requires t)
     (negate-node-negate-node-requires-2 t)

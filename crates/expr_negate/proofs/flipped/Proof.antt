@@ -6,14 +6,8 @@ use borrow.Author.Needs.{needs}
 use Rattle.expr_negate.proofs.flipped.Statement.{statement}
 use Rattle.expr_negate.proofs.flipped.Tie as tie
 
-sub-result : tie.Need-sub-result
-sub-result c = search needs
-
 returns : tie.Need-returns
 returns c = rw (lt-ltb (c .before .args .code) 2 (c .if1 .taken))
-
-sub-result-2 : tie.Need-sub-result-2
-sub-result-2 c = search needs
 
 returns-2 : tie.Need-returns-2
 returns-2 c = rw (le-ltb (c .before .before .args .code) 2 (omega (arith, c .before .if1 .left)), lt-ltb (c .before .before .args .code) 6 (c .if2 .taken))
@@ -25,4 +19,4 @@ returns-4 : tie.Need-returns-4
 returns-4 c = rw (le-ltb (c .before .before .before .args .code) 2 (omega (arith, c .before .before .if1 .left)), le-ltb (c .before .before .before .args .code) 6 (omega (arith, c .before .if2 .left)), ne-eqb (c .before .before .before .args .code) 9 (c .if3 .left))
 
 pub flipped-spec : {M : Type 1} → statement M
-flipped-spec = tie.close (tie.spec sub-result returns sub-result-2 returns-2 returns-3 returns-4)
+flipped-spec = tie.close (tie.spec (λ c. search needs) returns (λ c. search needs) returns-2 returns-3 returns-4)

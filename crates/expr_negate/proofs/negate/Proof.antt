@@ -11,32 +11,11 @@ use borrow.Author.Needs.{needs}
 use Rattle.expr_negate.proofs.negate.Statement.{statement}
 use Rattle.expr_negate.proofs.negate.Tie as tie
 
-long-requires : tie.Need-long-requires
-long-requires c κs = search needs
-
 sub-root : tie.Need-sub-root
 sub-root c = omega (arith, last-low (c .before .before .before .pre) .0)
 
-cast-at : tie.Need-cast-at
-cast-at c = search needs
-
-mul-kind-of : tie.Need-mul-kind-of
-mul-kind-of c = search needs
-
-mul-kind-of-2 : tie.Need-mul-kind-of-2
-mul-kind-of-2 c = search needs
-
 element-copy-out-kind-of : tie.Need-element-copy-out-kind-of
 element-copy-out-kind-of c = omega (arith, last-low (c .before .before .before .pre) .0, last-low (c .before .before .before .pre) .1)
-
-kind-of-requires : tie.Need-kind-of-requires
-kind-of-requires c κs = search needs
-
-operator-of-requires : tie.Need-operator-of-requires
-operator-of-requires c κs = search needs
-
-is-sum-requires : tie.Need-is-sum-requires
-is-sum-requires c κs = search needs
 
 push-node-requires : tie.Need-push-node-requires
 push-node-requires c κs =
@@ -66,15 +45,15 @@ pub negate-spec : {M : Type 1} → statement M
 negate-spec =
     tie.close
     (tie.spec
-    long-requires
+    (λ c κs. search needs)
     sub-root
-    cast-at
-    mul-kind-of
-    mul-kind-of-2
+    (λ c. search needs)
+    (λ c. search needs)
+    (λ c. search needs)
     element-copy-out-kind-of
-    kind-of-requires
-    operator-of-requires
-    is-sum-requires
+    (λ c κs. search needs)
+    (λ c κs. search needs)
+    (λ c κs. search needs)
     push-node-requires
     returns
     negate-node-requires

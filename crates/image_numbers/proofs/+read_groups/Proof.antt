@@ -34,29 +34,8 @@ read-groups-returns t c = told-none _ (c .before .before .args .at) _ (c .if1 .t
 read-groups-returns-2 : (t : ℕ) → read-groups-lts.Need-returns-2 (read-groups-claims t) (read-groups-at t) read-groups.Post
 read-groups-returns-2 t c = told-end _ _ _ (c .before .if1 .left) (c .if2 .taken)
 
-read-groups-shared-slice-read-wide-byte : (t : ℕ) → read-groups-lts.Need-shared-slice-read-wide-byte (read-groups-claims t) (read-groups-at t) read-groups.Post
-read-groups-shared-slice-read-wide-byte t c = search needs
-
-read-groups-wide-byte-requires : (t : ℕ) → read-groups-lts.Need-wide-byte-requires (read-groups-claims t) (read-groups-at t) read-groups.Post
-read-groups-wide-byte-requires t c κs = search needs
-
-read-groups-add-t12 : (t : ℕ) → read-groups-lts.Need-add-t12 (read-groups-claims t) (read-groups-at t) read-groups.Post
-read-groups-add-t12 t c = search needs
-
 read-groups-returns-3 : (t : ℕ) → read-groups-lts.Need-returns-3 (read-groups-claims t) (read-groups-at t) read-groups.Post
 read-groups-returns-3 t c = told-last _ _ _ (c .before .before .before .before .if1 .left) (c .before .before .before .if2 .left) _ (c .before .wide-byte .ensures) (c .if3 .taken)
-
-read-groups-add-read-groups : (t : ℕ) → read-groups-lts.Need-add-read-groups (read-groups-claims t) (read-groups-at t) read-groups.Post
-read-groups-add-read-groups t c = search needs
-
-read-groups-sub-read-groups : (t : ℕ) → read-groups-lts.Need-sub-read-groups (read-groups-claims t) (read-groups-at t) read-groups.Post
-read-groups-sub-read-groups t c = search needs
-
-read-groups-read-groups-requires : (t : ℕ) → read-groups-lts.Need-read-groups-requires (read-groups-claims t) (read-groups-at t) read-groups.Post
-read-groups-read-groups-requires t c κs = search needs
-
-read-groups-enum-known-high : (t : ℕ) → read-groups-lts.Need-enum-known-high (read-groups-claims t) (read-groups-at t) read-groups.Post
-read-groups-enum-known-high t c = search needs
 
 read-groups-returns-4 : (t : ℕ) → read-groups-lts.Need-returns-4 (read-groups-claims t) (read-groups-at t) read-groups.Post
 read-groups-returns-4 t c =
@@ -72,9 +51,6 @@ read-groups-add-t17 : (t : ℕ) → read-groups-lts.Need-add-t17 (read-groups-cl
 read-groups-add-t17 t c =
     let args = c .before .before .before .before .before .before .before .before .before .before .before .args in
     let h : args .f ≤ 5 = c .before .before .before .before .before .before .before .before .before .before .before .pre .1 in omega (arith, told-low (args .s .now) (args .f - 1) _ _ _ _ (c .before .before .high .given .1) (omega arith) (c .before .before .before .before .read-groups .ensures), c .before .before .before .before .before .before .wide-byte .ensures, c .before .before .before .before .before .before .before .shared-slice-known2 .given (args .at))
-
-read-groups-enum-told : (t : ℕ) → read-groups-lts.Need-enum-told (read-groups-claims t) (read-groups-at t) read-groups.Post
-read-groups-enum-told t c = search needs
 
 read-groups-returns-5 : (t : ℕ) → read-groups-lts.Need-returns-5 (read-groups-claims t) (read-groups-at t) read-groups.Post
 read-groups-returns-5 t c =
@@ -92,17 +68,17 @@ pub +read-groups-spec : {M : Type 1} → statement M
     read-groups.Post
     (read-groups-returns t)
     (read-groups-returns-2 t)
-    (read-groups-shared-slice-read-wide-byte t)
-    (read-groups-wide-byte-requires t)
-    (read-groups-add-t12 t)
+    (λ c. search needs)
+    (λ c κs. search needs)
+    (λ c. search needs)
     (read-groups-returns-3 t)
-    (read-groups-add-read-groups t)
-    (read-groups-sub-read-groups t)
-    (read-groups-read-groups-requires t)
-    (read-groups-enum-known-high t)
+    (λ c. search needs)
+    (λ c. search needs)
+    (λ c κs. search needs)
+    (λ c. search needs)
     (read-groups-returns-4 t)
     (read-groups-mul-t15 t)
     (read-groups-add-t17 t)
-    (read-groups-enum-told t)
+    (λ c. search needs)
     (read-groups-returns-5 t)
     (read-groups-returns-6 t)

@@ -30,35 +30,14 @@ write-groups-below t =
 abbrev write-groups-claims : ℕ → write-groups-lts.Claims
 write-groups-claims t = (low-byte-reads.Asked, low-byte-reads.Learnt, write-groups-below t, write-groups.Post)
 
-write-groups-low-byte-requires : (t : ℕ) → write-groups-lts.Need-low-byte-requires (write-groups-claims t) (write-groups-at t) write-groups.Post
-write-groups-low-byte-requires t c κs = search needs
-
 write-groups-slice-write-out : (t : ℕ) → write-groups-lts.Need-slice-write-out (write-groups-claims t) (write-groups-at t) write-groups.Post
 write-groups-slice-write-out t c = room-last (c .before .before .before .args .f) (c .before .before .before .args .v) (c .before .before .before .pre .1 .1) (c .before .before .before .pre .1 .2) (c .before .if1 .taken)
-
-write-groups-add-result : (t : ℕ) → write-groups-lts.Need-add-result (write-groups-claims t) (write-groups-at t) write-groups.Post
-write-groups-add-result t c = search needs
-
-write-groups-same-length : (t : ℕ) → write-groups-lts.Need-same-length (write-groups-claims t) (write-groups-at t) write-groups.Post
-write-groups-same-length t c = search needs
 
 write-groups-returns : (t : ℕ) → write-groups-lts.Need-returns (write-groups-claims t) (write-groups-at t) write-groups.Post
 write-groups-returns t c = stored-last (c .before .before .before .args .f) (c .before .before .before .args .v) (c .before .before .before .pre .1 .1) _ _ _ (c .before .if1 .taken) (c .low-byte .ensures)
 
-write-groups-add-low-byte : (t : ℕ) → write-groups-lts.Need-add-low-byte (write-groups-claims t) (write-groups-at t) write-groups.Post
-write-groups-add-low-byte t c = search needs
-
-write-groups-low-byte-requires-2 : (t : ℕ) → write-groups-lts.Need-low-byte-requires-2 (write-groups-claims t) (write-groups-at t) write-groups.Post
-write-groups-low-byte-requires-2 t c κs = search needs
-
 write-groups-slice-write-out-2 : (t : ℕ) → write-groups-lts.Need-slice-write-out-2 (write-groups-claims t) (write-groups-at t) write-groups.Post
 write-groups-slice-write-out-2 t c = room-more (c .before .before .before .args .f) (c .before .before .before .args .v) (c .before .before .before .pre .1 .1) (c .before .before .before .pre .1 .2) (c .before .if1 .left)
-
-write-groups-add-write-groups : (t : ℕ) → write-groups-lts.Need-add-write-groups (write-groups-claims t) (write-groups-at t) write-groups.Post
-write-groups-add-write-groups t c = search needs
-
-write-groups-sub-write-groups : (t : ℕ) → write-groups-lts.Need-sub-write-groups (write-groups-claims t) (write-groups-at t) write-groups.Post
-write-groups-sub-write-groups t c = search needs
 
 write-groups-write-groups-requires : (t : ℕ) → write-groups-lts.Need-write-groups-requires (write-groups-claims t) (write-groups-at t) write-groups.Post
 write-groups-write-groups-requires t c κs = (
@@ -80,4 +59,4 @@ write-groups-returns-2 : (t : ℕ) → write-groups-lts.Need-returns-2 (write-gr
 write-groups-returns-2 t c = stored-more (c .before .before .before .before .before .before .before .args .f) (c .before .before .before .before .before .before .before .args .v) (c .before .before .before .before .before .before .before .pre .1 .1) _ _ _ _ _ (c .before .before .before .before .before .if1 .left) (c .before .before .before .before .low-byte2 .ensures) (c .before .before .write-groups .ensures)
 
 pub +write-groups-spec : {M : Type 1} → statement M
-+write-groups-spec = close μ-write-groups λ t. write-groups-lts.spec (write-groups-claims t) (write-groups-at t) write-groups.Post (write-groups-low-byte-requires t) (write-groups-slice-write-out t) (write-groups-add-result t) (write-groups-same-length t) (write-groups-returns t) (write-groups-add-low-byte t) (write-groups-low-byte-requires-2 t) (write-groups-slice-write-out-2 t) (write-groups-add-write-groups t) (write-groups-sub-write-groups t) (write-groups-write-groups-requires t) (write-groups-same-length-2 t) (write-groups-returns-2 t)
++write-groups-spec = close μ-write-groups λ t. write-groups-lts.spec (write-groups-claims t) (write-groups-at t) write-groups.Post (λ c κs. search needs) (write-groups-slice-write-out t) (λ c. search needs) (λ c. search needs) (write-groups-returns t) (λ c. search needs) (λ c κs. search needs) (write-groups-slice-write-out-2 t) (λ c. search needs) (λ c. search needs) (write-groups-write-groups-requires t) (write-groups-same-length-2 t) (write-groups-returns-2 t)

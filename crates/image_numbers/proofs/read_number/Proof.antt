@@ -4,17 +4,8 @@ use borrow.Author.Needs.{needs}
 use Rattle.image_numbers.proofs.read_number.Statement.{statement}
 use Rattle.image_numbers.proofs.read_number.Tie as tie
 
-read-groups-requires : tie.Need-read-groups-requires
-read-groups-requires c κs = search needs
-
-enum-known-n : tie.Need-enum-known-n
-enum-known-n c = search needs
-
 returns : tie.Need-returns
 returns c = told-under _ _ _ _ (c .before .before .before .before .read-groups .ensures) _ _ (c .before .before .n .given .1) (c .if1 .taken)
-
-enum-told : tie.Need-enum-told
-enum-told c = search needs
 
 returns-2 : tie.Need-returns-2
 returns-2 c = told-over _ _ _ _ (c .before .before .before .before .read-groups .ensures) _ _ (c .before .before .n .given .1) (c .if1 .left)
@@ -24,4 +15,4 @@ returns-3 c = told-none-under _ _ _ _ (c .before .before .read-groups .ensures) 
 
 pub read-number-spec : {M : Type 1} → statement M
 read-number-spec =
-    tie.close (tie.spec read-groups-requires enum-known-n returns enum-told returns-2 returns-3)
+    tie.close (tie.spec (λ c κs. search needs) (λ c. search needs) returns (λ c. search needs) returns-2 returns-3)

@@ -5,11 +5,8 @@ use borrow.Author.Needs.{needs}
 use Rattle.image_numbers.proofs.short_length.Statement.{statement}
 use Rattle.image_numbers.proofs.short_length.Tie as tie
 
-word-length-requires : tie.Need-word-length-requires
-word-length-requires c κs = search needs
-
 returns : tie.Need-returns
 returns c = short-word _ _ (omega (arith, c .before .fits .x)) (c .word-length .ensures)
 
 pub short-length-spec : {M : Type 1} → statement M
-short-length-spec = tie.close (tie.spec word-length-requires returns)
+short-length-spec = tie.close (tie.spec (λ c κs. search needs) returns)

@@ -4,9 +4,6 @@ use borrow.Author.Needs.{needs}
 use Rattle.image_numbers.proofs.signed.Statement.{statement}
 use Rattle.image_numbers.proofs.signed.Tie as tie
 
-cast-h : tie.Need-cast-h
-cast-h c = search needs
-
 returns : tie.Need-returns
 returns c = signed-even _ (c .before .pre) (c .if1 .taken)
 
@@ -17,4 +14,4 @@ returns-2 : tie.Need-returns-2
 returns-2 c = signed-odd _ (c .before .pre) (c .if1 .left)
 
 pub signed-spec : {M : Type 1} → statement M
-signed-spec = tie.close (tie.spec cast-h returns sub-result returns-2)
+signed-spec = tie.close (tie.spec (λ c. search needs) returns sub-result returns-2)

@@ -9,17 +9,11 @@ use borrow.Author.Needs.{needs}
 use Rattle.image_numbers.proofs.write_value.Statement.{statement}
 use Rattle.image_numbers.proofs.write_value.Tie as tie
 
-folded-requires : tie.Need-folded-requires
-folded-requires c κs = search needs
-
 write-word-requires : tie.Need-write-word-requires
 write-word-requires c κs = let e : c .folded .result ≡ zig (c .before .before .before .args .z) = rw (toZ-ofZ (c .before .before .before .fits .z)) at (c .folded .ensures) in (omega (arith, zig-low (c .before .before .before .args .z) (c .before .before .before .fits .z)), rw e (c .before .before .before .pre))
-
-same-length : tie.Need-same-length
-same-length c = search needs
 
 returns : tie.Need-returns
 returns c = let e : c .before .before .before .folded .result ≡ zig (c .before .before .before .before .before .before .args .z) = rw (toZ-ofZ (c .before .before .before .before .before .before .fits .z)) at (c .before .before .before .folded .ensures) in stored-as (ap word (sym e)) (c .before .before .write-word .ensures)
 
 pub write-value-spec : {M : Type 1} → statement M
-write-value-spec = tie.close (tie.spec folded-requires write-word-requires same-length returns)
+write-value-spec = tie.close (tie.spec (λ c κs. search needs) write-word-requires (λ c. search needs) returns)

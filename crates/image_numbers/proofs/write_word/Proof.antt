@@ -6,18 +6,9 @@ use borrow.Author.Needs.{needs}
 use Rattle.image_numbers.proofs.write_word.Statement.{statement}
 use Rattle.image_numbers.proofs.write_word.Tie as tie
 
-low-byte-requires : tie.Need-low-byte-requires
-low-byte-requires c κs = search needs
-
 slice-write-out : tie.Need-slice-write-out
 unfolding word
 slice-write-out c = room-last 5 (c .before .before .before .args .v) (omega arith) (c .before .before .before .pre .1) (c .before .if1 .taken)
-
-add-result : tie.Need-add-result
-add-result c = search needs
-
-same-length : tie.Need-same-length
-same-length c = search needs
 
 returns : tie.Need-returns
 unfolding word
@@ -27,12 +18,9 @@ write-groups-requires : tie.Need-write-groups-requires
 unfolding word
 write-groups-requires c κs = (c .before .before .before .pre .0, omega arith, c .before .before .before .pre .1)
 
-same-length-2 : tie.Need-same-length-2
-same-length-2 c = search needs
-
 returns-2 : tie.Need-returns-2
 unfolding word
 returns-2 c = c .before .before .write-groups .ensures
 
 pub write-word-spec : {M : Type 1} → statement M
-write-word-spec = tie.close (tie.spec low-byte-requires slice-write-out add-result same-length returns write-groups-requires same-length-2 returns-2)
+write-word-spec = tie.close (tie.spec (λ c κs. search needs) slice-write-out (λ c. search needs) (λ c. search needs) returns write-groups-requires (λ c. search needs) returns-2)

@@ -33,18 +33,6 @@ read-expr-below t =
 abbrev read-expr-claims : ℕ → read-expr-lts.Claims
 read-expr-claims t = (read-head-reads.Asked, read-head-reads.Learnt, kind-of-reads.Asked, kind-of-reads.Learnt, read-expr-below t, read-expr.Post, push-two-reads.Asked, push-two-reads.Learnt, push-one-reads.Asked, push-one-reads.Learnt, read-imm-reads.Asked, read-imm-reads.Learnt, push-node-reads.Asked, push-node-reads.Learnt)
 
-read-expr-read-head-requires : (t : ℕ) → read-expr-lts.Need-read-head-requires (read-expr-claims t) (read-expr-at t) read-expr.Post
-read-expr-read-head-requires t c κs = search needs
-
-read-expr-enum-known-head : (t : ℕ) → read-expr-lts.Need-enum-known-head (read-expr-claims t) (read-expr-at t) read-expr.Post
-read-expr-enum-known-head t c = search needs
-
-read-expr-kind-of-requires : (t : ℕ) → read-expr-lts.Need-kind-of-requires (read-expr-claims t) (read-expr-at t) read-expr.Post
-read-expr-kind-of-requires t c κs = search needs
-
-read-expr-enum-told : (t : ℕ) → read-expr-lts.Need-enum-told (read-expr-claims t) (read-expr-at t) read-expr.Post
-read-expr-enum-told t c = search needs
-
 read-expr-add-read-expr : (t : ℕ) → read-expr-lts.Need-add-read-expr (read-expr-claims t) (read-expr-at t) read-expr.Post
 read-expr-add-read-expr t c =
     let args = c .before .before .before .before .before .before .before .before .before .before .args in
@@ -54,9 +42,6 @@ read-expr-read-expr-requires : (t : ℕ) → read-expr-lts.Need-read-expr-requir
 read-expr-read-expr-requires t c κs =
     let args = c .before .before .before .before .before .before .before .before .before .before .args in
     let p : depthLimit - args .depth ≡ t = c .before .before .before .before .before .before .before .before .before .before .pre .0 in let h = headed (args .s .now) (args .at) (args .n) (args .depth) _ (c .before .before .before .before .before .before .before .before .read-head .ensures) _ _ (c .before .before .before .before .before .before .head .given .1) in omega arith
-
-read-expr-enum-known-a : (t : ℕ) → read-expr-lts.Need-enum-known-a (read-expr-claims t) (read-expr-at t) read-expr.Post
-read-expr-enum-known-a t c = search needs
 
 read-expr-add-read-expr-2 : (t : ℕ) → read-expr-lts.Need-add-read-expr-2 (read-expr-claims t) (read-expr-at t) read-expr.Post
 read-expr-add-read-expr-2 t c =
@@ -82,12 +67,6 @@ read-expr-sub-push-two t c =
 read-expr-push-two-requires : (t : ℕ) → read-expr-lts.Need-push-two-requires (read-expr-claims t) (read-expr-at t) read-expr.Post
 read-expr-push-two-requires t c κs = roomy (c .before .before .before .before .before .before .before .before .before .before .before .before .before .before .before .before .before .before .before .args .s .now) _ _ (c .before .before .before .before .before .before .a .given .0 .1 .0) _ (c .before .before .before .before .before .before .before .before .before .before .before .before .before .before .before .before .before .before .before .args .depth + 1) _ _ _ (omega arith) (c .before .before .read-expr2 .ensures)
 
-read-expr-enum-known-a-2 : (t : ℕ) → read-expr-lts.Need-enum-known-a-2 (read-expr-claims t) (read-expr-at t) read-expr.Post
-read-expr-enum-known-a-2 t c = search needs
-
-read-expr-enum-told-2 : (t : ℕ) → read-expr-lts.Need-enum-told-2 (read-expr-claims t) (read-expr-at t) read-expr.Post
-read-expr-enum-told-2 t c = search needs
-
 read-expr-add-read-expr-3 : (t : ℕ) → read-expr-lts.Need-add-read-expr-3 (read-expr-claims t) (read-expr-at t) read-expr.Post
 read-expr-add-read-expr-3 t c =
     let args = c .before .before .before .before .before .before .before .before .before .before .args in
@@ -103,32 +82,20 @@ read-expr-push-one-requires t c κs =
     let args = c .before .before .before .before .before .before .before .before .before .before .before .before .before .args in
     roomy (args .s .now) (args .ws .now) (args .val .now) (c .before .before .before .before .before .before .before .before .before .head .given .0 .1 .0) _ (args .depth + 1) _ _ _ (omega arith) (c .before .before .read-expr3 .ensures)
 
-read-expr-enum-told-3 : (t : ℕ) → read-expr-lts.Need-enum-told-3 (read-expr-claims t) (read-expr-at t) read-expr.Post
-read-expr-enum-told-3 t c = search needs
-
 read-expr-read-imm-requires : (t : ℕ) → read-expr-lts.Need-read-imm-requires (read-expr-claims t) (read-expr-at t) read-expr.Post
 read-expr-read-imm-requires t c κs =
     let args = c .before .before .before .before .before .before .before .before .before .before .args in
     let h = headed (args .s .now) (args .at) (args .n) (args .depth) _ (c .before .before .before .before .before .before .before .before .read-head .ensures) _ _ (c .before .before .before .before .before .before .head .given .1) in omega arith
-
-read-expr-enum-told-4 : (t : ℕ) → read-expr-lts.Need-enum-told-4 (read-expr-claims t) (read-expr-at t) read-expr.Post
-read-expr-enum-told-4 t c = search needs
 
 read-expr-read-imm-requires-2 : (t : ℕ) → read-expr-lts.Need-read-imm-requires-2 (read-expr-claims t) (read-expr-at t) read-expr.Post
 read-expr-read-imm-requires-2 t c κs =
     let args = c .before .before .before .before .before .before .before .before .before .before .args in
     let h = headed (args .s .now) (args .at) (args .n) (args .depth) _ (c .before .before .before .before .before .before .before .before .read-head .ensures) _ _ (c .before .before .before .before .before .before .head .given .1) in omega arith
 
-read-expr-enum-told-5 : (t : ℕ) → read-expr-lts.Need-enum-told-5 (read-expr-claims t) (read-expr-at t) read-expr.Post
-read-expr-enum-told-5 t c = search needs
-
 read-expr-push-node-requires : (t : ℕ) → read-expr-lts.Need-push-node-requires (read-expr-claims t) (read-expr-at t) read-expr.Post
 read-expr-push-node-requires t c κs =
     let args = c .before .before .before .before .before .before .before .before .before .before .args in
     let h = headed (args .s .now) (args .at) (args .n) (args .depth) _ (c .before .before .before .before .before .before .before .before .read-head .ensures) _ _ (c .before .before .before .before .before .before .head .given .1) in omega arith
-
-read-expr-enum-known-head-2 : (t : ℕ) → read-expr-lts.Need-enum-known-head-2 (read-expr-claims t) (read-expr-at t) read-expr.Post
-read-expr-enum-known-head-2 t c = search needs
 
 read-expr-returns : (t : ℕ) → read-expr-lts.Need-returns (read-expr-claims t) (read-expr-at t) read-expr.Post
 read-expr-returns t c =
@@ -204,29 +171,29 @@ pub +read-expr-spec : {M : Type 1} → statement M
 +read-expr-spec = close μ-read-expr λ t. read-expr-lts.spec (read-expr-claims t)
     (read-expr-at t)
     read-expr.Post
-    (read-expr-read-head-requires t)
-    (read-expr-enum-known-head t)
-    (read-expr-kind-of-requires t)
-    (read-expr-enum-told t)
+    (λ c κs. search needs)
+    (λ c. search needs)
+    (λ c κs. search needs)
+    (λ c. search needs)
     (read-expr-add-read-expr t)
     (read-expr-read-expr-requires t)
-    (read-expr-enum-known-a t)
+    (λ c. search needs)
     (read-expr-add-read-expr-2 t)
     (read-expr-read-expr-requires-2 t)
     (read-expr-sub-push-two t)
     (read-expr-push-two-requires t)
-    (read-expr-enum-known-a-2 t)
-    (read-expr-enum-told-2 t)
+    (λ c. search needs)
+    (λ c. search needs)
     (read-expr-add-read-expr-3 t)
     (read-expr-read-expr-requires-3 t)
     (read-expr-push-one-requires t)
-    (read-expr-enum-told-3 t)
+    (λ c. search needs)
     (read-expr-read-imm-requires t)
-    (read-expr-enum-told-4 t)
+    (λ c. search needs)
     (read-expr-read-imm-requires-2 t)
-    (read-expr-enum-told-5 t)
+    (λ c. search needs)
     (read-expr-push-node-requires t)
-    (read-expr-enum-known-head-2 t)
+    (λ c. search needs)
     (read-expr-returns t)
     (read-expr-returns-2 t)
     (read-expr-returns-3 t)

@@ -5,17 +5,11 @@ use borrow.Author.Needs.{needs}
 use Rattle.image_read.proofs.push_one.Statement.{statement}
 use Rattle.image_read.proofs.push_one.Tie as tie
 
-enum-known-a : tie.Need-enum-known-a
-enum-known-a c = search needs
-
 sub-push-node : tie.Need-sub-push-node
 sub-push-node c = omega (arith, room-of _ _ _ (c .before .before .before .before .before .pre) (c .before .before .before .a .given .1) .0)
 
 push-node-requires : tie.Need-push-node-requires
 push-node-requires c κs = room-of _ _ _ (c .before .before .before .before .before .pre) (c .before .before .before .a .given .1) .1
-
-enum-known-a-2 : tie.Need-enum-known-a-2
-enum-known-a-2 c = search needs
 
 returns : tie.Need-returns
 returns c = above-one _ _ _ _ _ _ _ _ _ (c .before .before .before .before .a .given .1) (c .push-node .ensures)
@@ -26,4 +20,4 @@ returns-2 c = above-one-no _ _ _ _ _ _ _ (c .before .a2 .given .1)
 pub push-one-spec : {M : Type 1} → statement M
 push-one-spec =
     tie.close
-    (tie.spec enum-known-a sub-push-node push-node-requires enum-known-a-2 returns returns-2)
+    (tie.spec (λ c. search needs) sub-push-node push-node-requires (λ c. search needs) returns returns-2)

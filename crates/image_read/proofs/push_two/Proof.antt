@@ -5,17 +5,11 @@ use borrow.Author.Needs.{needs}
 use Rattle.image_read.proofs.push_two.Statement.{statement}
 use Rattle.image_read.proofs.push_two.Tie as tie
 
-enum-known-b : tie.Need-enum-known-b
-enum-known-b c = search needs
-
 sub-push-node : tie.Need-sub-push-node
 sub-push-node c = omega (arith, room-of _ _ _ (c .before .before .before .before .before .pre) (c .before .before .before .b .given .1) .0)
 
 push-node-requires : tie.Need-push-node-requires
 push-node-requires c κs = room-of _ _ _ (c .before .before .before .before .before .pre) (c .before .before .before .b .given .1) .1
-
-enum-known-b-2 : tie.Need-enum-known-b-2
-enum-known-b-2 c = search needs
 
 returns : tie.Need-returns
 returns c = above-two _ _ _ _ _ _ _ _ _ _ (c .before .before .before .before .b .given .1) (c .push-node .ensures)
@@ -26,4 +20,4 @@ returns-2 c = above-two-no _ _ _ _ _ _ _ _ (c .before .b2 .given .1)
 pub push-two-spec : {M : Type 1} → statement M
 push-two-spec =
     tie.close
-    (tie.spec enum-known-b sub-push-node push-node-requires enum-known-b-2 returns returns-2)
+    (tie.spec (λ c. search needs) sub-push-node push-node-requires (λ c. search needs) returns returns-2)

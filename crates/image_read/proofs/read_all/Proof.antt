@@ -6,27 +6,15 @@ use borrow.Author.Needs.{needs}
 use Rattle.image_read.proofs.read_all.Statement.{statement}
 use Rattle.image_read.proofs.read_all.Tie as tie
 
-read-number-requires : tie.Need-read-number-requires
-read-number-requires c κs = search needs
-
-enum-known-count : tie.Need-enum-known-count
-enum-known-count c = search needs
-
 returns : tie.Need-returns
 returns c =
     let args = c .before .before .before .before .before .before .args in
     image-full (args .s .now) (memoryIn (args .ws .now) (args .val .now) (args .cw .now) (args .bw .now) 0 0 0) (args .at) _ (c .before .before .before .before .read-number .ensures) _ _ (c .before .before .count .given .1) _ _ _ _ (c .if1 .taken)
 
-low-word-requires : tie.Need-low-word-requires
-low-word-requires c κs = search needs
-
 read-blocks-requires : tie.Need-read-blocks-requires
 read-blocks-requires c κs =
     let args = c .before .before .before .before .before .before .before .before .before .before .before .args in
     (omega (arith, c .before .before .before .before .before .if1 .left, c .before .before .before .before .low-word .ensures), image-place (args .s .now) (memoryIn (args .ws .now) (args .val .now) (args .cw .now) (args .bw .now) 0 0 0) (args .at) _ (c .before .before .before .before .before .before .before .before .before .read-number .ensures) _ _ (c .before .before .before .before .before .before .before .count .given .1))
-
-enum-known-r : tie.Need-enum-known-r
-enum-known-r c = search needs
 
 returns-2 : tie.Need-returns-2
 returns-2 c =
@@ -38,12 +26,6 @@ returns-2 c =
     let c16 = c14 .before .before in
     let args = c16 .args in
     image-left (args .s .now) (memoryIn (args .ws .now) (args .val .now) (args .cw .now) (args .bw .now) 0 0 0) (args .at) _ (c14 .read-number .ensures) _ _ (c12 .count .given .1) (c10 .if1 .left) _ (c9 .low-word .ensures) _ _ _ _ _ (c4 .read-blocks .ensures) _ _ _ _ _ _ _ (c .before .before .r .given .1) (c .if2 .taken)
-
-enum-known-r-2 : tie.Need-enum-known-r-2
-enum-known-r-2 c = search needs
-
-enum-told : tie.Need-enum-told
-enum-told c = search needs
 
 returns-3 : tie.Need-returns-3
 returns-3 c =
@@ -76,15 +58,15 @@ pub read-all-spec : {M : Type 1} → statement M
 read-all-spec =
     tie.close
     (tie.spec
-    read-number-requires
-    enum-known-count
+    (λ c κs. search needs)
+    (λ c. search needs)
     returns
-    low-word-requires
+    (λ c κs. search needs)
     read-blocks-requires
-    enum-known-r
+    (λ c. search needs)
     returns-2
-    enum-known-r-2
-    enum-told
+    (λ c. search needs)
+    (λ c. search needs)
     returns-3
     returns-4
     returns-5)

@@ -4,24 +4,6 @@ use borrow.Author.Needs.{needs}
 use Rattle.image_read.proofs.read_block.Statement.{statement}
 use Rattle.image_read.proofs.read_block.Tie as tie
 
-read-number-requires : tie.Need-read-number-requires
-read-number-requires c κs = search needs
-
-enum-known-kind : tie.Need-enum-known-kind
-enum-known-kind c = search needs
-
-push-block-requires : tie.Need-push-block-requires
-push-block-requires c κs = search needs
-
-read-code-requires : tie.Need-read-code-requires
-read-code-requires c κs = search needs
-
-push-block-requires-2 : tie.Need-push-block-requires-2
-push-block-requires-2 c κs = search needs
-
-enum-told : tie.Need-enum-told
-enum-told c = search needs
-
 returns : tie.Need-returns
 returns c =
     let c4 = c .before .before .before .before in
@@ -56,12 +38,12 @@ pub read-block-spec : {M : Type 1} → statement M
 read-block-spec =
     tie.close
     (tie.spec
-    read-number-requires
-    enum-known-kind
-    push-block-requires
-    read-code-requires
-    push-block-requires-2
-    enum-told
+    (λ c κs. search needs)
+    (λ c. search needs)
+    (λ c κs. search needs)
+    (λ c κs. search needs)
+    (λ c κs. search needs)
+    (λ c. search needs)
     returns
     returns-2
     returns-3

@@ -21,15 +21,6 @@ loop-holds c =
     let args = c .before .args in
     (omega arith, blocks-start (args .s .now) (args .ws .now) (args .val .now) (args .cw .now) (args .bw .now) (args .count) (args .at) (c .before .pre .1))
 
-read-block-requires : tie.Need-read-block-requires Inv-loop μ-loop
-read-block-requires c κs = search needs
-
-enum-known-r : tie.Need-enum-known-r Inv-loop μ-loop
-enum-known-r c = search needs
-
-enum-known-r-2 : tie.Need-enum-known-r-2 Inv-loop μ-loop
-enum-known-r-2 c = search needs
-
 returns : tie.Need-returns Inv-loop μ-loop
 returns c =
     let c3 = c .before .before .before in
@@ -38,12 +29,6 @@ returns c =
     let c11 = c9 .before .before in
     let args = c11 .args in
     blocks-no (args .s .now) (args .ws .now) (args .val .now) (args .cw .now) (args .bw .now) (args .count) (args .at) _ _ _ _ _ _ _ _ (c8 .loop-test .taken) (c9 .loop .inv .1) _ _ _ _ _ (c3 .read-block .ensures) _ _ _ _ _ (c .before .r2 .given .1)
-
-add-i : tie.Need-add-i Inv-loop μ-loop
-add-i c = search needs
-
-loop-less : tie.Need-loop-less Inv-loop μ-loop
-loop-less c = search needs
 
 loop-again : tie.Need-loop-again Inv-loop μ-loop
 loop-again c =
@@ -62,11 +47,11 @@ read-blocks-spec =
     Inv-loop
     μ-loop
     loop-holds
-    read-block-requires
-    enum-known-r
-    enum-known-r-2
+    (λ c κs. search needs)
+    (λ c. search needs)
+    (λ c. search needs)
     returns
-    add-i
-    loop-less
+    (λ c. search needs)
+    (λ c. search needs)
     loop-again
     returns-2)

@@ -5,12 +5,6 @@ use borrow.Author.Needs.{needs}
 use Rattle.image_read.proofs.read_code.Statement.{statement}
 use Rattle.image_read.proofs.read_code.Tie as tie
 
-read-count-requires : tie.Need-read-count-requires
-read-count-requires c κs = search needs
-
-enum-known-count : tie.Need-enum-known-count
-enum-known-count c = search needs
-
 read-commands-requires : tie.Need-read-commands-requires
 read-commands-requires c κs =
     let c4 = c .before .before .before .before in
@@ -19,31 +13,10 @@ read-commands-requires c κs =
     let args = c8 .args in
     let d = declared (args .s .now) (args .ws .now) (args .val .now) (args .cw .now) (args .bw .now) (args .n) (args .m) (args .q) (args .blocks) (args .at) _ (c6 .read-count .ensures) _ _ (c4 .count .given .1) in (c8 .pre .0, d .room, c8 .pre .3, d .place)
 
-enum-known-r : tie.Need-enum-known-r
-enum-known-r c = search needs
-
-read-links-requires : tie.Need-read-links-requires
-read-links-requires c κs = search needs
-
-enum-known-links : tie.Need-enum-known-links
-enum-known-links c = search needs
-
-push-block-requires : tie.Need-push-block-requires
-push-block-requires c κs = search needs
-
 add-t30 : tie.Need-add-t30
 add-t30 c =
     let args = c .before .before .before .before .before .before .before .before .before .before .before .before .before .before .before .before .before .before .args in
     omega (arith, (declared (args .s .now) (args .ws .now) (args .val .now) (args .cw .now) (args .bw .now) (args .n) (args .m) (args .q) (args .blocks) (args .at) _ (c .before .before .before .before .before .before .before .before .before .before .before .before .before .before .before .before .read-count .ensures) _ _ (c .before .before .before .before .before .before .before .before .before .before .before .before .before .before .count .given .1)) .room)
-
-enum-known-links-2 : tie.Need-enum-known-links-2
-enum-known-links-2 c = search needs
-
-enum-known-r-2 : tie.Need-enum-known-r-2
-enum-known-r-2 c = search needs
-
-enum-known-count-2 : tie.Need-enum-known-count-2
-enum-known-count-2 c = search needs
 
 returns : tie.Need-returns
 returns c =
@@ -86,17 +59,17 @@ pub read-code-spec : {M : Type 1} → statement M
 read-code-spec =
     tie.close
     (tie.spec
-    read-count-requires
-    enum-known-count
+    (λ c κs. search needs)
+    (λ c. search needs)
     read-commands-requires
-    enum-known-r
-    read-links-requires
-    enum-known-links
-    push-block-requires
+    (λ c. search needs)
+    (λ c κs. search needs)
+    (λ c. search needs)
+    (λ c κs. search needs)
     add-t30
-    enum-known-links-2
-    enum-known-r-2
-    enum-known-count-2
+    (λ c. search needs)
+    (λ c. search needs)
+    (λ c. search needs)
     returns
     returns-2
     returns-3

@@ -4,33 +4,6 @@ use borrow.Author.Needs.{needs}
 use Rattle.image_read.proofs.read_command.Statement.{statement}
 use Rattle.image_read.proofs.read_command.Tie as tie
 
-read-number-requires : tie.Need-read-number-requires
-read-number-requires c κs = search needs
-
-enum-known-code : tie.Need-enum-known-code
-enum-known-code c = search needs
-
-push-command-requires : tie.Need-push-command-requires
-push-command-requires c κs = search needs
-
-read-jump-requires : tie.Need-read-jump-requires
-read-jump-requires c κs = search needs
-
-read-set-requires : tie.Need-read-set-requires
-read-set-requires c κs = search needs
-
-read-if-requires : tie.Need-read-if-requires
-read-if-requires c κs = search needs
-
-read-jump-requires-2 : tie.Need-read-jump-requires-2
-read-jump-requires-2 c κs = search needs
-
-push-command-requires-2 : tie.Need-push-command-requires-2
-push-command-requires-2 c κs = search needs
-
-enum-told : tie.Need-enum-told
-enum-told c = search needs
-
 returns : tie.Need-returns
 returns c =
     let c4 = c .before .before .before .before in
@@ -90,15 +63,15 @@ pub read-command-spec : {M : Type 1} → statement M
 read-command-spec =
     tie.close
     (tie.spec
-    read-number-requires
-    enum-known-code
-    push-command-requires
-    read-jump-requires
-    read-set-requires
-    read-if-requires
-    read-jump-requires-2
-    push-command-requires-2
-    enum-told
+    (λ c κs. search needs)
+    (λ c. search needs)
+    (λ c κs. search needs)
+    (λ c κs. search needs)
+    (λ c κs. search needs)
+    (λ c κs. search needs)
+    (λ c κs. search needs)
+    (λ c κs. search needs)
+    (λ c. search needs)
     returns
     returns-2
     returns-3

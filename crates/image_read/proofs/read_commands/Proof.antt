@@ -21,18 +21,6 @@ loop-holds c =
     let args = c .before .args in
     (omega arith, commands-start (args .s .now) (args .ws .now) (args .val .now) (args .cw .now) (args .n) (args .m) (args .count) (args .blocks) (args .at) (c .before .pre .0) (c .before .pre .3))
 
-add-read-command : tie.Need-add-read-command Inv-loop μ-loop
-add-read-command c = search needs
-
-read-command-requires : tie.Need-read-command-requires Inv-loop μ-loop
-read-command-requires c κs = search needs
-
-enum-known-r : tie.Need-enum-known-r Inv-loop μ-loop
-enum-known-r c = search needs
-
-enum-known-r-2 : tie.Need-enum-known-r-2 Inv-loop μ-loop
-enum-known-r-2 c = search needs
-
 returns : tie.Need-returns Inv-loop μ-loop
 returns c =
     let c3 = c .before .before .before in
@@ -41,12 +29,6 @@ returns c =
     let c10 = c8 .before .before in
     let args = c10 .args in
     commands-no (args .s .now) (args .ws .now) (args .val .now) (args .cw .now) (args .n) (args .m) (args .count) (args .blocks) (args .at) _ _ _ _ _ _ (c7 .loop-test .taken) (c8 .loop .inv .1) _ _ _ _ (c3 .read-command .ensures) _ _ _ _ (c .before .r2 .given .1)
-
-add-i : tie.Need-add-i Inv-loop μ-loop
-add-i c = search needs
-
-loop-less : tie.Need-loop-less Inv-loop μ-loop
-loop-less c = search needs
 
 loop-again : tie.Need-loop-again Inv-loop μ-loop
 loop-again c =
@@ -65,12 +47,12 @@ read-commands-spec =
     Inv-loop
     μ-loop
     loop-holds
-    add-read-command
-    read-command-requires
-    enum-known-r
-    enum-known-r-2
+    (λ c. search needs)
+    (λ c κs. search needs)
+    (λ c. search needs)
+    (λ c. search needs)
     returns
-    add-i
-    loop-less
+    (λ c. search needs)
+    (λ c. search needs)
     loop-again
     returns-2)

@@ -5,15 +5,6 @@ use borrow.Author.Needs.{needs}
 use Rattle.image_read.proofs.read_count.Statement.{statement}
 use Rattle.image_read.proofs.read_count.Tie as tie
 
-read-number-requires : tie.Need-read-number-requires
-read-number-requires c κs = search needs
-
-enum-known-count : tie.Need-enum-known-count
-enum-known-count c = search needs
-
-wide-word-requires : tie.Need-wide-word-requires
-wide-word-requires c κs = search needs
-
 add-all : tie.Need-add-all
 add-all c =
     let args = c .before .before .before .before .before .before .args in
@@ -23,12 +14,6 @@ returns : tie.Need-returns
 returns c =
     let args = c .before .before .before .before .before .before .before .args in
     count-full (args .s .now) (args .m) (args .at) _ (c .before .before .before .before .before .read-number .ensures) _ _ (c .before .before .before .count .given .1) (omega (arith, c .if1 .taken, c .before .wide-word .ensures))
-
-low-word-requires : tie.Need-low-word-requires
-low-word-requires c κs = search needs
-
-enum-told : tie.Need-enum-told
-enum-told c = search needs
 
 returns-2 : tie.Need-returns-2
 returns-2 c =
@@ -44,12 +29,12 @@ pub read-count-spec : {M : Type 1} → statement M
 read-count-spec =
     tie.close
     (tie.spec
-    read-number-requires
-    enum-known-count
-    wide-word-requires
+    (λ c κs. search needs)
+    (λ c. search needs)
+    (λ c κs. search needs)
     add-all
     returns
-    low-word-requires
-    enum-told
+    (λ c κs. search needs)
+    (λ c. search needs)
     returns-2
     returns-3)

@@ -5,15 +5,6 @@ use borrow.Author.Needs.{needs}
 use Rattle.image_read.proofs.read_head.Statement.{statement}
 use Rattle.image_read.proofs.read_head.Tie as tie
 
-read-number-requires : tie.Need-read-number-requires
-read-number-requires c κs = search needs
-
-enum-known-code : tie.Need-enum-known-code
-enum-known-code c = search needs
-
-add-if1 : tie.Need-add-if1
-add-if1 c = search needs
-
 returns : tie.Need-returns
 returns c =
     let args = c .before .before .before .before .before .before .args in
@@ -32,9 +23,6 @@ low-word-requires c κs =
     let args = c .before .before .before .before .before .before .before .args in
     omega (arith, head-low (args .s .now) (args .at) (args .n) (args .depth) _ (c .before .before .before .before .before .read-number .ensures) _ _ (c .before .before .before .code .given .1))
 
-enum-told : tie.Need-enum-told
-enum-told c = search needs
-
 returns-3 : tie.Need-returns-3
 returns-3 c =
     let c4 = c .before .before .before .before in
@@ -52,12 +40,12 @@ pub read-head-spec : {M : Type 1} → statement M
 read-head-spec =
     tie.close
     (tie.spec
-    read-number-requires
-    enum-known-code
-    add-if1
+    (λ c κs. search needs)
+    (λ c. search needs)
+    (λ c. search needs)
     returns
     returns-2
     low-word-requires
-    enum-told
+    (λ c. search needs)
     returns-3
     returns-4)

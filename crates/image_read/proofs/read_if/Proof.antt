@@ -5,29 +5,8 @@ use borrow.Author.Needs.{needs}
 use Rattle.image_read.proofs.read_if.Statement.{statement}
 use Rattle.image_read.proofs.read_if.Tie as tie
 
-read-expr-requires : tie.Need-read-expr-requires
-read-expr-requires c κs = search needs
-
-enum-known-a : tie.Need-enum-known-a
-enum-known-a c = search needs
-
-read-block-no-requires : tie.Need-read-block-no-requires
-read-block-no-requires c κs = search needs
-
-enum-known-b : tie.Need-enum-known-b
-enum-known-b c = search needs
-
 sub-push-command : tie.Need-sub-push-command
 sub-push-command c = omega (arith, (is-term (c .before .before .before .before .before .before .before .before .before .before .before .before .args .s .now) _ _ (c .before .before .before .before .before .before .before .before .before .before .before .before .args .at) _ _ _ _ (c .before .before .before .before .before .before .before .before .read-expr .ensures) _ _ (c .before .before .before .before .before .before .a .given .1)) .some)
-
-push-command-requires : tie.Need-push-command-requires
-push-command-requires c κs = search needs
-
-enum-known-b-2 : tie.Need-enum-known-b-2
-enum-known-b-2 c = search needs
-
-enum-known-a-2 : tie.Need-enum-known-a-2
-enum-known-a-2 c = search needs
 
 returns : tie.Need-returns
 returns c =
@@ -57,14 +36,14 @@ pub read-if-spec : {M : Type 1} → statement M
 read-if-spec =
     tie.close
     (tie.spec
-    read-expr-requires
-    enum-known-a
-    read-block-no-requires
-    enum-known-b
+    (λ c κs. search needs)
+    (λ c. search needs)
+    (λ c κs. search needs)
+    (λ c. search needs)
     sub-push-command
-    push-command-requires
-    enum-known-b-2
-    enum-known-a-2
+    (λ c κs. search needs)
+    (λ c. search needs)
+    (λ c. search needs)
     returns
     returns-2
     returns-3)

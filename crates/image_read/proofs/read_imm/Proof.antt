@@ -8,20 +8,8 @@ use borrow.Author.Needs.{needs}
 use Rattle.image_read.proofs.read_imm.Statement.{statement}
 use Rattle.image_read.proofs.read_imm.Tie as tie
 
-read-number-requires : tie.Need-read-number-requires
-read-number-requires c κs = search needs
-
-enum-known-v : tie.Need-enum-known-v
-enum-known-v c = search needs
-
 signed-requires : tie.Need-signed-requires
 signed-requires c κs = omega (arith, imm-low _ _ _ _ (c .before .before .before .before .before .read-number .ensures) _ _ (c .before .before .before .v .given .1), c .before .before .before .before .before .before .before .pre)
-
-push-node-requires : tie.Need-push-node-requires
-push-node-requires c κs = search needs
-
-enum-told : tie.Need-enum-told
-enum-told c = search needs
 
 returns : tie.Need-returns
 returns c =
@@ -36,10 +24,10 @@ pub read-imm-spec : {M : Type 1} → statement M
 read-imm-spec =
     tie.close
     (tie.spec
-    read-number-requires
-    enum-known-v
+    (λ c κs. search needs)
+    (λ c. search needs)
     signed-requires
-    push-node-requires
-    enum-told
+    (λ c κs. search needs)
+    (λ c. search needs)
     returns
     returns-2)

@@ -4,18 +4,6 @@ use borrow.Author.Needs.{needs}
 use Rattle.image_read.proofs.read_jump.Statement.{statement}
 use Rattle.image_read.proofs.read_jump.Tie as tie
 
-read-block-no-requires : tie.Need-read-block-no-requires
-read-block-no-requires c κs = search needs
-
-enum-known-b : tie.Need-enum-known-b
-enum-known-b c = search needs
-
-push-command-requires : tie.Need-push-command-requires
-push-command-requires c κs = search needs
-
-enum-known-b-2 : tie.Need-enum-known-b-2
-enum-known-b-2 c = search needs
-
 returns : tie.Need-returns
 returns c = jump-done _ _ _ _ _ _ _ (c .before .before .before .before .before .read-block-no .ensures) _ _ _ _ (c .before .before .before .b .given .1) (c .push-command .ensures)
 
@@ -26,9 +14,9 @@ pub read-jump-spec : {M : Type 1} → statement M
 read-jump-spec =
     tie.close
     (tie.spec
-    read-block-no-requires
-    enum-known-b
-    push-command-requires
-    enum-known-b-2
+    (λ c κs. search needs)
+    (λ c. search needs)
+    (λ c κs. search needs)
+    (λ c. search needs)
     returns
     returns-2)

@@ -4,23 +4,8 @@ use borrow.Author.Needs.{needs}
 use Rattle.image_read.proofs.read_link.Statement.{statement}
 use Rattle.image_read.proofs.read_link.Tie as tie
 
-read-number-requires : tie.Need-read-number-requires
-read-number-requires c κs = search needs
-
-enum-known-n : tie.Need-enum-known-n
-enum-known-n c = search needs
-
-wide-word-requires : tie.Need-wide-word-requires
-wide-word-requires c κs = search needs
-
-low-word-requires : tie.Need-low-word-requires
-low-word-requires c κs = search needs
-
 returns : tie.Need-returns
 returns c = link-in _ _ _ _ (c .before .before .before .before .before .before .read-number .ensures) _ _ (c .before .before .before .before .n .given .1) (rw (c .before .before .wide-word .ensures .0) at (c .before .if1 .taken)) _ (c .low-word .ensures)
-
-enum-told : tie.Need-enum-told
-enum-told c = search needs
 
 returns-2 : tie.Need-returns-2
 returns-2 c = link-out _ _ _ _ (c .before .before .before .before .before .read-number .ensures) _ _ (c .before .before .before .n .given .1) (rw (c .before .wide-word .ensures .0) at (c .if1 .left))
@@ -32,11 +17,11 @@ pub read-link-spec : {M : Type 1} → statement M
 read-link-spec =
     tie.close
     (tie.spec
-    read-number-requires
-    enum-known-n
-    wide-word-requires
-    low-word-requires
+    (λ c κs. search needs)
+    (λ c. search needs)
+    (λ c κs. search needs)
+    (λ c κs. search needs)
     returns
-    enum-told
+    (λ c. search needs)
     returns-2
     returns-3)

@@ -4,24 +4,6 @@ use borrow.Author.Needs.{needs}
 use Rattle.image_read.proofs.read_links.Statement.{statement}
 use Rattle.image_read.proofs.read_links.Tie as tie
 
-read-link-requires : tie.Need-read-link-requires
-read-link-requires c κs = search needs
-
-enum-known-x : tie.Need-enum-known-x
-enum-known-x c = search needs
-
-read-link-requires-2 : tie.Need-read-link-requires-2
-read-link-requires-2 c κs = search needs
-
-enum-known-y : tie.Need-enum-known-y
-enum-known-y c = search needs
-
-enum-known-y-2 : tie.Need-enum-known-y-2
-enum-known-y-2 c = search needs
-
-enum-known-x-2 : tie.Need-enum-known-x-2
-enum-known-x-2 c = search needs
-
 returns : tie.Need-returns
 returns c =
     let c3 = c .before .before .before in
@@ -49,12 +31,12 @@ pub read-links-spec : {M : Type 1} → statement M
 read-links-spec =
     tie.close
     (tie.spec
-    read-link-requires
-    enum-known-x
-    read-link-requires-2
-    enum-known-y
-    enum-known-y-2
-    enum-known-x-2
+    (λ c κs. search needs)
+    (λ c. search needs)
+    (λ c κs. search needs)
+    (λ c. search needs)
+    (λ c. search needs)
+    (λ c. search needs)
     returns
     returns-2
     returns-3)

@@ -4,15 +4,6 @@ use borrow.Author.Needs.{needs}
 use Rattle.image_read.proofs.read_script.Statement.{statement}
 use Rattle.image_read.proofs.read_script.Tie as tie
 
-read-all-requires : tie.Need-read-all-requires
-read-all-requires c κs = search needs
-
-enum-known-r : tie.Need-enum-known-r
-enum-known-r c = search needs
-
-enum-known-r-2 : tie.Need-enum-known-r-2
-enum-known-r-2 c = search needs
-
 returns : tie.Need-returns
 returns c = outcome-read _ _ _ _ _ _ _ (c .before .before .before .read-all .ensures) _ (c .before .r .given .1)
 
@@ -21,4 +12,4 @@ returns-2 c = outcome-no _ _ _ _ _ _ _ (c .before .before .before .before .befor
 
 pub read-script-spec : {M : Type 1} → statement M
 read-script-spec =
-    tie.close (tie.spec read-all-requires enum-known-r enum-known-r-2 returns returns-2)
+    tie.close (tie.spec (λ c κs. search needs) (λ c. search needs) (λ c. search needs) returns returns-2)

@@ -5,23 +5,8 @@ use borrow.Author.Needs.{needs}
 use Rattle.image_read.proofs.read_set.Statement.{statement}
 use Rattle.image_read.proofs.read_set.Tie as tie
 
-read-number-requires : tie.Need-read-number-requires
-read-number-requires c κs = search needs
-
-enum-known-target : tie.Need-enum-known-target
-enum-known-target c = search needs
-
-read-expr-requires : tie.Need-read-expr-requires
-read-expr-requires c κs = search needs
-
-enum-known-a : tie.Need-enum-known-a
-enum-known-a c = search needs
-
 sub-push-command : tie.Need-sub-push-command
 sub-push-command c = omega (arith, (is-term (c .before .before .before .before .before .before .before .before .before .before .before .before .before .args .s .now) _ _ (c .before .before .before .before .before .before .before .before .before .target .given .0 .1 .0) _ _ _ _ (c .before .before .before .before .before .read-expr .ensures) _ _ (c .before .before .before .a .given .1)) .some)
-
-push-command-requires : tie.Need-push-command-requires
-push-command-requires c κs = search needs
 
 returns : tie.Need-returns
 returns c =
@@ -36,26 +21,11 @@ returns c =
 read-expr-requires-2 : tie.Need-read-expr-requires-2
 read-expr-requires-2 c κs = omega (arith, (is-term (c .before .before .before .before .before .before .before .before .before .before .before .before .before .before .args .s .now) _ _ (c .before .before .before .before .before .before .before .before .before .before .target .given .0 .1 .0) _ _ _ _ (c .before .before .before .before .before .before .read-expr .ensures) _ _ (c .before .before .before .before .a .given .1)) .low)
 
-enum-known-b : tie.Need-enum-known-b
-enum-known-b c = search needs
-
 sub-push-command-2 : tie.Need-sub-push-command-2
 sub-push-command-2 c = omega (arith, (is-term (c .before .before .before .before .before .before .before .before .before .before .before .before .before .before .before .before .before .before .before .args .s .now) _ _ (c .before .before .before .before .before .before .before .before .before .before .before .before .before .before .before .target .given .0 .1 .0) _ _ _ _ (c .before .before .before .before .before .before .before .before .before .before .before .read-expr .ensures) _ _ (c .before .before .before .before .before .before .before .before .before .a .given .1)) .some)
 
 sub-push-command-3 : tie.Need-sub-push-command-3
 sub-push-command-3 c = omega (arith, (is-term (c .before .before .before .before .before .before .before .before .before .before .before .before .before .before .before .before .before .before .before .args .s .now) _ _ (c .before .before .before .before .before .before .before .before .before .a .given .0 .1 .0) _ _ _ _ (c .before .before .before .before .read-expr2 .ensures) _ _ (c .before .before .b .given .1)) .some)
-
-push-command-requires-2 : tie.Need-push-command-requires-2
-push-command-requires-2 c κs = search needs
-
-enum-known-b-2 : tie.Need-enum-known-b-2
-enum-known-b-2 c = search needs
-
-enum-known-a-2 : tie.Need-enum-known-a-2
-enum-known-a-2 c = search needs
-
-enum-told : tie.Need-enum-told
-enum-told c = search needs
 
 returns-2 : tie.Need-returns-2
 returns-2 c =
@@ -100,21 +70,21 @@ pub read-set-spec : {M : Type 1} → statement M
 read-set-spec =
     tie.close
     (tie.spec
-    read-number-requires
-    enum-known-target
-    read-expr-requires
-    enum-known-a
+    (λ c κs. search needs)
+    (λ c. search needs)
+    (λ c κs. search needs)
+    (λ c. search needs)
     sub-push-command
-    push-command-requires
+    (λ c κs. search needs)
     returns
     read-expr-requires-2
-    enum-known-b
+    (λ c. search needs)
     sub-push-command-2
     sub-push-command-3
-    push-command-requires-2
-    enum-known-b-2
-    enum-known-a-2
-    enum-told
+    (λ c κs. search needs)
+    (λ c. search needs)
+    (λ c. search needs)
+    (λ c. search needs)
     returns-2
     returns-3
     returns-4

@@ -56,39 +56,11 @@ write-operand-below t =
 abbrev write-expr-claims : ℕ → write-expr-lts.Claims
 write-expr-claims t = (write-short-reads.Asked, write-short-reads.Learnt, kind-of-reads.Asked, kind-of-reads.Learnt, write-operand-below t, write-operand.Post, write-value-reads.Asked, write-value-reads.Learnt)
 
-write-expr-mul-c : (t : ℕ) → write-expr-lts.Need-mul-c (write-expr-claims t) (write-expr-at t) write-expr.Post
-write-expr-mul-c t c = search needs
-
-write-expr-mul-c-2 : (t : ℕ) → write-expr-lts.Need-mul-c-2 (write-expr-claims t) (write-expr-at t) write-expr.Post
-write-expr-mul-c-2 t c = search needs
-
-write-expr-element-copy-out-c : (t : ℕ) → write-expr-lts.Need-element-copy-out-c (write-expr-claims t) (write-expr-at t) write-expr.Post
-write-expr-element-copy-out-c t c = search needs
-
 write-expr-write-short-requires : (t : ℕ) → write-expr-lts.Need-write-short-requires (write-expr-claims t) (write-expr-at t) write-expr.Post
 write-expr-write-short-requires t c κs =
     let s = c .before .before .before in
     let ns = nodesIn (s .args .ws .now) (s .args .val .now) 0 in
     room-first (followImage (nodeImage ns) ns (s .args .i) (kindOf (codeAt ns (s .args .i)))) (room-as (image-node ns (suc (s .args .i)) (s .args .i) (omega arith)) (s .pre .1 .1))
-
-write-expr-kind-of-requires : (t : ℕ) → write-expr-lts.Need-kind-of-requires (write-expr-claims t) (write-expr-at t) write-expr.Post
-write-expr-kind-of-requires t c κs = search needs
-
-write-expr-enum-told : (t : ℕ) → write-expr-lts.Need-enum-told (write-expr-claims t) (write-expr-at t) write-expr.Post
-write-expr-enum-told t c = search needs
-
-write-expr-mul-write-operand : (t : ℕ) → write-expr-lts.Need-mul-write-operand (write-expr-claims t) (write-expr-at t) write-expr.Post
-write-expr-mul-write-operand t c = search needs
-
-write-expr-add-write-operand : (t : ℕ) → write-expr-lts.Need-add-write-operand (write-expr-claims t) (write-expr-at t) write-expr.Post
-write-expr-add-write-operand t c = search needs
-
-write-expr-mul-write-operand-2 : (t : ℕ) → write-expr-lts.Need-mul-write-operand-2 (write-expr-claims t) (write-expr-at t) write-expr.Post
-write-expr-mul-write-operand-2 t c = search needs
-
-write-expr-element-copy-out-write-operand :
-    (t : ℕ) → write-expr-lts.Need-element-copy-out-write-operand (write-expr-claims t) (write-expr-at t) write-expr.Post
-write-expr-element-copy-out-write-operand t c = search needs
 
 write-expr-write-operand-requires : (t : ℕ) → write-expr-lts.Need-write-operand-requires (write-expr-claims t) (write-expr-at t) write-expr.Post
 write-expr-write-operand-requires t c κs =
@@ -97,41 +69,12 @@ write-expr-write-operand-requires t c κs =
     let m : 2 * (s .args .i) + 1 ≡ t = s .pre .0 in
     (omega arith, (omega (arith, s .pre .1 .0), room-first (nodeImage ns (s .args .i) (rightAt ns (s .args .i))) (room-next (c .before .before .before .before .before .before .before .write-short .ensures) (room-as (node-two ns (suc (s .args .i)) (s .args .i) (omega arith) _ (c .before .before .before .before .kind-of .ensures) _ (c .before .before .enum-told .given .1)) (s .pre .1 .1)))))
 
-write-expr-mul-write-operand-3 : (t : ℕ) → write-expr-lts.Need-mul-write-operand-3 (write-expr-claims t) (write-expr-at t) write-expr.Post
-write-expr-mul-write-operand-3 t c = search needs
-
-write-expr-add-write-operand-2 : (t : ℕ) → write-expr-lts.Need-add-write-operand-2 (write-expr-claims t) (write-expr-at t) write-expr.Post
-write-expr-add-write-operand-2 t c = search needs
-
-write-expr-mul-write-operand-4 : (t : ℕ) → write-expr-lts.Need-mul-write-operand-4 (write-expr-claims t) (write-expr-at t) write-expr.Post
-write-expr-mul-write-operand-4 t c = search needs
-
-write-expr-element-copy-out-write-operand-2 :
-    (t : ℕ) → write-expr-lts.Need-element-copy-out-write-operand-2 (write-expr-claims t) (write-expr-at t) write-expr.Post
-write-expr-element-copy-out-write-operand-2 t c = search needs
-
 write-expr-write-operand-requires-2 : (t : ℕ) → write-expr-lts.Need-write-operand-requires-2 (write-expr-claims t) (write-expr-at t) write-expr.Post
 write-expr-write-operand-requires-2 t c κs =
     let s = c .before .before .before .before .before .before .before .before .before .before .before .before .before .before .before .before in
     let ns = nodesIn (s .args .ws .now) (s .args .val .now) 0 in
     let m : 2 * (s .args .i) + 1 ≡ t = s .pre .0 in
     (omega arith, (omega (arith, s .pre .1 .0), room-next (c .before .before .before .before .write-operand .ensures) (room-next (c .before .before .before .before .before .before .before .before .before .before .before .before .write-short .ensures) (room-as (node-two ns (suc (s .args .i)) (s .args .i) (omega arith) _ (c .before .before .before .before .before .before .before .before .before .kind-of .ensures) _ (c .before .before .before .before .before .before .before .enum-told .given .1)) (s .pre .1 .1)))))
-
-write-expr-enum-told-2 : (t : ℕ) → write-expr-lts.Need-enum-told-2 (write-expr-claims t) (write-expr-at t) write-expr.Post
-write-expr-enum-told-2 t c = search needs
-
-write-expr-mul-write-operand-5 : (t : ℕ) → write-expr-lts.Need-mul-write-operand-5 (write-expr-claims t) (write-expr-at t) write-expr.Post
-write-expr-mul-write-operand-5 t c = search needs
-
-write-expr-add-write-operand-3 : (t : ℕ) → write-expr-lts.Need-add-write-operand-3 (write-expr-claims t) (write-expr-at t) write-expr.Post
-write-expr-add-write-operand-3 t c = search needs
-
-write-expr-mul-write-operand-6 : (t : ℕ) → write-expr-lts.Need-mul-write-operand-6 (write-expr-claims t) (write-expr-at t) write-expr.Post
-write-expr-mul-write-operand-6 t c = search needs
-
-write-expr-element-copy-out-write-operand-3 :
-    (t : ℕ) → write-expr-lts.Need-element-copy-out-write-operand-3 (write-expr-claims t) (write-expr-at t) write-expr.Post
-write-expr-element-copy-out-write-operand-3 t c = search needs
 
 write-expr-write-operand-requires-3 : (t : ℕ) → write-expr-lts.Need-write-operand-requires-3 (write-expr-claims t) (write-expr-at t) write-expr.Post
 write-expr-write-operand-requires-3 t c κs =
@@ -140,31 +83,11 @@ write-expr-write-operand-requires-3 t c κs =
     let m : 2 * (s .args .i) + 1 ≡ t = s .pre .0 in
     (omega arith, (omega (arith, s .pre .1 .0), room-next (c .before .before .before .before .before .before .before .write-short .ensures) (room-as (node-one ns (suc (s .args .i)) (s .args .i) (omega arith) _ (c .before .before .before .before .kind-of .ensures) _ (c .before .before .enum-told2 .given .1)) (s .pre .1 .1))))
 
-write-expr-enum-told-3 : (t : ℕ) → write-expr-lts.Need-enum-told-3 (write-expr-claims t) (write-expr-at t) write-expr.Post
-write-expr-enum-told-3 t c = search needs
-
-write-expr-mul-write-value : (t : ℕ) → write-expr-lts.Need-mul-write-value (write-expr-claims t) (write-expr-at t) write-expr.Post
-write-expr-mul-write-value t c = search needs
-
-write-expr-element-copy-out-write-value :
-    (t : ℕ) → write-expr-lts.Need-element-copy-out-write-value (write-expr-claims t) (write-expr-at t) write-expr.Post
-write-expr-element-copy-out-write-value t c = search needs
-
 write-expr-write-value-requires : (t : ℕ) → write-expr-lts.Need-write-value-requires (write-expr-claims t) (write-expr-at t) write-expr.Post
 write-expr-write-value-requires t c κs =
     let s = c .before .before .before .before .before .before .before .before .before .before .before in
     let ns = nodesIn (s .args .ws .now) (s .args .val .now) 0 in
     rw (toZ-ofZ {w = w32} (record { sfits = c .write-value-arg2 .given })) (room-next (c .before .before .before .before .before .before .before .write-short .ensures) (room-as (node-imm16 ns (suc (s .args .i)) (s .args .i) (omega arith) _ (c .before .before .before .before .kind-of .ensures) (c .before .before .enum-told3 .given .1)) (s .pre .1 .1)))
-
-write-expr-enum-told-4 : (t : ℕ) → write-expr-lts.Need-enum-told-4 (write-expr-claims t) (write-expr-at t) write-expr.Post
-write-expr-enum-told-4 t c = search needs
-
-write-expr-mul-write-value-2 : (t : ℕ) → write-expr-lts.Need-mul-write-value-2 (write-expr-claims t) (write-expr-at t) write-expr.Post
-write-expr-mul-write-value-2 t c = search needs
-
-write-expr-element-copy-out-write-value-2 :
-    (t : ℕ) → write-expr-lts.Need-element-copy-out-write-value-2 (write-expr-claims t) (write-expr-at t) write-expr.Post
-write-expr-element-copy-out-write-value-2 t c = search needs
 
 write-expr-write-value-requires-2 : (t : ℕ) → write-expr-lts.Need-write-value-requires-2 (write-expr-claims t) (write-expr-at t) write-expr.Post
 write-expr-write-value-requires-2 t c κs =
@@ -172,20 +95,11 @@ write-expr-write-value-requires-2 t c κs =
     let ns = nodesIn (s .args .ws .now) (s .args .val .now) 0 in
     rw (toZ-ofZ {w = w32} (record { sfits = c .write-value-arg4 .given })) (room-next (c .before .before .before .before .before .before .before .write-short .ensures) (room-as (node-imm32 ns (suc (s .args .i)) (s .args .i) (omega arith) _ (c .before .before .before .before .kind-of .ensures) (c .before .before .enum-told4 .given .1)) (s .pre .1 .1)))
 
-write-expr-enum-told-5 : (t : ℕ) → write-expr-lts.Need-enum-told-5 (write-expr-claims t) (write-expr-at t) write-expr.Post
-write-expr-enum-told-5 t c = search needs
-
-write-expr-same-length : (t : ℕ) → write-expr-lts.Need-same-length (write-expr-claims t) (write-expr-at t) write-expr.Post
-write-expr-same-length t c = search needs
-
 write-expr-returns : (t : ℕ) → write-expr-lts.Need-returns (write-expr-claims t) (write-expr-at t) write-expr.Post
 write-expr-returns t c =
     let s = c .before .before .before .before .before .before .before .before .before .before .before .before .before .before .before .before .before .before .before in
     let ns = nodesIn (s .args .ws .now) (s .args .val .now) 0 in
     stored-as (node-two ns (suc (s .args .i)) (s .args .i) (omega arith) _ (c .before .before .before .before .before .before .before .before .before .before .before .before .kind-of .ensures) _ (c .before .before .before .before .before .before .before .before .before .before .enum-told .given .1)) (stored-on (c .before .before .before .before .before .before .before .before .before .before .before .before .before .before .before .write-short .ensures) (stored-on (c .before .before .before .before .before .before .before .write-operand .ensures) (c .before .before .write-operand2 .ensures)))
-
-write-expr-same-length-2 : (t : ℕ) → write-expr-lts.Need-same-length-2 (write-expr-claims t) (write-expr-at t) write-expr.Post
-write-expr-same-length-2 t c = search needs
 
 write-expr-returns-2 : (t : ℕ) → write-expr-lts.Need-returns-2 (write-expr-claims t) (write-expr-at t) write-expr.Post
 write-expr-returns-2 t c =
@@ -193,26 +107,17 @@ write-expr-returns-2 t c =
     let ns = nodesIn (s .args .ws .now) (s .args .val .now) 0 in
     stored-as (node-one ns (suc (s .args .i)) (s .args .i) (omega arith) _ (c .before .before .before .before .before .before .before .kind-of .ensures) _ (c .before .before .before .before .before .enum-told2 .given .1)) (stored-on (c .before .before .before .before .before .before .before .before .before .before .write-short .ensures) (c .before .before .write-operand3 .ensures))
 
-write-expr-same-length-3 : (t : ℕ) → write-expr-lts.Need-same-length-3 (write-expr-claims t) (write-expr-at t) write-expr.Post
-write-expr-same-length-3 t c = search needs
-
 write-expr-returns-3 : (t : ℕ) → write-expr-lts.Need-returns-3 (write-expr-claims t) (write-expr-at t) write-expr.Post
 write-expr-returns-3 t c =
     let s = c .before .before .before .before .before .before .before .before .before .before .before .before .before .before in
     let ns = nodesIn (s .args .ws .now) (s .args .val .now) 0 in
     stored-as (node-imm16 ns (suc (s .args .i)) (s .args .i) (omega arith) _ (c .before .before .before .before .before .before .before .kind-of .ensures) (c .before .before .before .before .before .enum-told3 .given .1)) (stored-on (c .before .before .before .before .before .before .before .before .before .before .write-short .ensures) (rw (toZ-ofZ {w = w32} (record { sfits = c .before .before .before .write-value-arg2 .given })) at (c .before .before .write-value .ensures)))
 
-write-expr-same-length-4 : (t : ℕ) → write-expr-lts.Need-same-length-4 (write-expr-claims t) (write-expr-at t) write-expr.Post
-write-expr-same-length-4 t c = search needs
-
 write-expr-returns-4 : (t : ℕ) → write-expr-lts.Need-returns-4 (write-expr-claims t) (write-expr-at t) write-expr.Post
 write-expr-returns-4 t c =
     let s = c .before .before .before .before .before .before .before .before .before .before .before .before .before .before in
     let ns = nodesIn (s .args .ws .now) (s .args .val .now) 0 in
     stored-as (node-imm32 ns (suc (s .args .i)) (s .args .i) (omega arith) _ (c .before .before .before .before .before .before .before .kind-of .ensures) (c .before .before .before .before .before .enum-told4 .given .1)) (stored-on (c .before .before .before .before .before .before .before .before .before .before .write-short .ensures) (rw (toZ-ofZ {w = w32} (record { sfits = c .before .before .before .write-value-arg4 .given })) at (c .before .before .write-value2 .ensures)))
-
-write-expr-same-length-5 : (t : ℕ) → write-expr-lts.Need-same-length-5 (write-expr-claims t) (write-expr-at t) write-expr.Post
-write-expr-same-length-5 t c = search needs
 
 write-expr-returns-5 : (t : ℕ) → write-expr-lts.Need-returns-5 (write-expr-claims t) (write-expr-at t) write-expr.Post
 write-expr-returns-5 t c =
@@ -229,22 +134,10 @@ write-operand-write-short-requires t c κs =
     let s = c .before .before .before in
     room-as (image-none (nodesIn (s .args .ws .now) (s .args .val .now) 0) (s .args .b) (s .args .i) (c .before .if1 .taken)) (s .pre .1 .1)
 
-write-operand-same-length : (t : ℕ) → write-operand-lts.Need-same-length (write-operand-claims t) (write-operand-at t) write-operand.Post
-write-operand-same-length t c = search needs
-
 write-operand-returns : (t : ℕ) → write-operand-lts.Need-returns (write-operand-claims t) (write-operand-at t) write-operand.Post
 write-operand-returns t c =
     let s = c .before .before .before .before .before .before in
     stored-as (image-none (nodesIn (s .args .ws .now) (s .args .val .now) 0) (s .args .b) (s .args .i) (c .before .before .before .before .if1 .taken)) (c .before .before .write-short .ensures)
-
-write-operand-mul-c : (t : ℕ) → write-operand-lts.Need-mul-c (write-operand-claims t) (write-operand-at t) write-operand.Post
-write-operand-mul-c t c = search needs
-
-write-operand-mul-c-2 : (t : ℕ) → write-operand-lts.Need-mul-c-2 (write-operand-claims t) (write-operand-at t) write-operand.Post
-write-operand-mul-c-2 t c = search needs
-
-write-operand-element-copy-out-c : (t : ℕ) → write-operand-lts.Need-element-copy-out-c (write-operand-claims t) (write-operand-at t) write-operand.Post
-write-operand-element-copy-out-c t c = search needs
 
 write-operand-write-short-requires-2 : (t : ℕ) → write-operand-lts.Need-write-short-requires-2 (write-operand-claims t) (write-operand-at t) write-operand.Post
 write-operand-write-short-requires-2 t c κs =
@@ -252,20 +145,10 @@ write-operand-write-short-requires-2 t c κs =
     let ns = nodesIn (s .args .ws .now) (s .args .val .now) 0 in
     room-first (word (zig (valueAt ns (s .args .i)))) (room-as (node-short ns (s .args .b) (s .args .i) (c .before .before .before .if1 .left) (c .before .if2 .taken)) (s .pre .1 .1))
 
-write-operand-mul-write-value : (t : ℕ) → write-operand-lts.Need-mul-write-value (write-operand-claims t) (write-operand-at t) write-operand.Post
-write-operand-mul-write-value t c = search needs
-
-write-operand-element-copy-out-write-value :
-    (t : ℕ) → write-operand-lts.Need-element-copy-out-write-value (write-operand-claims t) (write-operand-at t) write-operand.Post
-write-operand-element-copy-out-write-value t c = search needs
-
 write-operand-write-value-requires : (t : ℕ) → write-operand-lts.Need-write-value-requires (write-operand-claims t) (write-operand-at t) write-operand.Post
 write-operand-write-value-requires t c κs =
     let s = c .before .before .before .before .before .before .before .before .before .before in
     rw (toZ-ofZ {w = w32} (record { sfits = c .write-value-arg2 .given })) (room-next (c .before .before .before .before .write-short2 .ensures) (room-as (node-short (nodesIn (s .args .ws .now) (s .args .val .now) 0) (s .args .b) (s .args .i) (c .before .before .before .before .before .before .before .before .if1 .left) (c .before .before .before .before .before .before .if2 .taken)) (s .pre .1 .1)))
-
-write-operand-same-length-2 : (t : ℕ) → write-operand-lts.Need-same-length-2 (write-operand-claims t) (write-operand-at t) write-operand.Post
-write-operand-same-length-2 t c = search needs
 
 write-operand-returns-2 : (t : ℕ) → write-operand-lts.Need-returns-2 (write-operand-claims t) (write-operand-at t) write-operand.Post
 write-operand-returns-2 t c =
@@ -278,9 +161,6 @@ write-operand-write-expr-requires t c κs =
     let m : 2 * (s .args .b) ≡ t = s .pre .0 in
     (omega (arith, c .before .before .before .if1 .left), (omega (arith, c .before .before .before .if1 .left, s .pre .1 .0), room-as (node-whole (nodesIn (s .args .ws .now) (s .args .val .now) 0) (s .args .b) (s .args .i) (c .before .before .before .if1 .left)) (s .pre .1 .1)))
 
-write-operand-same-length-3 : (t : ℕ) → write-operand-lts.Need-same-length-3 (write-operand-claims t) (write-operand-at t) write-operand.Post
-write-operand-same-length-3 t c = search needs
-
 write-operand-returns-3 : (t : ℕ) → write-operand-lts.Need-returns-3 (write-operand-claims t) (write-operand-at t) write-operand.Post
 write-operand-returns-3 t c =
     let s = c .before .before .before .before .before .before .before .before in
@@ -290,62 +170,62 @@ pub +write-expr+write-operand-spec : {M : Type 1} → statement M
 +write-expr+write-operand-spec = close μ-write-expr μ-write-operand (λ t. write-expr-lts.spec (write-expr-claims t)
     (write-expr-at t)
     write-expr.Post
-    (write-expr-mul-c t)
-    (write-expr-mul-c-2 t)
-    (write-expr-element-copy-out-c t)
+    (λ c. search needs)
+    (λ c. search needs)
+    (λ c. search needs)
     (write-expr-write-short-requires t)
-    (write-expr-kind-of-requires t)
-    (write-expr-enum-told t)
-    (write-expr-mul-write-operand t)
-    (write-expr-add-write-operand t)
-    (write-expr-mul-write-operand-2 t)
-    (write-expr-element-copy-out-write-operand t)
+    (λ c κs. search needs)
+    (λ c. search needs)
+    (λ c. search needs)
+    (λ c. search needs)
+    (λ c. search needs)
+    (λ c. search needs)
     (write-expr-write-operand-requires t)
-    (write-expr-mul-write-operand-3 t)
-    (write-expr-add-write-operand-2 t)
-    (write-expr-mul-write-operand-4 t)
-    (write-expr-element-copy-out-write-operand-2 t)
+    (λ c. search needs)
+    (λ c. search needs)
+    (λ c. search needs)
+    (λ c. search needs)
     (write-expr-write-operand-requires-2 t)
-    (write-expr-enum-told-2 t)
-    (write-expr-mul-write-operand-5 t)
-    (write-expr-add-write-operand-3 t)
-    (write-expr-mul-write-operand-6 t)
-    (write-expr-element-copy-out-write-operand-3 t)
+    (λ c. search needs)
+    (λ c. search needs)
+    (λ c. search needs)
+    (λ c. search needs)
+    (λ c. search needs)
     (write-expr-write-operand-requires-3 t)
-    (write-expr-enum-told-3 t)
-    (write-expr-mul-write-value t)
-    (write-expr-element-copy-out-write-value t)
+    (λ c. search needs)
+    (λ c. search needs)
+    (λ c. search needs)
     (write-expr-write-value-requires t)
-    (write-expr-enum-told-4 t)
-    (write-expr-mul-write-value-2 t)
-    (write-expr-element-copy-out-write-value-2 t)
+    (λ c. search needs)
+    (λ c. search needs)
+    (λ c. search needs)
     (write-expr-write-value-requires-2 t)
-    (write-expr-enum-told-5 t)
-    (write-expr-same-length t)
+    (λ c. search needs)
+    (λ c. search needs)
     (write-expr-returns t)
-    (write-expr-same-length-2 t)
+    (λ c. search needs)
     (write-expr-returns-2 t)
-    (write-expr-same-length-3 t)
+    (λ c. search needs)
     (write-expr-returns-3 t)
-    (write-expr-same-length-4 t)
+    (λ c. search needs)
     (write-expr-returns-4 t)
-    (write-expr-same-length-5 t)
+    (λ c. search needs)
     (write-expr-returns-5 t))
     λ t. write-operand-lts.spec (write-operand-claims t)
     (write-operand-at t)
     write-operand.Post
     (write-operand-write-short-requires t)
-    (write-operand-same-length t)
+    (λ c. search needs)
     (write-operand-returns t)
-    (write-operand-mul-c t)
-    (write-operand-mul-c-2 t)
-    (write-operand-element-copy-out-c t)
+    (λ c. search needs)
+    (λ c. search needs)
+    (λ c. search needs)
     (write-operand-write-short-requires-2 t)
-    (write-operand-mul-write-value t)
-    (write-operand-element-copy-out-write-value t)
+    (λ c. search needs)
+    (λ c. search needs)
     (write-operand-write-value-requires t)
-    (write-operand-same-length-2 t)
+    (λ c. search needs)
     (write-operand-returns-2 t)
     (write-operand-write-expr-requires t)
-    (write-operand-same-length-3 t)
+    (λ c. search needs)
     (write-operand-returns-3 t)

@@ -12,32 +12,17 @@ use Rattle.image_write.proofs.write_block.Tie as tie
 abbrev me : tie.Start → Memory
 me s = memoryIn (s .args .ws .now) (s .args .val .now) (s .args .cw .now) (s .args .bw .now) (s .args .counts .nodes) (s .args .counts .commands) (s .args .counts .blocks)
 
-mul-kind : tie.Need-mul-kind
-mul-kind c = search needs
-
-mul-kind-2 : tie.Need-mul-kind-2
-mul-kind-2 c = search needs
-
-element-copy-out-kind : tie.Need-element-copy-out-kind
-element-copy-out-kind c = search needs
-
 write-short-requires : tie.Need-write-short-requires
 write-short-requires c κs = room-first (blockTail (me (c .before .before .before)) (c .before .before .before .args .i) (getD (c .before .before .before .args .bw .now) (5 * c .before .before .before .args .i) 0)) (room-as (block-image (me (c .before .before .before)) (c .before .before .before .args .i)) (c .before .before .before .pre .2))
 
 write-code-requires : tie.Need-write-code-requires
 write-code-requires c κs = (c .before .before .before .before .before .before .before .before .pre .0, c .before .before .before .before .before .before .before .before .pre .1, rw (c .before .if1 .taken) at (room-next (c .before .before .before .before .write-short .ensures) (room-as (block-image (me (c .before .before .before .before .before .before .before .before)) (c .before .before .before .before .before .before .before .before .args .i)) (c .before .before .before .before .before .before .before .before .pre .2))))
 
-same-length : tie.Need-same-length
-same-length c = search needs
-
 returns : tie.Need-returns
 returns c = stored-as (block-image (me (c .before .before .before .before .before .before .before .before .before .before .before)) (c .before .before .before .before .before .before .before .before .before .before .before .args .i)) (stored-on (c .before .before .before .before .before .before .before .write-short .ensures) (rw (c .before .before .before .before .if1 .taken) (c .before .before .write-code .ensures)))
-
-same-length-2 : tie.Need-same-length-2
-same-length-2 c = search needs
 
 returns-2 : tie.Need-returns-2
 returns-2 c = stored-as (block-image (me (c .before .before .before .before .before .before .before)) (c .before .before .before .before .before .before .before .args .i)) (stored-on (c .before .before .before .write-short .ensures) (stored-as (bare-image (me (c .before .before .before .before .before .before .before)) (c .before .before .before .before .before .before .before .args .i) (getD (c .before .before .before .before .before .before .before .args .bw .now) (5 * c .before .before .before .before .before .before .before .args .i) 0) (c .if1 .left)) stored-none))
 
 pub write-block-spec : {M : Type 1} → statement M
-write-block-spec = tie.close (tie.spec mul-kind mul-kind-2 element-copy-out-kind write-short-requires write-code-requires same-length returns same-length-2 returns-2)
+write-block-spec = tie.close (tie.spec (λ c. search needs) (λ c. search needs) (λ c. search needs) write-short-requires write-code-requires (λ c. search needs) returns (λ c. search needs) returns-2)

@@ -19,17 +19,11 @@ abbrev μ-loop : tie.MeasureT-loop
 abbrev me : tie.Start Inv-loop μ-loop → Memory
 me s = memoryIn (s .args .ws .now) (s .args .val .now) (s .args .cw .now) (s .args .bw .now) (s .args .counts .nodes) (s .args .counts .commands) (s .args .counts .blocks)
 
-index-of-requires : tie.Need-index-of-requires Inv-loop μ-loop
-index-of-requires c κs = search needs
-
 loop-holds : tie.Need-loop-holds Inv-loop μ-loop
 loop-holds c = (omega arith, go-start (blocks-pieces (me (c .before .before))) (c .before .before .args .counts .blocks) 0 (c .before .before .pre .1))
 
 write-block-requires : tie.Need-write-block-requires Inv-loop μ-loop
 write-block-requires c κs = ((omega (arith, c .before .loop-test .taken, c .before .before .before .index-of .ensures)), c .before .before .before .before .before .pre .0, go-room (blocks-pieces (me (c .before .before .before .before .before))) (c .before .before .before .before .before .args .counts .blocks) 0 (c .before .before .loop .inv .1) (omega (arith, c .before .loop-test .taken, c .before .before .before .index-of .ensures)) (omega arith))
-
-add-i : tie.Need-add-i Inv-loop μ-loop
-add-i c = search needs
 
 loop-less : tie.Need-loop-less Inv-loop μ-loop
 loop-less c = omega (arith, c .before .before .before .before .loop-test .taken, c .before .before .before .before .before .before .index-of .ensures)
@@ -44,4 +38,4 @@ returns : tie.Need-returns Inv-loop μ-loop
 returns c = go-end (blocks-pieces (me (c .before .before .before .before))) (c .before .before .before .before .args .counts .blocks) 0 (c .before .loop .inv .1) (omega (arith, c .loop-test .left, c .before .before .index-of .ensures))
 
 pub write-blocks-spec : {M : Type 1} → statement M
-write-blocks-spec = tie.close (tie.spec Inv-loop μ-loop index-of-requires loop-holds write-block-requires add-i loop-less loop-again same-length returns)
+write-blocks-spec = tie.close (tie.spec Inv-loop μ-loop (λ c κs. search needs) loop-holds write-block-requires (λ c. search needs) loop-less loop-again same-length returns)

@@ -12,47 +12,11 @@ use Rattle.image_write.proofs.write_code.Tie as tie
 abbrev me : tie.Start → Memory
 me s = memoryIn (s .args .ws .now) (s .args .val .now) (s .args .cw .now) (s .args .bw .now) (s .args .counts .nodes) (s .args .counts .commands) (s .args .counts .blocks)
 
-mul-held : tie.Need-mul-held
-mul-held c = search needs
-
-add-held : tie.Need-add-held
-add-held c = search needs
-
-mul-held-2 : tie.Need-mul-held-2
-mul-held-2 c = search needs
-
-element-copy-out-held : tie.Need-element-copy-out-held
-element-copy-out-held c = search needs
-
 write-short-requires : tie.Need-write-short-requires
 write-short-requires c κs = room-first ((commandsImageIn ((me (c .before .before .before)) .coded) (blockWord (me (c .before .before .before)) (c .before .before .before .args .i) 2) (blockWord (me (c .before .before .before)) (c .before .before .before .args .i) 1)) ++ (word (blockWord (me (c .before .before .before)) (c .before .before .before .args .i) 3) ++ word (blockWord (me (c .before .before .before)) (c .before .before .before .args .i) 4))) (room-as (code-image (me (c .before .before .before)) (c .before .before .before .args .i)) (c .before .before .before .pre .2))
 
-mul-write-commands : tie.Need-mul-write-commands
-mul-write-commands c = search needs
-
-add-write-commands : tie.Need-add-write-commands
-add-write-commands c = search needs
-
-mul-write-commands-2 : tie.Need-mul-write-commands-2
-mul-write-commands-2 c = search needs
-
-element-copy-out-write-commands : tie.Need-element-copy-out-write-commands
-element-copy-out-write-commands c = search needs
-
 write-commands-requires : tie.Need-write-commands-requires
 write-commands-requires c κs = (c .before .before .before .before .before .before .before .before .pre .1, room-first (word (blockWord (me (c .before .before .before .before .before .before .before .before)) (c .before .before .before .before .before .before .before .before .args .i) 3) ++ word (blockWord (me (c .before .before .before .before .before .before .before .before)) (c .before .before .before .before .before .before .before .before .args .i) 4)) (room-next (c .before .before .before .before .write-short .ensures) (room-as (code-image (me (c .before .before .before .before .before .before .before .before)) (c .before .before .before .before .before .before .before .before .args .i)) (c .before .before .before .before .before .before .before .before .pre .2))))
-
-mul-write-short : tie.Need-mul-write-short
-mul-write-short c = search needs
-
-add-write-short : tie.Need-add-write-short
-add-write-short c = search needs
-
-mul-write-short-2 : tie.Need-mul-write-short-2
-mul-write-short-2 c = search needs
-
-element-copy-out-write-short : tie.Need-element-copy-out-write-short
-element-copy-out-write-short c = search needs
 
 write-short-requires-2 : tie.Need-write-short-requires-2
 write-short-requires-2 c κs = room-first (word (blockWord (me (c .before .before .before .before .before .before .before .before .before .before .before .before .before))
@@ -60,18 +24,6 @@ write-short-requires-2 c κs = room-first (word (blockWord (me (c .before .befor
     (room-next (c .before .before .before .before .write-commands .ensures) (room-next (c .before .before .before .before .before .before .before .before .before .write-short .ensures)
     (room-as (code-image (me (c .before .before .before .before .before .before .before .before .before .before .before .before .before))
     (c .before .before .before .before .before .before .before .before .before .before .before .before .before .args .i)) (c .before .before .before .before .before .before .before .before .before .before .before .before .before .pre .2))))
-
-mul-write-short-3 : tie.Need-mul-write-short-3
-mul-write-short-3 c = search needs
-
-add-write-short-2 : tie.Need-add-write-short-2
-add-write-short-2 c = search needs
-
-mul-write-short-4 : tie.Need-mul-write-short-4
-mul-write-short-4 c = search needs
-
-element-copy-out-write-short-2 : tie.Need-element-copy-out-write-short-2
-element-copy-out-write-short-2 c = search needs
 
 write-short-requires-3 : tie.Need-write-short-requires-3
 write-short-requires-3 c κs = room-next (c .before .before .before .before .write-short2 .ensures)
@@ -81,13 +33,10 @@ write-short-requires-3 c κs = room-next (c .before .before .before .before .wri
     (c .before .before .before .before .before .before .before .before .before .before .before .before .before .before .before .before .before .before .args .i))
     (c .before .before .before .before .before .before .before .before .before .before .before .before .before .before .before .before .before .before .pre .2))))
 
-same-length : tie.Need-same-length
-same-length c = search needs
-
 returns : tie.Need-returns
 returns c =
     let start = c .before .before .before .before .before .before .before .before .before .before .before .before .before .before .before .before .before .before .before .before .before in
     stored-as (code-image (me (start)) (start .args .i)) (stored-on (c .before .before .before .before .before .before .before .before .before .before .before .before .before .before .before .before .before .write-short .ensures) (stored-on (c .before .before .before .before .before .before .before .before .before .before .before .before .write-commands .ensures) (stored-on (c .before .before .before .before .before .before .before .write-short2 .ensures) (c .before .before .write-short3 .ensures))))
 
 pub write-code-spec : {M : Type 1} → statement M
-write-code-spec = tie.close (tie.spec mul-held add-held mul-held-2 element-copy-out-held write-short-requires mul-write-commands add-write-commands mul-write-commands-2 element-copy-out-write-commands write-commands-requires mul-write-short add-write-short mul-write-short-2 element-copy-out-write-short write-short-requires-2 mul-write-short-3 add-write-short-2 mul-write-short-4 element-copy-out-write-short-2 write-short-requires-3 same-length returns)
+write-code-spec = tie.close (tie.spec (λ c. search needs) (λ c. search needs) (λ c. search needs) (λ c. search needs) write-short-requires (λ c. search needs) (λ c. search needs) (λ c. search needs) (λ c. search needs) write-commands-requires (λ c. search needs) (λ c. search needs) (λ c. search needs) (λ c. search needs) write-short-requires-2 (λ c. search needs) (λ c. search needs) (λ c. search needs) (λ c. search needs) write-short-requires-3 (λ c. search needs) returns)

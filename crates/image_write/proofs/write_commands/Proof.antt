@@ -19,12 +19,6 @@ abbrev μ-loop : tie.MeasureT-loop
 abbrev co : tie.Start Inv-loop μ-loop → Coded
 co s = codedIn (s .args .ws .now) (s .args .val .now) (s .args .cw .now) (s .args .counts .nodes) (s .args .counts .commands)
 
-index-of-requires : tie.Need-index-of-requires Inv-loop μ-loop
-index-of-requires c κs = search needs
-
-index-of-requires-2 : tie.Need-index-of-requires-2 Inv-loop μ-loop
-index-of-requires-2 c κs = search needs
-
 loop-holds : tie.Need-loop-holds Inv-loop μ-loop
 loop-holds c = (omega arith, go-start (commands-pieces (co (c .before .before .before))) (c .before .before .before .args .held) (c .before .before .before .args .first) (c .before .before .before .pre .1))
 
@@ -33,9 +27,6 @@ add-write-command c = omega (arith, c .before .before .before .index-of .ensures
 
 write-command-requires : tie.Need-write-command-requires Inv-loop μ-loop
 write-command-requires c κs = (c .before .before .before .before .before .before .pre .0, go-room (commands-pieces (co (c .before .before .before .before .before .before))) (c .before .before .before .before .before .before .args .held) (c .before .before .before .before .before .before .args .first) (c .before .before .loop .inv .1) (omega (arith, c .before .loop-test .taken, c .before .before .before .index-of2 .ensures)) (ap (λ (x : ℕ). x + c .before .before .loop .i) (c .before .before .before .before .index-of .ensures)))
-
-add-i : tie.Need-add-i Inv-loop μ-loop
-add-i c = search needs
 
 loop-less : tie.Need-loop-less Inv-loop μ-loop
 loop-less c = omega (arith, c .before .before .before .before .loop-test .taken, c .before .before .before .before .before .before .index-of2 .ensures)
@@ -52,4 +43,4 @@ returns : tie.Need-returns Inv-loop μ-loop
 returns c = go-end (commands-pieces (co (c .before .before .before .before .before))) (c .before .before .before .before .before .args .held) (c .before .before .before .before .before .args .first) (c .before .loop .inv .1) (omega (arith, c .loop-test .left, c .before .before .index-of2 .ensures))
 
 pub write-commands-spec : {M : Type 1} → statement M
-write-commands-spec = tie.close (tie.spec Inv-loop μ-loop index-of-requires index-of-requires-2 loop-holds add-write-command write-command-requires add-i loop-less loop-again same-length returns)
+write-commands-spec = tie.close (tie.spec Inv-loop μ-loop (λ c κs. search needs) (λ c κs. search needs) loop-holds add-write-command write-command-requires (λ c. search needs) loop-less loop-again same-length returns)

@@ -10,41 +10,14 @@ use Rattle.image_write.proofs.write_if.Tie as tie
 abbrev co : tie.Start → Coded
 co s = codedIn (s .args .ws .now) (s .args .val .now) (s .args .cw .now) (s .args .counts .nodes) (s .args .counts .commands)
 
-mul-write-term : tie.Need-mul-write-term
-mul-write-term c = search needs
-
-add-write-term : tie.Need-add-write-term
-add-write-term c = search needs
-
-mul-write-term-2 : tie.Need-mul-write-term-2
-mul-write-term-2 c = search needs
-
-element-copy-out-write-term : tie.Need-element-copy-out-write-term
-element-copy-out-write-term c = search needs
-
 write-term-requires : tie.Need-write-term-requires
 write-term-requires c κs = (c .before .before .before .pre .1, room-first (word (commandWord (co (c .before .before .before)) (c .before .before .before .args .i) 3)) (room-as (if-image (co (c .before .before .before)) (c .before .before .before .args .i)) (c .before .before .before .pre .2)))
 
-mul-write-short : tie.Need-mul-write-short
-mul-write-short c = search needs
-
-add-write-short : tie.Need-add-write-short
-add-write-short c = search needs
-
-mul-write-short-2 : tie.Need-mul-write-short-2
-mul-write-short-2 c = search needs
-
-element-copy-out-write-short : tie.Need-element-copy-out-write-short
-element-copy-out-write-short c = search needs
-
 write-short-requires : tie.Need-write-short-requires
 write-short-requires c κs = room-next (c .before .before .before .before .write-term .ensures) (room-as (if-image (co (c .before .before .before .before .before .before .before .before)) (c .before .before .before .before .before .before .before .before .args .i)) (c .before .before .before .before .before .before .before .before .pre .2))
-
-same-length : tie.Need-same-length
-same-length c = search needs
 
 returns : tie.Need-returns
 returns c = stored-as (if-image (co (c .before .before .before .before .before .before .before .before .before .before .before)) (c .before .before .before .before .before .before .before .before .before .before .before .args .i)) (stored-on (c .before .before .before .before .before .before .before .write-term .ensures) (c .before .before .write-short .ensures))
 
 pub write-if-spec : {M : Type 1} → statement M
-write-if-spec = tie.close (tie.spec mul-write-term add-write-term mul-write-term-2 element-copy-out-write-term write-term-requires mul-write-short add-write-short mul-write-short-2 element-copy-out-write-short write-short-requires same-length returns)
+write-if-spec = tie.close (tie.spec (λ c. search needs) (λ c. search needs) (λ c. search needs) (λ c. search needs) write-term-requires (λ c. search needs) (λ c. search needs) (λ c. search needs) (λ c. search needs) write-short-requires (λ c. search needs) returns)

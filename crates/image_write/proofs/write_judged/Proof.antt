@@ -9,20 +9,11 @@ use Rattle.image_write.proofs.write_judged.Tie as tie
 abbrev me : tie.Start → Memory
 me s = memoryIn (s .args .ws .now) (s .args .val .now) (s .args .cw .now) (s .args .bw .now) (s .args .counts .nodes) (s .args .counts .commands) (s .args .counts .blocks)
 
-judge-record-requires : tie.Need-judge-record-requires
-judge-record-requires c κs = search needs
-
-enum-known-judged : tie.Need-enum-known-judged
-enum-known-judged c = search needs
-
 returns : tie.Need-returns
 returns c = call-short (fine-of (me (c .before .before .before .before .before .before)) _ _ (c .before .before .before .before .judge-record .ensures) (c .before .before .judged .given .1)) (c .before .before .before .before .before .before .args .out .now) (c .if1 .taken)
 
 write-record-requires : tie.Need-write-record-requires
 write-record-requires c κs = (fine-kept (fine-of (me (c .before .before .before .before .before .before .before)) _ _ (c .before .before .before .before .before .judge-record .ensures) (c .before .before .before .judged .given .1)), fine-room (fine-of (me (c .before .before .before .before .before .before .before)) _ _ (c .before .before .before .before .before .judge-record .ensures) (c .before .before .before .judged .given .1)) (c .before .before .before .before .before .before .before .args .out .now) (c .before .if1 .left))
-
-enum-known-judged-2 : tie.Need-enum-known-judged-2
-enum-known-judged-2 c = search needs
 
 same-length : tie.Need-same-length
 same-length c = stored-length (c .before .before .write-record .ensures)
@@ -34,4 +25,4 @@ returns-3 : tie.Need-returns-3
 returns-3 c = call-no (me (c .before .before .before .before .before)) (c .before .before .before .before .before .args .out .now) _ _ (c .before .before .before .judge-record .ensures) (c .before .judged2 .given .1)
 
 pub write-judged-spec : {M : Type 1} → statement M
-write-judged-spec = tie.close (tie.spec judge-record-requires enum-known-judged returns write-record-requires enum-known-judged-2 same-length returns-2 returns-3)
+write-judged-spec = tie.close (tie.spec (λ c κs. search needs) (λ c. search needs) returns write-record-requires (λ c. search needs) same-length returns-2 returns-3)

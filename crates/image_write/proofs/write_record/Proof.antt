@@ -16,11 +16,8 @@ write-short-requires c κs = room-first (blocksImageIn (me (c .before .before)) 
 write-blocks-requires : tie.Need-write-blocks-requires
 write-blocks-requires c κs = (c .before .before .before .before .before .before .pre .0, room-next (c .before .before .before .write-short .ensures) (room-as (record-image (me (c .before .before .before .before .before .before))) (c .before .before .before .before .before .before .pre .1)))
 
-same-length : tie.Need-same-length
-same-length c = search needs
-
 returns : tie.Need-returns
 returns c = stored-as (record-image (me (c .before .before .before .before .before .before .before .before .before))) (stored-on (c .before .before .before .before .before .before .write-short .ensures) (c .before .before .write-blocks .ensures))
 
 pub write-record-spec : {M : Type 1} → statement M
-write-record-spec = tie.close (tie.spec write-short-requires write-blocks-requires same-length returns)
+write-record-spec = tie.close (tie.spec write-short-requires write-blocks-requires (λ c. search needs) returns)

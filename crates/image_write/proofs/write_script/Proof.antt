@@ -19,12 +19,6 @@ me s = memoryIn (s .args .ws .now) (s .args .val .now) (s .args .cw .now) (s .ar
 fits : (s : tie.Start) (p : Plain (me s)) → mostBytes (s .args .counts .blocks) (s .args .counts .commands) (s .args .counts .nodes) ≤ length (s .args .out .now) → length (image (p .blocks)) ≤ length (s .args .out .now)
 fits s p l = omega (arith, record-short (me s) (p .blocks) _ (p .judged))
 
-most-bytes-requires : tie.Need-most-bytes-requires
-most-bytes-requires c κs = search needs
-
-is-plain-requires : tie.Need-is-plain-requires
-is-plain-requires c κs = search needs
-
 write-record-requires : tie.Need-write-record-requires
 write-record-requires c κs =
     let s = c .before .before .before .before .before .before in
@@ -41,14 +35,5 @@ returns c =
     let l = fits s p (omega (arith, c .before .before .before .before .before .before .before .most-bytes .ensures, c .before .before .before .before .before .before .if1 .taken)) in
     call-fine (plain-accepted (me s) p) (s .args .out .now) l (c .before .before .write-record .ensures)
 
-write-judged-requires : tie.Need-write-judged-requires
-write-judged-requires c κs = search needs
-
-same-length-2 : tie.Need-same-length-2
-same-length-2 c = search needs
-
-returns-2 : tie.Need-returns-2
-returns-2 c = search needs
-
 pub write-script-spec : {M : Type 1} → statement M
-write-script-spec = tie.close (tie.spec most-bytes-requires is-plain-requires write-record-requires same-length returns write-judged-requires same-length-2 returns-2)
+write-script-spec = tie.close (tie.spec (λ c κs. search needs) (λ c κs. search needs) write-record-requires same-length returns (λ c κs. search needs) (λ c. search needs) (λ c. search needs))

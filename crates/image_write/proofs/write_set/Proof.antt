@@ -10,32 +10,8 @@ use Rattle.image_write.proofs.write_set.Tie as tie
 abbrev co : tie.Start → Coded
 co s = codedIn (s .args .ws .now) (s .args .val .now) (s .args .cw .now) (s .args .counts .nodes) (s .args .counts .commands)
 
-mul-target : tie.Need-mul-target
-mul-target c = search needs
-
-add-target : tie.Need-add-target
-add-target c = search needs
-
-mul-target-2 : tie.Need-mul-target-2
-mul-target-2 c = search needs
-
-element-copy-out-target : tie.Need-element-copy-out-target
-element-copy-out-target c = search needs
-
 write-short-requires : tie.Need-write-short-requires
 write-short-requires c κs = room-first (setRest (co (c .before .before .before)) (c .before .before .before .args .i) (commandWord (co (c .before .before .before)) (c .before .before .before .args .i) 3)) (room-as (set-image (co (c .before .before .before)) (c .before .before .before .args .i)) (c .before .before .before .pre .2))
-
-mul-write-term : tie.Need-mul-write-term
-mul-write-term c = search needs
-
-add-write-term : tie.Need-add-write-term
-add-write-term c = search needs
-
-mul-write-term-2 : tie.Need-mul-write-term-2
-mul-write-term-2 c = search needs
-
-element-copy-out-write-term : tie.Need-element-copy-out-write-term
-element-copy-out-write-term c = search needs
 
 write-term-requires : tie.Need-write-term-requires
 write-term-requires c κs = (
@@ -49,18 +25,6 @@ write-term-requires c κs = (
       (set-image (co (c .before .before .before .before .before .before .before .before .before)) (c .before .before .before .before .before .before .before .before .before .args .i))
       (c .before .before .before .before .before .before .before .before .before .pre .2)))),
 )
-
-mul-write-term-3 : tie.Need-mul-write-term-3
-mul-write-term-3 c = search needs
-
-add-write-term-2 : tie.Need-add-write-term-2
-add-write-term-2 c = search needs
-
-mul-write-term-4 : tie.Need-mul-write-term-4
-mul-write-term-4 c = search needs
-
-element-copy-out-write-term-2 : tie.Need-element-copy-out-write-term-2
-element-copy-out-write-term-2 c = search needs
 
 write-term-requires-2 : tie.Need-write-term-requires-2
 write-term-requires-2 c κs = (
@@ -76,25 +40,10 @@ write-term-requires-2 c κs = (
       (c .before .before .before .before .before .before .before .before .before .before .before .before .before .before .pre .2)))),
 )
 
-same-length : tie.Need-same-length
-same-length c = search needs
-
 returns : tie.Need-returns
 returns c =
     let start = c .before .before .before .before .before .before .before .before .before .before .before .before .before .before .before .before .before in
     stored-as (set-image (co (start)) (start .args .i)) (stored-on (c .before .before .before .before .before .before .before .before .before .before .before .before .before .write-short .ensures) (stored-as (rest-variable (co (start)) (start .args .i) (commandWord (co (start)) (start .args .i) 3) (c .before .before .before .before .before .before .before .before .before .before .if1 .taken)) (stored-on (c .before .before .before .before .before .before .before .write-term .ensures) (c .before .before .write-term2 .ensures))))
-
-mul-write-term-5 : tie.Need-mul-write-term-5
-mul-write-term-5 c = search needs
-
-add-write-term-3 : tie.Need-add-write-term-3
-add-write-term-3 c = search needs
-
-mul-write-term-6 : tie.Need-mul-write-term-6
-mul-write-term-6 c = search needs
-
-element-copy-out-write-term-3 : tie.Need-element-copy-out-write-term-3
-element-copy-out-write-term-3 c = search needs
 
 write-term-requires-3 : tie.Need-write-term-requires-3
 write-term-requires-3 c κs = (
@@ -107,13 +56,10 @@ write-term-requires-3 c κs = (
       (c .before .before .before .before .before .before .before .before .before .pre .2))),
 )
 
-same-length-2 : tie.Need-same-length-2
-same-length-2 c = search needs
-
 returns-2 : tie.Need-returns-2
 returns-2 c =
     let start = c .before .before .before .before .before .before .before .before .before .before .before .before in
     stored-as (set-image (co (start)) (start .args .i)) (stored-on (c .before .before .before .before .before .before .before .before .write-short .ensures) (stored-as (rest-other (co (start)) (start .args .i) (commandWord (co (start)) (start .args .i) 3) (c .before .before .before .before .before .if1 .left)) (c .before .before .write-term3 .ensures)))
 
 pub write-set-spec : {M : Type 1} → statement M
-write-set-spec = tie.close (tie.spec mul-target add-target mul-target-2 element-copy-out-target write-short-requires mul-write-term add-write-term mul-write-term-2 element-copy-out-write-term write-term-requires mul-write-term-3 add-write-term-2 mul-write-term-4 element-copy-out-write-term-2 write-term-requires-2 same-length returns mul-write-term-5 add-write-term-3 mul-write-term-6 element-copy-out-write-term-3 write-term-requires-3 same-length-2 returns-2)
+write-set-spec = tie.close (tie.spec (λ c. search needs) (λ c. search needs) (λ c. search needs) (λ c. search needs) write-short-requires (λ c. search needs) (λ c. search needs) (λ c. search needs) (λ c. search needs) write-term-requires (λ c. search needs) (λ c. search needs) (λ c. search needs) (λ c. search needs) write-term-requires-2 (λ c. search needs) returns (λ c. search needs) (λ c. search needs) (λ c. search needs) (λ c. search needs) write-term-requires-3 (λ c. search needs) returns-2)

@@ -9,18 +9,6 @@ use Rattle.image_write.proofs.write_tail.Tie as tie
 abbrev co : tie.Start → Coded
 co s = codedIn (s .args .ws .now) (s .args .val .now) (s .args .cw .now) (s .args .counts .nodes) (s .args .counts .commands)
 
-mul-write-short : tie.Need-mul-write-short
-mul-write-short c = search needs
-
-add-write-short : tie.Need-add-write-short
-add-write-short c = search needs
-
-mul-write-short-2 : tie.Need-mul-write-short-2
-mul-write-short-2 c = search needs
-
-element-copy-out-write-short : tie.Need-element-copy-out-write-short
-element-copy-out-write-short c = search needs
-
 write-short-requires : tie.Need-write-short-requires
 write-short-requires c κs = room-as (goto-image (co (c .before .before .before .before)) (c .before .before .before .before .args .i) (c .before .before .before .before .args .k) (c .before .before .match .keys1)) (c .before .before .before .before .pre .2)
 
@@ -30,41 +18,17 @@ write-set-requires c κs = (c .before .before .before .pre .0, c .before .before
 write-if-requires : tie.Need-write-if-requires
 write-if-requires c κs = (c .before .before .before .pre .0, c .before .before .before .pre .1, rw (c .before .match .keys3) at (c .before .before .before .pre .2))
 
-mul-write-short-3 : tie.Need-mul-write-short-3
-mul-write-short-3 c = search needs
-
-add-write-short-2 : tie.Need-add-write-short-2
-add-write-short-2 c = search needs
-
-mul-write-short-4 : tie.Need-mul-write-short-4
-mul-write-short-4 c = search needs
-
-element-copy-out-write-short-2 : tie.Need-element-copy-out-write-short-2
-element-copy-out-write-short-2 c = search needs
-
 write-short-requires-2 : tie.Need-write-short-requires-2
 write-short-requires-2 c κs = room-as (endIf-image (co (c .before .before .before .before)) (c .before .before .before .before .args .i) (c .before .before .before .before .args .k) (c .before .before .match .keys4)) (c .before .before .before .before .pre .2)
-
-same-length : tie.Need-same-length
-same-length c = search needs
 
 returns : tie.Need-returns
 returns c = stored-as (goto-image (co (c .before .before .before .before .before .before .before)) (c .before .before .before .before .before .before .before .args .i) (c .before .before .before .before .before .before .before .args .k) (c .before .before .before .before .before .match .keys1)) (c .before .before .write-short .ensures)
 
-same-length-2 : tie.Need-same-length-2
-same-length-2 c = search needs
-
 returns-2 : tie.Need-returns-2
 returns-2 c = rw (c .before .before .before .before .match .keys2) (c .before .before .write-set .ensures)
 
-same-length-3 : tie.Need-same-length-3
-same-length-3 c = search needs
-
 returns-3 : tie.Need-returns-3
 returns-3 c = rw (c .before .before .before .before .match .keys3) (c .before .before .write-if .ensures)
-
-same-length-4 : tie.Need-same-length-4
-same-length-4 c = search needs
 
 returns-4 : tie.Need-returns-4
 returns-4 c = stored-as (endIf-image (co (c .before .before .before .before .before .before .before)) (c .before .before .before .before .before .before .before .args .i) (c .before .before .before .before .before .before .before .args .k) (c .before .before .before .before .before .match .keys4)) (c .before .before .write-short2 .ensures)
@@ -73,4 +37,4 @@ returns-5 : tie.Need-returns-5
 returns-5 c = stored-as (bare-image (co (c .before .before)) (c .before .before .args .i) (c .before .before .args .k) (c .match .rest .0 .0 .0 .1) (c .match .rest .0 .0 .1) (c .match .rest .0 .1) (c .match .rest .1)) stored-none
 
 pub write-tail-spec : {M : Type 1} → statement M
-write-tail-spec = tie.close (tie.spec mul-write-short add-write-short mul-write-short-2 element-copy-out-write-short write-short-requires write-set-requires write-if-requires mul-write-short-3 add-write-short-2 mul-write-short-4 element-copy-out-write-short-2 write-short-requires-2 same-length returns same-length-2 returns-2 same-length-3 returns-3 same-length-4 returns-4 returns-5)
+write-tail-spec = tie.close (tie.spec (λ c. search needs) (λ c. search needs) (λ c. search needs) (λ c. search needs) write-short-requires write-set-requires write-if-requires (λ c. search needs) (λ c. search needs) (λ c. search needs) (λ c. search needs) write-short-requires-2 (λ c. search needs) returns (λ c. search needs) returns-2 (λ c. search needs) returns-3 (λ c. search needs) returns-4 returns-5)

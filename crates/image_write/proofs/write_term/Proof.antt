@@ -8,11 +8,8 @@ use Rattle.image_write.proofs.write_term.Tie as tie
 write-operand-requires : tie.Need-write-operand-requires
 write-operand-requires c κs = (c .before .before .pre .0 .nodes, room-as (root-image (c .before .before .args .ws .now) (c .before .before .args .val .now) (c .before .before .args .counts .nodes) (c .before .before .args .i)) (c .before .before .pre .1))
 
-same-length : tie.Need-same-length
-same-length c = search needs
-
 returns : tie.Need-returns
 returns c = stored-as (root-image (c .before .before .before .before .before .args .ws .now) (c .before .before .before .before .before .args .val .now) (c .before .before .before .before .before .args .counts .nodes) (c .before .before .before .before .before .args .i)) (c .before .before .write-operand .ensures)
 
 pub write-term-spec : {M : Type 1} → statement M
-write-term-spec = tie.close (tie.spec write-operand-requires same-length returns)
+write-term-spec = tie.close (tie.spec write-operand-requires (λ c. search needs) returns)

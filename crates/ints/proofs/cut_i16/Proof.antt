@@ -10,15 +10,6 @@ use Rattle.ints.specs.Bits.{lowBits-of}
 use Rattle.ints.proofs.cut_i16.Statement.{statement}
 use Rattle.ints.proofs.cut_i16.Tie as tie
 
-to-bits-requires : tie.Need-to-bits-requires
-to-bits-requires c κs = search needs
-
-cast-from-bits16 : tie.Need-cast-from-bits16
-cast-from-bits16 c = search needs
-
-from-bits16-requires : tie.Need-from-bits16-requires
-from-bits16-requires c κs = search needs
-
 returns : tie.Need-returns
 unfolding wrap
 returns c =
@@ -28,4 +19,4 @@ returns c =
     ∙ ap (λ (n : ℕ). toZ w16 (n % 65536)) e ∙ ap (toZ w16) (sym (lowBits-of w16 w32 (c .before .before .args .x) tt f))
 
 pub cut-i16-spec : {M : Type 1} → statement M
-cut-i16-spec = tie.close (tie.spec to-bits-requires cast-from-bits16 from-bits16-requires returns)
+cut-i16-spec = tie.close (tie.spec (λ c κs. search needs) (λ c. search needs) (λ c κs. search needs) returns)

@@ -13,28 +13,16 @@ Inv-loop bw runs counts end i₀ i = Passed bw runs counts i
 abbrev μ-loop : tie.MeasureT-loop
 μ-loop bw runs counts end i₀ i = end - i
 
-index-of-requires : tie.Need-index-of-requires Inv-loop μ-loop
-index-of-requires c κs = search needs
-
 loop-holds : tie.Need-loop-holds Inv-loop μ-loop
 loop-holds c =
     let s = c .before .before in
     passed-none (s .args .bw .now) (s .args .runs .now) (s .args .counts)
-
-block-kept-requires : tie.Need-block-kept-requires Inv-loop μ-loop
-block-kept-requires c κs = search needs
 
 returns : tie.Need-returns Inv-loop μ-loop
 returns c =
     let l = c .before .before .before in
     let s = l .before .before .before in
     passed-stop (s .args .bw .now) (s .args .runs .now) (s .args .counts) (l .loop .inv) (omega (arith, c .before .before .loop-test .taken, l .before .index-of .ensures)) (c .before .block-kept .ensures) (not-true _ (c .if1 .taken))
-
-add-i : tie.Need-add-i Inv-loop μ-loop
-add-i c = search needs
-
-loop-less : tie.Need-loop-less Inv-loop μ-loop
-loop-less c = omega arith
 
 loop-again : tie.Need-loop-again Inv-loop μ-loop
 loop-again c =
@@ -53,11 +41,11 @@ blocks-kept-spec =
     (tie.spec
     Inv-loop
     μ-loop
-    index-of-requires
+    (λ c κs. search needs)
     loop-holds
-    block-kept-requires
+    (λ c κs. search needs)
     returns
-    add-i
-    loop-less
+    (λ c. search needs)
+    (λ c. omega arith)
     loop-again
     returns-2)

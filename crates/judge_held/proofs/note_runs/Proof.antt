@@ -14,16 +14,10 @@ Inv-loop cw runs₀ counts i₀ run₀ runs i run = (i ≤ counts .commands) × 
 abbrev μ-loop : tie.MeasureT-loop
 μ-loop cw runs₀ counts i₀ run₀ runs i run = i
 
-index-of-requires : tie.Need-index-of-requires Inv-loop μ-loop
-index-of-requires c κs = search needs
-
 loop-holds : tie.Need-loop-holds Inv-loop μ-loop
 loop-holds c =
     let s = c .before .before in
     rw (c .index-of .ensures) (omega arith, refl, run-last (s .args .cw .now) (s .args .counts), runs-none (s .args .cw .now) (s .args .counts) _)
-
-sub-i : tie.Need-sub-i Inv-loop μ-loop
-sub-i c = search needs
 
 run-from-requires : tie.Need-run-from-requires Inv-loop μ-loop
 run-from-requires c κs =
@@ -31,14 +25,8 @@ run-from-requires c κs =
     let p = l .before .before .before in
     (omega (arith, l .loop .inv .0, c .loop-test .taken), p .pre .0, subst (λ (i : ℕ). Run (p .args .cw .now) (p .args .counts) i (l .loop .run)) (omega arith) (l .loop .inv .2))
 
-mul-runs : tie.Need-mul-runs Inv-loop μ-loop
-mul-runs c = search needs
-
 slice-write-runs : tie.Need-slice-write-runs Inv-loop μ-loop
 slice-write-runs c = omega (arith, c .before .before .loop .inv .0, c .before .before .loop .inv .1, c .before .before .before .before .before .pre .1, c .before .loop-test .taken)
-
-loop-less : tie.Need-loop-less Inv-loop μ-loop
-loop-less c = omega arith
 
 loop-again : tie.Need-loop-again Inv-loop μ-loop
 loop-again c =
@@ -47,9 +35,6 @@ loop-again c =
     let e : l .loop .i ≡ suc (l .loop .i - 1) = omega (arith, c .before .loop-test .taken) in
     let R = subst (λ (i : ℕ). Runs (s .args .cw .now) (s .args .counts) (l .loop .runs) i) e (l .loop .inv .3) in
     (omega (arith, l .loop .inv .0), length-set (l .loop .runs) (l .loop .i - 1) (c .run-from .result) ∙ l .loop .inv .1, c .run-from .ensures, runs-more (s .args .cw .now) (s .args .counts) R (omega (arith, l .loop .inv .0, l .loop .inv .1, s .pre .1, c .before .loop-test .taken)) (c .run-from .ensures))
-
-same-length : tie.Need-same-length Inv-loop μ-loop
-same-length c = search needs
 
 returns : tie.Need-returns Inv-loop μ-loop
 returns c =
@@ -63,13 +48,13 @@ note-runs-spec =
     (tie.spec
     Inv-loop
     μ-loop
-    index-of-requires
+    (λ c κs. search needs)
     loop-holds
-    sub-i
+    (λ c. search needs)
     run-from-requires
-    mul-runs
+    (λ c. search needs)
     slice-write-runs
-    loop-less
+    (λ c. omega arith)
     loop-again
-    same-length
+    (λ c. search needs)
     returns)

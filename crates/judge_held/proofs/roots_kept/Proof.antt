@@ -5,30 +5,6 @@ use borrow.Author.Needs.{needs}
 use Rattle.judge_held.proofs.roots_kept.Statement.{statement}
 use Rattle.judge_held.proofs.roots_kept.Tie as tie
 
-mul-code : tie.Need-mul-code
-mul-code c = search needs
-
-mul-code-2 : tie.Need-mul-code-2
-mul-code-2 c = search needs
-
-element-copy-out-code : tie.Need-element-copy-out-code
-element-copy-out-code c = search needs
-
-set-kept-requires : tie.Need-set-kept-requires
-set-kept-requires c κs = search needs
-
-mul-result : tie.Need-mul-result
-mul-result c = search needs
-
-add-result : tie.Need-add-result
-add-result c = search needs
-
-mul-result-2 : tie.Need-mul-result-2
-mul-result-2 c = search needs
-
-element-copy-out-result : tie.Need-element-copy-out-result
-element-copy-out-result c = search needs
-
 returns : tie.Need-returns
 returns c =
     let s = c .before .before .before in
@@ -48,14 +24,14 @@ pub roots-kept-spec : {M : Type 1} → statement M
 roots-kept-spec =
     tie.close
     (tie.spec
-    mul-code
-    mul-code-2
-    element-copy-out-code
-    set-kept-requires
-    mul-result
-    add-result
-    mul-result-2
-    element-copy-out-result
+    (λ c. search needs)
+    (λ c. search needs)
+    (λ c. search needs)
+    (λ c κs. search needs)
+    (λ c. search needs)
+    (λ c. search needs)
+    (λ c. search needs)
+    (λ c. search needs)
     returns
     returns-2
     returns-3)

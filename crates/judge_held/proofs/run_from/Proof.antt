@@ -4,12 +4,6 @@ use borrow.Author.Needs.{needs}
 use Rattle.judge_held.proofs.run_from.Statement.{statement}
 use Rattle.judge_held.proofs.run_from.Tie as tie
 
-roots-kept-requires : tie.Need-roots-kept-requires
-roots-kept-requires c κs = search needs
-
-add-result : tie.Need-add-result
-add-result c = search needs
-
 returns : tie.Need-returns
 returns c =
     let s = c .before .before in
@@ -21,4 +15,4 @@ returns-2 c =
     run-stop (s .args .cw .now) (s .args .counts) (s .pre .0) (c .before .roots-kept .ensures) (c .if1 .left)
 
 pub run-from-spec : {M : Type 1} → statement M
-run-from-spec = tie.close (tie.spec roots-kept-requires add-result returns returns-2)
+run-from-spec = tie.close (tie.spec (λ c κs. search needs) (λ c. search needs) returns returns-2)

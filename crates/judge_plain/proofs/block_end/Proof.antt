@@ -6,18 +6,6 @@ use borrow.Author.Needs.{needs}
 use Rattle.judge_plain.proofs.block_end.Statement.{statement}
 use Rattle.judge_plain.proofs.block_end.Tie as tie
 
-mul-kind : tie.Need-mul-kind
-mul-kind c = search needs
-
-mul-kind-2 : tie.Need-mul-kind-2
-mul-kind-2 c = search needs
-
-element-copy-out-kind : tie.Need-element-copy-out-kind
-element-copy-out-kind c = search needs
-
-code-end-requires : tie.Need-code-end-requires
-code-end-requires c κs = search needs
-
 returns : tie.Need-returns
 returns c = c .code-end .ensures
 
@@ -34,10 +22,10 @@ pub block-end-spec : {M : Type 1} → statement M
 block-end-spec =
     tie.close
     (tie.spec
-    mul-kind
-    mul-kind-2
-    element-copy-out-kind
-    code-end-requires
+    (λ c. search needs)
+    (λ c. search needs)
+    (λ c. search needs)
+    (λ c κs. search needs)
     returns
     returns-2
     returns-3

@@ -15,26 +15,11 @@ Inv-loop bw counts n most end₀ i₀ end i = (i ≤ n) × Chain (Within bw coun
 abbrev μ-loop : tie.MeasureT-loop
 μ-loop bw counts n most end₀ i₀ end i = n - i
 
-index-of-requires : tie.Need-index-of-requires Inv-loop μ-loop
-index-of-requires c κs = search needs
-
-index-of-requires-2 : tie.Need-index-of-requires-2 Inv-loop μ-loop
-index-of-requires-2 c κs = search needs
-
 loop-holds : tie.Need-loop-holds Inv-loop μ-loop
 loop-holds c = (omega arith, chain-none)
 
-block-end-requires : tie.Need-block-end-requires Inv-loop μ-loop
-block-end-requires c κs = search needs
-
 returns : tie.Need-returns Inv-loop μ-loop
 returns c = λ e. never e
-
-add-i : tie.Need-add-i Inv-loop μ-loop
-add-i c = search needs
-
-loop-less : tie.Need-loop-less Inv-loop μ-loop
-loop-less c = omega arith
 
 loop-again : tie.Need-loop-again Inv-loop μ-loop
 loop-again c = (omega arith, apart-more (c .before .before .before .before .before .before .args .bw .now) (c .before .before .before .before .before .before .args .counts) (c .before .before .before .loop .inv .1) (c .before .block-end .ensures) (omega (arith, c .if1 .left, c .before .before .before .before .index-of2 .ensures)))
@@ -48,12 +33,12 @@ blocks-apart-spec =
     (tie.spec
     Inv-loop
     μ-loop
-    index-of-requires
-    index-of-requires-2
+    (λ c κs. search needs)
+    (λ c κs. search needs)
     loop-holds
-    block-end-requires
+    (λ c κs. search needs)
     returns
-    add-i
-    loop-less
+    (λ c. search needs)
+    (λ c. omega arith)
     loop-again
     returns-2)

@@ -14,26 +14,14 @@ Inv-loop sizes cw counts end n₀ most₀ i₀ n most i = (i ≤ end) × SumCoun
 abbrev μ-loop : tie.MeasureT-loop
 μ-loop sizes cw counts end n₀ most₀ i₀ n most i = end - i
 
-index-of-requires : tie.Need-index-of-requires Inv-loop μ-loop
-index-of-requires c κs = search needs
-
 loop-holds : tie.Need-loop-holds Inv-loop μ-loop
 loop-holds c = (omega arith, sum-none (c .before .before .args .sizes .now) (c .before .before .args .cw .now) (c .before .before .args .counts))
-
-command-nodes-requires : tie.Need-command-nodes-requires Inv-loop μ-loop
-command-nodes-requires c κs = search needs
 
 returns : tie.Need-returns Inv-loop μ-loop
 returns c = λ q. absurd (omega (arith, q, c .before .before .before .before .before .before .pre .kept .nodes))
 
 add-n : tie.Need-add-n Inv-loop μ-loop
 add-n c = omega (arith, c .before .before .before .loop .inv .1 .few, c .if1 .left, c .before .before .before .before .before .before .pre .kept .commands, c .before .before .loop-test .taken, c .before .before .before .before .index-of .ensures)
-
-add-i : tie.Need-add-i Inv-loop μ-loop
-add-i c = search needs
-
-loop-less : tie.Need-loop-less Inv-loop μ-loop
-loop-less c = omega arith
 
 loop-again : tie.Need-loop-again Inv-loop μ-loop
 loop-again c = (omega arith, sum-more (c .before .before .before .before .before .before .args .sizes .now) (c .before .before .before .before .before .before .args .cw .now) (c .before .before .before .before .before .before .args .counts) (c .before .before .before .loop .inv .1) (c .before .command-nodes .ensures) (omega (arith, c .if1 .left)))
@@ -47,12 +35,12 @@ commands-nodes-spec =
     (tie.spec
     Inv-loop
     μ-loop
-    index-of-requires
+    (λ c κs. search needs)
     loop-holds
-    command-nodes-requires
+    (λ c κs. search needs)
     returns
     add-n
-    add-i
-    loop-less
+    (λ c. search needs)
+    (λ c. omega arith)
     loop-again
     returns-2)

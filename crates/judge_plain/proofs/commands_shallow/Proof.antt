@@ -19,23 +19,11 @@ abbrev μ-loop : tie.MeasureT-loop
 returns : tie.Need-returns Inv-loop μ-loop
 returns c = λ e h. absurd (omega arith)
 
-index-of-requires : tie.Need-index-of-requires Inv-loop μ-loop
-index-of-requires c κs = search needs
-
 loop-holds : tie.Need-loop-holds Inv-loop μ-loop
 loop-holds c = (omega arith, low-none (c .before .before .before .args .sizes .now) (c .before .before .before .args .cw .now) (c .before .before .before .args .counts) (c .before .before .before .args .ws .now))
 
-command-shallow-requires : tie.Need-command-shallow-requires Inv-loop μ-loop
-command-shallow-requires c κs = search needs
-
 returns-2 : tie.Need-returns-2 Inv-loop μ-loop
 returns-2 c = λ e. never e
-
-add-i : tie.Need-add-i Inv-loop μ-loop
-add-i c = search needs
-
-loop-less : tie.Need-loop-less Inv-loop μ-loop
-loop-less c = omega arith
 
 loop-again : tie.Need-loop-again Inv-loop μ-loop
 loop-again c = (omega arith, low-more (c .before .before .before .before .before .before .before .args .sizes .now) (c .before .before .before .before .before .before .before .args .cw .now) (c .before .before .before .before .before .before .before .args .counts) (c .before .before .before .loop .inv .1) (c .before .command-shallow .ensures (not-false (c .before .command-shallow .result) (c .if2 .left))))
@@ -50,11 +38,11 @@ commands-shallow-spec =
     Inv-loop
     μ-loop
     returns
-    index-of-requires
+    (λ c κs. search needs)
     loop-holds
-    command-shallow-requires
+    (λ c κs. search needs)
     returns-2
-    add-i
-    loop-less
+    (λ c. search needs)
+    (λ c. omega arith)
     loop-again
     returns-3)

@@ -7,23 +7,11 @@ use borrow.Author.Needs.{needs}
 use Rattle.judge_plain.proofs.plain_by.Statement.{statement}
 use Rattle.judge_plain.proofs.plain_by.Tie as tie
 
-commands-nodes-requires : tie.Need-commands-nodes-requires
-commands-nodes-requires c κs = search needs
-
-index-of-requires : tie.Need-index-of-requires
-index-of-requires c κs = search needs
-
 returns : tie.Need-returns
 returns c = λ e. never e
 
-commands-shallow-requires : tie.Need-commands-shallow-requires
-commands-shallow-requires c κs = search needs
-
 returns-2 : tie.Need-returns-2
 returns-2 c = λ e. never e
-
-blocks-apart-requires : tie.Need-blocks-apart-requires
-blocks-apart-requires c κs = search needs
 
 returns-3 : tie.Need-returns-3
 returns-3 c =
@@ -34,10 +22,10 @@ pub plain-by-spec : {M : Type 1} → statement M
 plain-by-spec =
     tie.close
     (tie.spec
-    commands-nodes-requires
-    index-of-requires
+    (λ c κs. search needs)
+    (λ c κs. search needs)
     returns
-    commands-shallow-requires
+    (λ c κs. search needs)
     returns-2
-    blocks-apart-requires
+    (λ c κs. search needs)
     returns-3)

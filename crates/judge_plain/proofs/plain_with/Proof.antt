@@ -15,23 +15,14 @@ returns-2 c = λ e. never e
 returns-3 : tie.Need-returns-3
 returns-3 c = λ e. never e
 
-index-of-requires : tie.Need-index-of-requires
-index-of-requires c κs = search needs
-
 measure-trees-requires : tie.Need-measure-trees-requires
 measure-trees-requires c κs = (omega (arith, c .before .before .if3 .left, c .index-of .ensures), omega (arith, c .index-of .ensures, c .before .before .before .before .before .before .before .before .before .pre (omega (arith, c .before .before .if3 .left))))
-
-same-length : tie.Need-same-length
-same-length c = search needs
 
 returns-4 : tie.Need-returns-4
 returns-4 c = λ e. never e
 
 plain-by-requires : tie.Need-plain-by-requires
 plain-by-requires c κs = record { kept = record { nodes = omega (arith, c .before .before .before .before .before .before .before .if3 .left); commands = omega (arith, c .before .before .before .before .before .before .before .before .before .if2 .left); blocks = omega (arith, c .before .before .before .before .before .before .before .before .before .before .before .if1 .left) }; long = omega (arith, c .before .before .before .before .before .index-of .ensures, c .before .before .before .before .measure-trees .ensures (not-false (c .before .before .before .before .measure-trees .result) (c .before .if4 .left)) .long) }
-
-same-length-2 : tie.Need-same-length-2
-same-length-2 c = search needs
 
 returns-5 : tie.Need-returns-5
 returns-5 c = λ e. c .plain-by .ensures e _ (rw (c .before .before .before .before .before .before .index-of .ensures) at (c .before .before .before .before .before .measure-trees .ensures (not-false (c .before .before .before .before .before .measure-trees .result) (c .before .before .if4 .left))))
@@ -43,10 +34,10 @@ plain-with-spec =
     returns
     returns-2
     returns-3
-    index-of-requires
+    (λ c κs. search needs)
     measure-trees-requires
-    same-length
+    (λ c. search needs)
     returns-4
     plain-by-requires
-    same-length-2
+    (λ c. search needs)
     returns-5)

@@ -7,27 +7,6 @@ use borrow.Author.Needs.{needs}
 use Rattle.judge_record.proofs.judge_block.Statement.{statement}
 use Rattle.judge_record.proofs.judge_block.Tie as tie
 
-mul-kind : tie.Need-mul-kind
-mul-kind c = search needs
-
-mul-kind-2 : tie.Need-mul-kind-2
-mul-kind-2 c = search needs
-
-element-copy-out-kind : tie.Need-element-copy-out-kind
-element-copy-out-kind c = search needs
-
-add-t17 : tie.Need-add-t17
-add-t17 c = search needs
-
-add-judge-code : tie.Need-add-judge-code
-add-judge-code c = search needs
-
-judge-code-requires : tie.Need-judge-code-requires
-judge-code-requires c κs = search needs
-
-add-t19 : tie.Need-add-t19
-add-t19 c = search needs
-
 returns : tie.Need-returns
 returns c = block-placeholder (limits (c .before .before .args .counts .blocks) (c .before .before .args .counts .commands) (c .before .before .args .counts .nodes)) (memoryIn (c .before .before .args .ws .now) (c .before .before .args .val .now) (c .before .before .args .cw .now) (c .before .before .args .bw .now) (c .before .before .args .counts .nodes) (c .before .before .args .counts .commands) (c .before .before .args .counts .blocks)) (c .before .before .args .i) (c .before .before .args .n) (c .before .before .args .m) (c .before .before .args .at) (c .match .keys1) (c .before .before .pre .few) (c .before .before .pre .room)
 
@@ -44,13 +23,13 @@ pub judge-block-spec : {M : Type 1} → statement M
 judge-block-spec =
     tie.close
     (tie.spec
-    mul-kind
-    mul-kind-2
-    element-copy-out-kind
-    add-t17
-    add-judge-code
-    judge-code-requires
-    add-t19
+    (λ c. search needs)
+    (λ c. search needs)
+    (λ c. search needs)
+    (λ c. search needs)
+    (λ c. search needs)
+    (λ c κs. search needs)
+    (λ c. search needs)
     returns
     returns-2
     returns-3

@@ -14,31 +14,16 @@ Inv-loop ws val cw bw counts end n₀ m₀ p₀ i₀ n m p i = (i ≤ counts .bl
 abbrev μ-loop : tie.MeasureT-loop
 μ-loop ws val cw bw counts end n₀ m₀ p₀ i₀ n m p i = counts .blocks - i
 
-index-of-requires : tie.Need-index-of-requires Inv-loop μ-loop
-index-of-requires c κs = search needs
-
-short-length-requires : tie.Need-short-length-requires Inv-loop μ-loop
-short-length-requires c κs = search needs
-
 loop-holds : tie.Need-loop-holds Inv-loop μ-loop
 loop-holds c = (omega arith, pass-start (memoryIn (c .before .before .args .ws .now) (c .before .before .args .val .now) (c .before .before .args .cw .now) (c .before .before .args .bw .now) (c .before .before .args .counts .nodes) (c .before .before .args .counts .commands) (c .before .before .args .counts .blocks)) (c .before .before .pre) _ (c .short-length .ensures))
 
 judge-block-requires : tie.Need-judge-block-requires Inv-loop μ-loop
 judge-block-requires c κs = record { kept = c .before .before .before .before .pre; there = (omega (arith, c .loop-test .taken, c .before .before .before .index-of .ensures)); few = c .before .loop .inv .1 .low; room = c .before .loop .inv .1 .room; soon = omega (arith, c .before .loop .inv .1 .short, c .before .loop .inv .1 .room, c .before .before .before .before .pre .commands, c .before .before .before .before .pre .blocks, c .before .loop .inv .0) }
 
-enum-known-r : tie.Need-enum-known-r Inv-loop μ-loop
-enum-known-r c = search needs
-
-enum-known-r-2 : tie.Need-enum-known-r-2 Inv-loop μ-loop
-enum-known-r-2 c = search needs
-
 returns : tie.Need-returns Inv-loop μ-loop
 returns c =
     let start = c .before .before .before .before .before .before .before .before in
     pass-no (memoryIn (start .args .ws .now) (start .args .val .now) (start .args .cw .now) (start .args .bw .now) (start .args .counts .nodes) (start .args .counts .commands) (start .args .counts .blocks)) (start .pre) (c .before .before .before .before .before .loop .inv .1) (omega (arith, c .before .before .before .before .loop-test .taken, c .before .before .before .before .before .before .before .index-of .ensures)) (c .before .before .before .judge-block .ensures) (c .before .r2 .given .1)
-
-add-i : tie.Need-add-i Inv-loop μ-loop
-add-i c = search needs
 
 loop-less : tie.Need-loop-less Inv-loop μ-loop
 loop-less c = omega (arith, c .before .before .before .before .loop-test .taken, c .before .before .before .before .before .before .before .index-of .ensures)
@@ -58,14 +43,14 @@ judge-blocks-spec =
     (tie.spec
     Inv-loop
     μ-loop
-    index-of-requires
-    short-length-requires
+    (λ c κs. search needs)
+    (λ c κs. search needs)
     loop-holds
     judge-block-requires
-    enum-known-r
-    enum-known-r-2
+    (λ c. search needs)
+    (λ c. search needs)
     returns
-    add-i
+    (λ c. search needs)
     loop-less
     loop-again
     returns-2)

@@ -7,26 +7,11 @@ use borrow.Author.Needs.{needs}
 use Rattle.judge_record.proofs.judge_command.Statement.{statement}
 use Rattle.judge_record.proofs.judge_command.Tie as tie
 
-index-of-requires : tie.Need-index-of-requires
-index-of-requires c κs = search needs
-
 returns : tie.Need-returns
 returns c = command-absent (limits (c .before .before .args .counts .blocks) (c .before .before .args .counts .commands) (c .before .before .args .counts .nodes)) (codedIn (c .before .before .args .ws .now) (c .before .before .args .val .now) (c .before .before .args .cw .now) (c .before .before .args .counts .nodes) (c .before .before .args .counts .commands)) (c .before .before .args .i) (c .before .before .args .n) (c .before .before .args .at) (omega (arith, c .if1 .taken, c .before .index-of .ensures))
 
-mul-k : tie.Need-mul-k
-mul-k c = search needs
-
-mul-k-2 : tie.Need-mul-k-2
-mul-k-2 c = search needs
-
-element-copy-out-k : tie.Need-element-copy-out-k
-element-copy-out-k c = search needs
-
 returns-2 : tie.Need-returns-2
 returns-2 c = command-unknown (limits (c .before .before .before .before .args .counts .blocks) (c .before .before .before .before .args .counts .commands) (c .before .before .before .before .args .counts .nodes)) (codedIn (c .before .before .before .before .args .ws .now) (c .before .before .before .before .args .val .now) (c .before .before .before .before .args .cw .now) (c .before .before .before .before .args .counts .nodes) (c .before .before .before .before .args .counts .commands)) (c .before .before .before .before .args .i) (c .before .before .before .before .args .n) (c .before .before .before .before .args .at) (omega (arith, c .before .before .if1 .left, c .before .before .before .index-of .ensures)) (c .if2 .taken)
-
-add-judge-tail : tie.Need-add-judge-tail
-add-judge-tail c = search needs
 
 judge-tail-requires : tie.Need-judge-tail-requires
 judge-tail-requires c κs = (search needs, search needs)
@@ -40,12 +25,12 @@ pub judge-command-spec : {M : Type 1} → statement M
 judge-command-spec =
     tie.close
     (tie.spec
-    index-of-requires
+    (λ c κs. search needs)
     returns
-    mul-k
-    mul-k-2
-    element-copy-out-k
+    (λ c. search needs)
+    (λ c. search needs)
+    (λ c. search needs)
     returns-2
-    add-judge-tail
+    (λ c. search needs)
     judge-tail-requires
     returns-3)

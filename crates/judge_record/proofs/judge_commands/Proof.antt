@@ -15,12 +15,6 @@ Inv-loop ws val cw counts first held n at f end k₀ p₀ i₀ k p i = (i ≤ he
 abbrev μ-loop : tie.MeasureT-loop
 μ-loop ws val cw counts first held n at f end k₀ p₀ i₀ k p i = held - i
 
-index-of-requires : tie.Need-index-of-requires Inv-loop μ-loop
-index-of-requires c κs = search needs
-
-index-of-requires-2 : tie.Need-index-of-requires-2 Inv-loop μ-loop
-index-of-requires-2 c κs = search needs
-
 loop-holds : tie.Need-loop-holds Inv-loop μ-loop
 loop-holds c = (omega arith, walk-start (limits (c .before .before .args .counts .blocks) (c .before .before .args .counts .commands) (c .before .before .args .counts .nodes)) (codedIn (c .before .before .args .ws .now) (c .before .before .args .val .now) (c .before .before .args .cw .now) (c .before .before .args .counts .nodes) (c .before .before .args .counts .commands)) (c .before .before .args .held) (c .before .before .args .first) (c .before .before .args .n) (c .before .before .args .at) (c .before .before .pre .1 .few))
 
@@ -30,19 +24,10 @@ add-judge-command c = omega (arith, c .before .before .before .index-of .ensures
 judge-command-requires : tie.Need-judge-command-requires Inv-loop μ-loop
 judge-command-requires c κs = record { kept = c .before .before .before .before .pre .1 .kept; few = c .before .loop .inv .1 .low; soon = omega (arith, c .before .before .before .before .pre .1 .soon, c .before .loop .inv .1 .short, c .before .loop .inv .0, c .before .before .before .before .pre .0) }
 
-enum-known-r : tie.Need-enum-known-r Inv-loop μ-loop
-enum-known-r c = search needs
-
-enum-known-r-2 : tie.Need-enum-known-r-2 Inv-loop μ-loop
-enum-known-r-2 c = search needs
-
 returns : tie.Need-returns Inv-loop μ-loop
 returns c =
     let start = c .before .before .before .before .before .before .before .before in
     walk-no (limits (start .args .counts .blocks) (start .args .counts .commands) (start .args .counts .nodes)) (codedIn (start .args .ws .now) (start .args .val .now) (start .args .cw .now) (start .args .counts .nodes) (start .args .counts .commands)) (start .args .held) (start .args .first) (start .args .n) (start .args .at) (c .before .before .before .before .before .loop .inv .1) (omega (arith, c .before .before .before .before .loop-test .taken, c .before .before .before .before .before .before .index-of2 .ensures)) (ap (λ (x : ℕ). x + c .before .before .before .before .before .loop .i) (c .before .before .before .before .before .before .before .index-of .ensures)) (c .before .before .before .judge-command .ensures) (c .before .r2 .given .1)
-
-add-i : tie.Need-add-i Inv-loop μ-loop
-add-i c = search needs
 
 loop-less : tie.Need-loop-less Inv-loop μ-loop
 loop-less c = omega (arith, c .before .before .before .before .loop-test .taken, c .before .before .before .before .before .before .index-of2 .ensures)
@@ -69,15 +54,15 @@ judge-commands-spec =
     (tie.spec
     Inv-loop
     μ-loop
-    index-of-requires
-    index-of-requires-2
+    (λ c κs. search needs)
+    (λ c κs. search needs)
     loop-holds
     add-judge-command
     judge-command-requires
-    enum-known-r
-    enum-known-r-2
+    (λ c. search needs)
+    (λ c. search needs)
     returns
-    add-i
+    (λ c. search needs)
     loop-less
     loop-again
     returns-2)

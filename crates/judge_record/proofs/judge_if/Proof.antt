@@ -8,41 +8,8 @@ use borrow.Author.Needs.{needs}
 use Rattle.judge_record.proofs.judge_if.Statement.{statement}
 use Rattle.judge_record.proofs.judge_if.Tie as tie
 
-mul-judge-term : tie.Need-mul-judge-term
-mul-judge-term c = search needs
-
-add-judge-term : tie.Need-add-judge-term
-add-judge-term c = search needs
-
-mul-judge-term-2 : tie.Need-mul-judge-term-2
-mul-judge-term-2 c = search needs
-
-element-copy-out-judge-term : tie.Need-element-copy-out-judge-term
-element-copy-out-judge-term c = search needs
-
-judge-term-requires : tie.Need-judge-term-requires
-judge-term-requires c κs = search needs
-
-enum-known-a : tie.Need-enum-known-a
-enum-known-a c = search needs
-
-mul-judge-block-no : tie.Need-mul-judge-block-no
-mul-judge-block-no c = search needs
-
-add-judge-block-no : tie.Need-add-judge-block-no
-add-judge-block-no c = search needs
-
-mul-judge-block-no-2 : tie.Need-mul-judge-block-no-2
-mul-judge-block-no-2 c = search needs
-
-element-copy-out-judge-block-no : tie.Need-element-copy-out-judge-block-no
-element-copy-out-judge-block-no c = search needs
-
 judge-block-no-requires : tie.Need-judge-block-no-requires
 judge-block-no-requires c κs = omega (arith, c .before .before .before .before .before .before .pre .1 .soon, c .before .before .before .before .before .before .pre .1 .kept .nodes, good-of (c .before .before .before .before .judge-term .ensures) (c .before .before .a .given .1) .low, good-of (c .before .before .before .before .judge-term .ensures) (c .before .before .a .given .1) .short)
-
-enum-known-a-2 : tie.Need-enum-known-a-2
-enum-known-a-2 c = search needs
 
 returns : tie.Need-returns
 returns c =
@@ -56,17 +23,17 @@ pub judge-if-spec : {M : Type 1} → statement M
 judge-if-spec =
     tie.close
     (tie.spec
-    mul-judge-term
-    add-judge-term
-    mul-judge-term-2
-    element-copy-out-judge-term
-    judge-term-requires
-    enum-known-a
-    mul-judge-block-no
-    add-judge-block-no
-    mul-judge-block-no-2
-    element-copy-out-judge-block-no
+    (λ c. search needs)
+    (λ c. search needs)
+    (λ c. search needs)
+    (λ c. search needs)
+    (λ c κs. search needs)
+    (λ c. search needs)
+    (λ c. search needs)
+    (λ c. search needs)
+    (λ c. search needs)
+    (λ c. search needs)
     judge-block-no-requires
-    enum-known-a-2
+    (λ c. search needs)
     returns
     returns-2)

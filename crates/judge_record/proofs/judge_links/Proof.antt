@@ -6,17 +6,8 @@ use borrow.Author.Needs.{needs}
 use Rattle.judge_record.proofs.judge_links.Statement.{statement}
 use Rattle.judge_record.proofs.judge_links.Tie as tie
 
-judge-link-requires : tie.Need-judge-link-requires
-judge-link-requires c κs = search needs
-
-enum-known-a : tie.Need-enum-known-a
-enum-known-a c = search needs
-
 judge-link-requires-2 : tie.Need-judge-link-requires-2
 judge-link-requires-2 c κs = omega (arith, good-of (c .before .before .before .judge-link .ensures) (c .before .a .given .1) .short, good-of (c .before .before .before .judge-link .ensures) (c .before .a .given .1) .counted, c .before .before .before .before .pre)
-
-enum-known-a-2 : tie.Need-enum-known-a-2
-enum-known-a-2 c = search needs
 
 returns : tie.Need-returns
 returns c = links-told _ _ _ _ _ (c .before .before .before .before .judge-link .ensures) (c .before .before .a .given .1) (c .judge-link2 .ensures)
@@ -28,9 +19,9 @@ pub judge-links-spec : {M : Type 1} → statement M
 judge-links-spec =
     tie.close
     (tie.spec
-    judge-link-requires
-    enum-known-a
+    (λ c κs. search needs)
+    (λ c. search needs)
     judge-link-requires-2
-    enum-known-a-2
+    (λ c. search needs)
     returns
     returns-2)

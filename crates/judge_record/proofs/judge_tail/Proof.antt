@@ -7,41 +7,11 @@ use borrow.Author.Needs.{needs}
 use Rattle.judge_record.proofs.judge_tail.Statement.{statement}
 use Rattle.judge_record.proofs.judge_tail.Tie as tie
 
-mul-judge-block-no : tie.Need-mul-judge-block-no
-mul-judge-block-no c = search needs
-
-add-judge-block-no : tie.Need-add-judge-block-no
-add-judge-block-no c = search needs
-
-mul-judge-block-no-2 : tie.Need-mul-judge-block-no-2
-mul-judge-block-no-2 c = search needs
-
-element-copy-out-judge-block-no : tie.Need-element-copy-out-judge-block-no
-element-copy-out-judge-block-no c = search needs
-
-judge-block-no-requires : tie.Need-judge-block-no-requires
-judge-block-no-requires c κs = search needs
-
 judge-set-requires : tie.Need-judge-set-requires
 judge-set-requires c κs = (search needs, search needs)
 
 judge-if-requires : tie.Need-judge-if-requires
 judge-if-requires c κs = (search needs, search needs)
-
-mul-judge-block-no-3 : tie.Need-mul-judge-block-no-3
-mul-judge-block-no-3 c = search needs
-
-add-judge-block-no-2 : tie.Need-add-judge-block-no-2
-add-judge-block-no-2 c = search needs
-
-mul-judge-block-no-4 : tie.Need-mul-judge-block-no-4
-mul-judge-block-no-4 c = search needs
-
-element-copy-out-judge-block-no-2 : tie.Need-element-copy-out-judge-block-no-2
-element-copy-out-judge-block-no-2 c = search needs
-
-judge-block-no-requires-2 : tie.Need-judge-block-no-requires-2
-judge-block-no-requires-2 c κs = search needs
 
 returns : tie.Need-returns
 returns c = tail-return (limits (c .before .args .counts .blocks) (c .before .args .counts .commands) (c .before .args .counts .nodes)) (codedIn (c .before .args .ws .now) (c .before .args .val .now) (c .before .args .cw .now) (c .before .args .counts .nodes) (c .before .args .counts .commands)) (c .before .args .i) (c .before .args .n) (c .before .args .at) (c .before .pre .1 .few) _ (c .match .keys1)
@@ -65,18 +35,18 @@ pub judge-tail-spec : {M : Type 1} → statement M
 judge-tail-spec =
     tie.close
     (tie.spec
-    mul-judge-block-no
-    add-judge-block-no
-    mul-judge-block-no-2
-    element-copy-out-judge-block-no
-    judge-block-no-requires
+    (λ c. search needs)
+    (λ c. search needs)
+    (λ c. search needs)
+    (λ c. search needs)
+    (λ c κs. search needs)
     judge-set-requires
     judge-if-requires
-    mul-judge-block-no-3
-    add-judge-block-no-2
-    mul-judge-block-no-4
-    element-copy-out-judge-block-no-2
-    judge-block-no-requires-2
+    (λ c. search needs)
+    (λ c. search needs)
+    (λ c. search needs)
+    (λ c. search needs)
+    (λ c κs. search needs)
     returns
     returns-2
     returns-3

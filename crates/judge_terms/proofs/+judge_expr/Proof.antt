@@ -36,15 +36,6 @@ judge-expr-claims t = (kind-of-reads.Asked, kind-of-reads.Learnt, judge-expr-bel
 judge-expr-returns : (t : ℕ) → judge-expr-lts.Need-returns (judge-expr-claims t) (judge-expr-at t) judge-expr.Post
 judge-expr-returns t c = node-absent (nodesIn (c .before .args .ws .now) (c .before .args .val .now) (c .before .args .limit)) (c .before .args .b) (c .before .args .i) (c .before .args .limit) (c .before .args .n) (c .before .args .at) (c .before .args .depth) (c .if1 .taken)
 
-judge-expr-mul-c : (t : ℕ) → judge-expr-lts.Need-mul-c (judge-expr-claims t) (judge-expr-at t) judge-expr.Post
-judge-expr-mul-c t c = search needs
-
-judge-expr-mul-c-2 : (t : ℕ) → judge-expr-lts.Need-mul-c-2 (judge-expr-claims t) (judge-expr-at t) judge-expr.Post
-judge-expr-mul-c-2 t c = search needs
-
-judge-expr-element-copy-out-c : (t : ℕ) → judge-expr-lts.Need-element-copy-out-c (judge-expr-claims t) (judge-expr-at t) judge-expr.Post
-judge-expr-element-copy-out-c t c = search needs
-
 judge-expr-returns-2 : (t : ℕ) → judge-expr-lts.Need-returns-2 (judge-expr-claims t) (judge-expr-at t) judge-expr.Post
 judge-expr-returns-2 t c = node-unknown (nodesIn (c .before .before .before .args .ws .now) (c .before .before .before .args .val .now) (c .before .before .before .args .limit)) (c .before .before .before .args .b) (c .before .before .before .args .i) (c .before .before .before .args .limit) (c .before .before .before .args .n) (c .before .before .before .args .at) (c .before .before .before .args .depth) (c .before .before .if1 .left) (c .if2 .taken)
 
@@ -54,54 +45,8 @@ judge-expr-returns-3 t c = node-over (nodesIn (c .before .before .before .before
 judge-expr-returns-4 : (t : ℕ) → judge-expr-lts.Need-returns-4 (judge-expr-claims t) (judge-expr-at t) judge-expr.Post
 judge-expr-returns-4 t c = node-deep (nodesIn (c .before .before .before .before .before .args .ws .now) (c .before .before .before .before .before .args .val .now) (c .before .before .before .before .before .args .limit)) (c .before .before .before .before .before .args .b) (c .before .before .before .before .before .args .i) (c .before .before .before .before .before .args .limit) (c .before .before .before .before .before .args .n) (c .before .before .before .before .before .args .at) (c .before .before .before .before .before .args .depth) (c .before .before .before .before .if1 .left) (c .before .before .if2 .left) (c .before .if3 .left) (c .if4 .taken)
 
-judge-expr-kind-of-requires : (t : ℕ) → judge-expr-lts.Need-kind-of-requires (judge-expr-claims t) (judge-expr-at t) judge-expr.Post
-judge-expr-kind-of-requires t c κs = search needs
-
-judge-expr-enum-told : (t : ℕ) → judge-expr-lts.Need-enum-told (judge-expr-claims t) (judge-expr-at t) judge-expr.Post
-judge-expr-enum-told t c = search needs
-
-judge-expr-mul-judge-expr : (t : ℕ) → judge-expr-lts.Need-mul-judge-expr (judge-expr-claims t) (judge-expr-at t) judge-expr.Post
-judge-expr-mul-judge-expr t c = search needs
-
-judge-expr-add-judge-expr : (t : ℕ) → judge-expr-lts.Need-add-judge-expr (judge-expr-claims t) (judge-expr-at t) judge-expr.Post
-judge-expr-add-judge-expr t c = search needs
-
-judge-expr-mul-judge-expr-2 : (t : ℕ) → judge-expr-lts.Need-mul-judge-expr-2 (judge-expr-claims t) (judge-expr-at t) judge-expr.Post
-judge-expr-mul-judge-expr-2 t c = search needs
-
-judge-expr-element-copy-out-judge-expr : (t : ℕ) → judge-expr-lts.Need-element-copy-out-judge-expr (judge-expr-claims t) (judge-expr-at t) judge-expr.Post
-judge-expr-element-copy-out-judge-expr t c = search needs
-
-judge-expr-add-judge-expr-2 : (t : ℕ) → judge-expr-lts.Need-add-judge-expr-2 (judge-expr-claims t) (judge-expr-at t) judge-expr.Post
-judge-expr-add-judge-expr-2 t c = search needs
-
-judge-expr-add-judge-expr-3 : (t : ℕ) → judge-expr-lts.Need-add-judge-expr-3 (judge-expr-claims t) (judge-expr-at t) judge-expr.Post
-judge-expr-add-judge-expr-3 t c = search needs
-
-judge-expr-add-judge-expr-4 : (t : ℕ) → judge-expr-lts.Need-add-judge-expr-4 (judge-expr-claims t) (judge-expr-at t) judge-expr.Post
-judge-expr-add-judge-expr-4 t c = search needs
-
 judge-expr-judge-expr-requires : (t : ℕ) → judge-expr-lts.Need-judge-expr-requires (judge-expr-claims t) (judge-expr-at t) judge-expr.Post
 judge-expr-judge-expr-requires t c κs = (omega (arith, c .before .before .before .before .before .before .before .before .if1 .left, c .before .before .before .before .before .before .before .before .before .pre .0), record { low = omega (arith, c .before .before .before .before .before .before .before .before .if1 .left, c .before .before .before .before .before .before .before .before .before .pre .1 .low); limit = c .before .before .before .before .before .before .before .before .before .pre .1 .limit; levels = omega (arith, c .before .before .before .before .if4 .left); few = omega (arith, c .before .before .before .before .before .if3 .left); soon = omega (arith, c .before .before .before .before .before .before .before .before .before .pre .1 .soon) })
-
-judge-expr-enum-known-a : (t : ℕ) → judge-expr-lts.Need-enum-known-a (judge-expr-claims t) (judge-expr-at t) judge-expr.Post
-judge-expr-enum-known-a t c = search needs
-
-judge-expr-mul-judge-expr-3 : (t : ℕ) → judge-expr-lts.Need-mul-judge-expr-3 (judge-expr-claims t) (judge-expr-at t) judge-expr.Post
-judge-expr-mul-judge-expr-3 t c = search needs
-
-judge-expr-add-judge-expr-5 : (t : ℕ) → judge-expr-lts.Need-add-judge-expr-5 (judge-expr-claims t) (judge-expr-at t) judge-expr.Post
-judge-expr-add-judge-expr-5 t c = search needs
-
-judge-expr-mul-judge-expr-4 : (t : ℕ) → judge-expr-lts.Need-mul-judge-expr-4 (judge-expr-claims t) (judge-expr-at t) judge-expr.Post
-judge-expr-mul-judge-expr-4 t c = search needs
-
-judge-expr-element-copy-out-judge-expr-2 :
-    (t : ℕ) → judge-expr-lts.Need-element-copy-out-judge-expr-2 (judge-expr-claims t) (judge-expr-at t) judge-expr.Post
-judge-expr-element-copy-out-judge-expr-2 t c = search needs
-
-judge-expr-add-judge-expr-6 : (t : ℕ) → judge-expr-lts.Need-add-judge-expr-6 (judge-expr-claims t) (judge-expr-at t) judge-expr.Post
-judge-expr-add-judge-expr-6 t c = search needs
 
 judge-expr-judge-expr-requires-2 : (t : ℕ) → judge-expr-lts.Need-judge-expr-requires-2 (judge-expr-claims t) (judge-expr-at t) judge-expr.Post
 judge-expr-judge-expr-requires-2 t c κs = (
@@ -131,82 +76,8 @@ judge-expr-judge-expr-requires-2 t c κs = (
   },
 )
 
-judge-expr-enum-known-a-2 : (t : ℕ) → judge-expr-lts.Need-enum-known-a-2 (judge-expr-claims t) (judge-expr-at t) judge-expr.Post
-judge-expr-enum-known-a-2 t c = search needs
-
-judge-expr-enum-told-2 : (t : ℕ) → judge-expr-lts.Need-enum-told-2 (judge-expr-claims t) (judge-expr-at t) judge-expr.Post
-judge-expr-enum-told-2 t c = search needs
-
-judge-expr-mul-judge-expr-5 : (t : ℕ) → judge-expr-lts.Need-mul-judge-expr-5 (judge-expr-claims t) (judge-expr-at t) judge-expr.Post
-judge-expr-mul-judge-expr-5 t c = search needs
-
-judge-expr-add-judge-expr-7 : (t : ℕ) → judge-expr-lts.Need-add-judge-expr-7 (judge-expr-claims t) (judge-expr-at t) judge-expr.Post
-judge-expr-add-judge-expr-7 t c = search needs
-
-judge-expr-mul-judge-expr-6 : (t : ℕ) → judge-expr-lts.Need-mul-judge-expr-6 (judge-expr-claims t) (judge-expr-at t) judge-expr.Post
-judge-expr-mul-judge-expr-6 t c = search needs
-
-judge-expr-element-copy-out-judge-expr-3 :
-    (t : ℕ) → judge-expr-lts.Need-element-copy-out-judge-expr-3 (judge-expr-claims t) (judge-expr-at t) judge-expr.Post
-judge-expr-element-copy-out-judge-expr-3 t c = search needs
-
-judge-expr-add-judge-expr-8 : (t : ℕ) → judge-expr-lts.Need-add-judge-expr-8 (judge-expr-claims t) (judge-expr-at t) judge-expr.Post
-judge-expr-add-judge-expr-8 t c = search needs
-
-judge-expr-add-judge-expr-9 : (t : ℕ) → judge-expr-lts.Need-add-judge-expr-9 (judge-expr-claims t) (judge-expr-at t) judge-expr.Post
-judge-expr-add-judge-expr-9 t c = search needs
-
-judge-expr-add-judge-expr-10 : (t : ℕ) → judge-expr-lts.Need-add-judge-expr-10 (judge-expr-claims t) (judge-expr-at t) judge-expr.Post
-judge-expr-add-judge-expr-10 t c = search needs
-
 judge-expr-judge-expr-requires-3 : (t : ℕ) → judge-expr-lts.Need-judge-expr-requires-3 (judge-expr-claims t) (judge-expr-at t) judge-expr.Post
 judge-expr-judge-expr-requires-3 t c κs = (omega (arith, c .before .before .before .before .before .before .before .before .if1 .left, c .before .before .before .before .before .before .before .before .before .pre .0), record { low = omega (arith, c .before .before .before .before .before .before .before .before .if1 .left, c .before .before .before .before .before .before .before .before .before .pre .1 .low); limit = c .before .before .before .before .before .before .before .before .before .pre .1 .limit; levels = omega (arith, c .before .before .before .before .if4 .left); few = omega (arith, c .before .before .before .before .before .if3 .left); soon = omega (arith, c .before .before .before .before .before .before .before .before .before .pre .1 .soon) })
-
-judge-expr-enum-told-3 : (t : ℕ) → judge-expr-lts.Need-enum-told-3 (judge-expr-claims t) (judge-expr-at t) judge-expr.Post
-judge-expr-enum-told-3 t c = search needs
-
-judge-expr-mul-judge-imm : (t : ℕ) → judge-expr-lts.Need-mul-judge-imm (judge-expr-claims t) (judge-expr-at t) judge-expr.Post
-judge-expr-mul-judge-imm t c = search needs
-
-judge-expr-element-copy-out-judge-imm : (t : ℕ) → judge-expr-lts.Need-element-copy-out-judge-imm (judge-expr-claims t) (judge-expr-at t) judge-expr.Post
-judge-expr-element-copy-out-judge-imm t c = search needs
-
-judge-expr-add-judge-imm : (t : ℕ) → judge-expr-lts.Need-add-judge-imm (judge-expr-claims t) (judge-expr-at t) judge-expr.Post
-judge-expr-add-judge-imm t c = search needs
-
-judge-expr-add-judge-imm-2 : (t : ℕ) → judge-expr-lts.Need-add-judge-imm-2 (judge-expr-claims t) (judge-expr-at t) judge-expr.Post
-judge-expr-add-judge-imm-2 t c = search needs
-
-judge-expr-judge-imm-requires : (t : ℕ) → judge-expr-lts.Need-judge-imm-requires (judge-expr-claims t) (judge-expr-at t) judge-expr.Post
-judge-expr-judge-imm-requires t c κs = search needs
-
-judge-expr-enum-told-4 : (t : ℕ) → judge-expr-lts.Need-enum-told-4 (judge-expr-claims t) (judge-expr-at t) judge-expr.Post
-judge-expr-enum-told-4 t c = search needs
-
-judge-expr-mul-judge-imm-2 : (t : ℕ) → judge-expr-lts.Need-mul-judge-imm-2 (judge-expr-claims t) (judge-expr-at t) judge-expr.Post
-judge-expr-mul-judge-imm-2 t c = search needs
-
-judge-expr-element-copy-out-judge-imm-2 :
-    (t : ℕ) → judge-expr-lts.Need-element-copy-out-judge-imm-2 (judge-expr-claims t) (judge-expr-at t) judge-expr.Post
-judge-expr-element-copy-out-judge-imm-2 t c = search needs
-
-judge-expr-add-judge-imm-3 : (t : ℕ) → judge-expr-lts.Need-add-judge-imm-3 (judge-expr-claims t) (judge-expr-at t) judge-expr.Post
-judge-expr-add-judge-imm-3 t c = search needs
-
-judge-expr-add-judge-imm-4 : (t : ℕ) → judge-expr-lts.Need-add-judge-imm-4 (judge-expr-claims t) (judge-expr-at t) judge-expr.Post
-judge-expr-add-judge-imm-4 t c = search needs
-
-judge-expr-judge-imm-requires-2 : (t : ℕ) → judge-expr-lts.Need-judge-imm-requires-2 (judge-expr-claims t) (judge-expr-at t) judge-expr.Post
-judge-expr-judge-imm-requires-2 t c κs = search needs
-
-judge-expr-enum-told-5 : (t : ℕ) → judge-expr-lts.Need-enum-told-5 (judge-expr-claims t) (judge-expr-at t) judge-expr.Post
-judge-expr-enum-told-5 t c = search needs
-
-judge-expr-add-t61 : (t : ℕ) → judge-expr-lts.Need-add-t61 (judge-expr-claims t) (judge-expr-at t) judge-expr.Post
-judge-expr-add-t61 t c = search needs
-
-judge-expr-add-t62 : (t : ℕ) → judge-expr-lts.Need-add-t62 (judge-expr-claims t) (judge-expr-at t) judge-expr.Post
-judge-expr-add-t62 t c = search needs
 
 judge-expr-returns-5 : (t : ℕ) → judge-expr-lts.Need-returns-5 (judge-expr-claims t) (judge-expr-at t) judge-expr.Post
 judge-expr-returns-5 t c = node-two (nodesIn (c .before .before .before .before .before .before .before .before .before .before .before .before .before .before .before .args .ws .now)
@@ -311,54 +182,54 @@ pub +judge-expr-spec : {M : Type 1} → statement M
     (judge-expr-at t)
     judge-expr.Post
     (judge-expr-returns t)
-    (judge-expr-mul-c t)
-    (judge-expr-mul-c-2 t)
-    (judge-expr-element-copy-out-c t)
+    (λ c. search needs)
+    (λ c. search needs)
+    (λ c. search needs)
     (judge-expr-returns-2 t)
     (judge-expr-returns-3 t)
     (judge-expr-returns-4 t)
-    (judge-expr-kind-of-requires t)
-    (judge-expr-enum-told t)
-    (judge-expr-mul-judge-expr t)
-    (judge-expr-add-judge-expr t)
-    (judge-expr-mul-judge-expr-2 t)
-    (judge-expr-element-copy-out-judge-expr t)
-    (judge-expr-add-judge-expr-2 t)
-    (judge-expr-add-judge-expr-3 t)
-    (judge-expr-add-judge-expr-4 t)
+    (λ c κs. search needs)
+    (λ c. search needs)
+    (λ c. search needs)
+    (λ c. search needs)
+    (λ c. search needs)
+    (λ c. search needs)
+    (λ c. search needs)
+    (λ c. search needs)
+    (λ c. search needs)
     (judge-expr-judge-expr-requires t)
-    (judge-expr-enum-known-a t)
-    (judge-expr-mul-judge-expr-3 t)
-    (judge-expr-add-judge-expr-5 t)
-    (judge-expr-mul-judge-expr-4 t)
-    (judge-expr-element-copy-out-judge-expr-2 t)
-    (judge-expr-add-judge-expr-6 t)
+    (λ c. search needs)
+    (λ c. search needs)
+    (λ c. search needs)
+    (λ c. search needs)
+    (λ c. search needs)
+    (λ c. search needs)
     (judge-expr-judge-expr-requires-2 t)
-    (judge-expr-enum-known-a-2 t)
-    (judge-expr-enum-told-2 t)
-    (judge-expr-mul-judge-expr-5 t)
-    (judge-expr-add-judge-expr-7 t)
-    (judge-expr-mul-judge-expr-6 t)
-    (judge-expr-element-copy-out-judge-expr-3 t)
-    (judge-expr-add-judge-expr-8 t)
-    (judge-expr-add-judge-expr-9 t)
-    (judge-expr-add-judge-expr-10 t)
+    (λ c. search needs)
+    (λ c. search needs)
+    (λ c. search needs)
+    (λ c. search needs)
+    (λ c. search needs)
+    (λ c. search needs)
+    (λ c. search needs)
+    (λ c. search needs)
+    (λ c. search needs)
     (judge-expr-judge-expr-requires-3 t)
-    (judge-expr-enum-told-3 t)
-    (judge-expr-mul-judge-imm t)
-    (judge-expr-element-copy-out-judge-imm t)
-    (judge-expr-add-judge-imm t)
-    (judge-expr-add-judge-imm-2 t)
-    (judge-expr-judge-imm-requires t)
-    (judge-expr-enum-told-4 t)
-    (judge-expr-mul-judge-imm-2 t)
-    (judge-expr-element-copy-out-judge-imm-2 t)
-    (judge-expr-add-judge-imm-3 t)
-    (judge-expr-add-judge-imm-4 t)
-    (judge-expr-judge-imm-requires-2 t)
-    (judge-expr-enum-told-5 t)
-    (judge-expr-add-t61 t)
-    (judge-expr-add-t62 t)
+    (λ c. search needs)
+    (λ c. search needs)
+    (λ c. search needs)
+    (λ c. search needs)
+    (λ c. search needs)
+    (λ c κs. search needs)
+    (λ c. search needs)
+    (λ c. search needs)
+    (λ c. search needs)
+    (λ c. search needs)
+    (λ c. search needs)
+    (λ c κs. search needs)
+    (λ c. search needs)
+    (λ c. search needs)
+    (λ c. search needs)
     (judge-expr-returns-5 t)
     (judge-expr-returns-6 t)
     (judge-expr-returns-7 t)

@@ -8,9 +8,6 @@ use borrow.Author.Needs.{needs}
 use Rattle.judge_terms.proofs.judge_imm.Statement.{statement}
 use Rattle.judge_terms.proofs.judge_imm.Tie as tie
 
-folded-requires : tie.Need-folded-requires
-folded-requires c κs = search needs
-
 word-length-requires : tie.Need-word-length-requires
 word-length-requires c κs = omega (arith, zig-low _ (c .before .before .fits .z), rw (toZ-ofZ (c .before .before .fits .z)) at (c .before .folded .ensures))
 
@@ -24,4 +21,4 @@ returns-2 : tie.Need-returns-2
 returns-2 c = imm-no _ _ _ _ _ (rw (toZ-ofZ (c .before .before .fits .z)) at (c .before .folded .ensures)) (c .if1 .left)
 
 pub judge-imm-spec : {M : Type 1} → statement M
-judge-imm-spec = tie.close (tie.spec folded-requires word-length-requires add-t8 returns returns-2)
+judge-imm-spec = tie.close (tie.spec (λ c κs. search needs) word-length-requires add-t8 returns returns-2)

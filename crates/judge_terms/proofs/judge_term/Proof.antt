@@ -7,9 +7,6 @@ use borrow.Author.Needs.{needs}
 use Rattle.judge_terms.proofs.judge_term.Statement.{statement}
 use Rattle.judge_terms.proofs.judge_term.Tie as tie
 
-judge-expr-requires : tie.Need-judge-expr-requires
-judge-expr-requires c κs = search needs
-
 returns : tie.Need-returns
 returns c = let s = (c .before) in term-told (limits (s .args .counts .blocks) (s .args .counts .commands) (s .args .counts .nodes)) (nodesIn (s .args .ws .now) (s .args .val .now) (s .args .counts .nodes)) (s .args .i) (s .args .n) (s .args .at) refl (c .judge-expr .ensures)
 
@@ -17,5 +14,5 @@ pub judge-term-spec : {M : Type 1} → statement M
 judge-term-spec =
     tie.close
     (tie.spec
-    judge-expr-requires
+    (λ c κs. search needs)
     returns)

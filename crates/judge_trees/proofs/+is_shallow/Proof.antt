@@ -36,98 +36,8 @@ is-shallow-returns t c = λ e. never e
 is-shallow-returns-2 : (t : ℕ) → is-shallow-lts.Need-returns-2 (is-shallow-claims t) (is-shallow-at t) is-shallow.Post
 is-shallow-returns-2 t c = λ e. never e
 
-is-shallow-mul-kind-of : (t : ℕ) → is-shallow-lts.Need-mul-kind-of (is-shallow-claims t) (is-shallow-at t) is-shallow.Post
-is-shallow-mul-kind-of t c = search needs
-
-is-shallow-mul-kind-of-2 : (t : ℕ) → is-shallow-lts.Need-mul-kind-of-2 (is-shallow-claims t) (is-shallow-at t) is-shallow.Post
-is-shallow-mul-kind-of-2 t c = search needs
-
-is-shallow-element-copy-out-kind-of : (t : ℕ) → is-shallow-lts.Need-element-copy-out-kind-of (is-shallow-claims t) (is-shallow-at t) is-shallow.Post
-is-shallow-element-copy-out-kind-of t c = search needs
-
-is-shallow-kind-of-requires : (t : ℕ) → is-shallow-lts.Need-kind-of-requires (is-shallow-claims t) (is-shallow-at t) is-shallow.Post
-is-shallow-kind-of-requires t c κs = search needs
-
-is-shallow-enum-told : (t : ℕ) → is-shallow-lts.Need-enum-told (is-shallow-claims t) (is-shallow-at t) is-shallow.Post
-is-shallow-enum-told t c = search needs
-
-is-shallow-mul-index-of : (t : ℕ) → is-shallow-lts.Need-mul-index-of (is-shallow-claims t) (is-shallow-at t) is-shallow.Post
-is-shallow-mul-index-of t c = search needs
-
-is-shallow-add-index-of : (t : ℕ) → is-shallow-lts.Need-add-index-of (is-shallow-claims t) (is-shallow-at t) is-shallow.Post
-is-shallow-add-index-of t c = search needs
-
-is-shallow-mul-index-of-2 : (t : ℕ) → is-shallow-lts.Need-mul-index-of-2 (is-shallow-claims t) (is-shallow-at t) is-shallow.Post
-is-shallow-mul-index-of-2 t c = search needs
-
-is-shallow-element-copy-out-index-of : (t : ℕ) → is-shallow-lts.Need-element-copy-out-index-of (is-shallow-claims t) (is-shallow-at t) is-shallow.Post
-is-shallow-element-copy-out-index-of t c = search needs
-
-is-shallow-index-of-requires : (t : ℕ) → is-shallow-lts.Need-index-of-requires (is-shallow-claims t) (is-shallow-at t) is-shallow.Post
-is-shallow-index-of-requires t c κs = search needs
-
-is-shallow-sub-is-shallow : (t : ℕ) → is-shallow-lts.Need-sub-is-shallow (is-shallow-claims t) (is-shallow-at t) is-shallow.Post
-is-shallow-sub-is-shallow t c = search needs
-
-is-shallow-is-shallow-requires : (t : ℕ) → is-shallow-lts.Need-is-shallow-requires (is-shallow-claims t) (is-shallow-at t) is-shallow.Post
-is-shallow-is-shallow-requires t c κs = search needs
-
 is-shallow-returns-3 : (t : ℕ) → is-shallow-lts.Need-returns-3 (is-shallow-claims t) (is-shallow-at t) is-shallow.Post
 is-shallow-returns-3 t c = λ e. never e
-
-is-shallow-mul-index-of-3 : (t : ℕ) → is-shallow-lts.Need-mul-index-of-3 (is-shallow-claims t) (is-shallow-at t) is-shallow.Post
-is-shallow-mul-index-of-3 t c = search needs
-
-is-shallow-add-index-of-2 : (t : ℕ) → is-shallow-lts.Need-add-index-of-2 (is-shallow-claims t) (is-shallow-at t) is-shallow.Post
-is-shallow-add-index-of-2 t c = search needs
-
-is-shallow-mul-index-of-4 : (t : ℕ) → is-shallow-lts.Need-mul-index-of-4 (is-shallow-claims t) (is-shallow-at t) is-shallow.Post
-is-shallow-mul-index-of-4 t c = search needs
-
-is-shallow-element-copy-out-index-of-2 : (t : ℕ) → is-shallow-lts.Need-element-copy-out-index-of-2 (is-shallow-claims t) (is-shallow-at t) is-shallow.Post
-is-shallow-element-copy-out-index-of-2 t c = search needs
-
-is-shallow-index-of-requires-2 : (t : ℕ) → is-shallow-lts.Need-index-of-requires-2 (is-shallow-claims t) (is-shallow-at t) is-shallow.Post
-is-shallow-index-of-requires-2 t c κs = search needs
-
-is-shallow-sub-is-shallow-2 : (t : ℕ) → is-shallow-lts.Need-sub-is-shallow-2 (is-shallow-claims t) (is-shallow-at t) is-shallow.Post
-is-shallow-sub-is-shallow-2 t c = search needs
-
-is-shallow-is-shallow-requires-2 : (t : ℕ) → is-shallow-lts.Need-is-shallow-requires-2 (is-shallow-claims t) (is-shallow-at t) is-shallow.Post
-is-shallow-is-shallow-requires-2 t c κs = search needs
-
-is-shallow-enum-told-2 : (t : ℕ) → is-shallow-lts.Need-enum-told-2 (is-shallow-claims t) (is-shallow-at t) is-shallow.Post
-is-shallow-enum-told-2 t c = search needs
-
-is-shallow-mul-index-of-5 : (t : ℕ) → is-shallow-lts.Need-mul-index-of-5 (is-shallow-claims t) (is-shallow-at t) is-shallow.Post
-is-shallow-mul-index-of-5 t c = search needs
-
-is-shallow-add-index-of-3 : (t : ℕ) → is-shallow-lts.Need-add-index-of-3 (is-shallow-claims t) (is-shallow-at t) is-shallow.Post
-is-shallow-add-index-of-3 t c = search needs
-
-is-shallow-mul-index-of-6 : (t : ℕ) → is-shallow-lts.Need-mul-index-of-6 (is-shallow-claims t) (is-shallow-at t) is-shallow.Post
-is-shallow-mul-index-of-6 t c = search needs
-
-is-shallow-element-copy-out-index-of-3 : (t : ℕ) → is-shallow-lts.Need-element-copy-out-index-of-3 (is-shallow-claims t) (is-shallow-at t) is-shallow.Post
-is-shallow-element-copy-out-index-of-3 t c = search needs
-
-is-shallow-index-of-requires-3 : (t : ℕ) → is-shallow-lts.Need-index-of-requires-3 (is-shallow-claims t) (is-shallow-at t) is-shallow.Post
-is-shallow-index-of-requires-3 t c κs = search needs
-
-is-shallow-sub-is-shallow-3 : (t : ℕ) → is-shallow-lts.Need-sub-is-shallow-3 (is-shallow-claims t) (is-shallow-at t) is-shallow.Post
-is-shallow-sub-is-shallow-3 t c = search needs
-
-is-shallow-is-shallow-requires-3 : (t : ℕ) → is-shallow-lts.Need-is-shallow-requires-3 (is-shallow-claims t) (is-shallow-at t) is-shallow.Post
-is-shallow-is-shallow-requires-3 t c κs = search needs
-
-is-shallow-enum-told-3 : (t : ℕ) → is-shallow-lts.Need-enum-told-3 (is-shallow-claims t) (is-shallow-at t) is-shallow.Post
-is-shallow-enum-told-3 t c = search needs
-
-is-shallow-enum-told-4 : (t : ℕ) → is-shallow-lts.Need-enum-told-4 (is-shallow-claims t) (is-shallow-at t) is-shallow.Post
-is-shallow-enum-told-4 t c = search needs
-
-is-shallow-enum-told-5 : (t : ℕ) → is-shallow-lts.Need-enum-told-5 (is-shallow-claims t) (is-shallow-at t) is-shallow.Post
-is-shallow-enum-told-5 t c = search needs
 
 is-shallow-returns-4 : (t : ℕ) → is-shallow-lts.Need-returns-4 (is-shallow-claims t) (is-shallow-at t) is-shallow.Post
 is-shallow-returns-4 t c =
@@ -160,37 +70,37 @@ pub +is-shallow-spec : {M : Type 1} → statement M
     is-shallow.Post
     (is-shallow-returns t)
     (is-shallow-returns-2 t)
-    (is-shallow-mul-kind-of t)
-    (is-shallow-mul-kind-of-2 t)
-    (is-shallow-element-copy-out-kind-of t)
-    (is-shallow-kind-of-requires t)
-    (is-shallow-enum-told t)
-    (is-shallow-mul-index-of t)
-    (is-shallow-add-index-of t)
-    (is-shallow-mul-index-of-2 t)
-    (is-shallow-element-copy-out-index-of t)
-    (is-shallow-index-of-requires t)
-    (is-shallow-sub-is-shallow t)
-    (is-shallow-is-shallow-requires t)
+    (λ c. search needs)
+    (λ c. search needs)
+    (λ c. search needs)
+    (λ c κs. search needs)
+    (λ c. search needs)
+    (λ c. search needs)
+    (λ c. search needs)
+    (λ c. search needs)
+    (λ c. search needs)
+    (λ c κs. search needs)
+    (λ c. search needs)
+    (λ c κs. search needs)
     (is-shallow-returns-3 t)
-    (is-shallow-mul-index-of-3 t)
-    (is-shallow-add-index-of-2 t)
-    (is-shallow-mul-index-of-4 t)
-    (is-shallow-element-copy-out-index-of-2 t)
-    (is-shallow-index-of-requires-2 t)
-    (is-shallow-sub-is-shallow-2 t)
-    (is-shallow-is-shallow-requires-2 t)
-    (is-shallow-enum-told-2 t)
-    (is-shallow-mul-index-of-5 t)
-    (is-shallow-add-index-of-3 t)
-    (is-shallow-mul-index-of-6 t)
-    (is-shallow-element-copy-out-index-of-3 t)
-    (is-shallow-index-of-requires-3 t)
-    (is-shallow-sub-is-shallow-3 t)
-    (is-shallow-is-shallow-requires-3 t)
-    (is-shallow-enum-told-3 t)
-    (is-shallow-enum-told-4 t)
-    (is-shallow-enum-told-5 t)
+    (λ c. search needs)
+    (λ c. search needs)
+    (λ c. search needs)
+    (λ c. search needs)
+    (λ c κs. search needs)
+    (λ c. search needs)
+    (λ c κs. search needs)
+    (λ c. search needs)
+    (λ c. search needs)
+    (λ c. search needs)
+    (λ c. search needs)
+    (λ c. search needs)
+    (λ c κs. search needs)
+    (λ c. search needs)
+    (λ c κs. search needs)
+    (λ c. search needs)
+    (λ c. search needs)
+    (λ c. search needs)
     (is-shallow-returns-4 t)
     (is-shallow-returns-5 t)
     (is-shallow-returns-6 t)

@@ -14,20 +14,8 @@ returns c = λ q. leaf (c .if2 .taken) refl
 returns-2 : tie.Need-returns-2
 returns-2 c = λ q. absurd (omega arith)
 
-mul-imm32-size : tie.Need-mul-imm32-size
-mul-imm32-size c = search needs
-
-element-copy-out-imm32-size : tie.Need-element-copy-out-imm32-size
-element-copy-out-imm32-size c = search needs
-
-imm32-size-requires : tie.Need-imm32-size-requires
-imm32-size-requires c κs = search needs
-
 returns-3 : tie.Need-returns-3
 returns-3 c = λ q. number (c .before .before .if3 .taken) (rw (toZ-ofZ {w = w32} (record { sfits = c .before .imm32-size-arg .given })) at (c .imm32-size .ensures))
-
-above-one-requires : tie.Need-above-one-requires
-above-one-requires c κs = search needs
 
 returns-4 : tie.Need-returns-4
 returns-4 c = λ q. above (omega arith) (omega arith) (c .above-one .ensures q)
@@ -38,9 +26,9 @@ high-size-spec =
     (tie.spec
     returns
     returns-2
-    mul-imm32-size
-    element-copy-out-imm32-size
-    imm32-size-requires
+    (λ c. search needs)
+    (λ c. search needs)
+    (λ c κs. search needs)
     returns-3
-    above-one-requires
+    (λ c κs. search needs)
     returns-4)

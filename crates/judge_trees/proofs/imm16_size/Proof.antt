@@ -5,12 +5,6 @@ use borrow.Author.Needs.{needs}
 use Rattle.judge_trees.proofs.imm16_size.Statement.{statement}
 use Rattle.judge_trees.proofs.imm16_size.Tie as tie
 
-returns : tie.Need-returns
-returns c = search needs
-
-returns-2 : tie.Need-returns-2
-returns-2 c = search needs
-
 returns-3 : tie.Need-returns-3
 returns-3 c = λ h. number-16 _ (rw (toZ-ofZ (c .before .before .fits .z)) at (c .before .if1 .left)) (rw (toZ-ofZ (c .before .before .fits .z)) at (c .if2 .left))
 
@@ -18,6 +12,6 @@ pub imm16-size-spec : {M : Type 1} → statement M
 imm16-size-spec =
     tie.close
     (tie.spec
-    returns
-    returns-2
+    (λ c. search needs)
+    (λ c. search needs)
     returns-3)

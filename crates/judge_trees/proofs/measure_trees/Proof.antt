@@ -19,32 +19,14 @@ loop-holds c = growing-start (c .before .args .ws .now) (c .before .args .val .n
 size-of-requires : tie.Need-size-of-requires Inv-loop μ-loop
 size-of-requires c κs = (omega (arith, c .before .before .before .before .pre .0), growing-before (c .before .before .before .before .args .ws .now) (c .before .before .before .before .args .val .now) (c .before .before .loop .inv))
 
-same-length : tie.Need-same-length Inv-loop μ-loop
-same-length c = search needs
-
 returns : tie.Need-returns Inv-loop μ-loop
 returns c = λ e. never e
 
 cast-sizes : tie.Need-cast-sizes Inv-loop μ-loop
 cast-sizes c = omega (arith, c .before .size-of .ensures (omega (arith, c .if1 .left)) .few, c .before .before .before .before .before .before .pre .0, c .before .before .before .loop-test .taken)
 
-mul-sizes : tie.Need-mul-sizes Inv-loop μ-loop
-mul-sizes c = search needs
-
-slice-write-sizes : tie.Need-slice-write-sizes Inv-loop μ-loop
-slice-write-sizes c = search needs
-
-add-i : tie.Need-add-i Inv-loop μ-loop
-add-i c = search needs
-
-loop-less : tie.Need-loop-less Inv-loop μ-loop
-loop-less c = omega arith
-
 loop-again : tie.Need-loop-again Inv-loop μ-loop
 loop-again c = growing-more (c .before .before .before .before .before .before .args .ws .now) (c .before .before .before .before .before .before .args .val .now) (c .before .before .before .before .loop .inv) (c .before .size-of .result) (c .before .before .before .before .before .before .pre .1) (c .before .before .before .loop-test .taken) (c .before .size-of .ensures (omega (arith, c .if1 .left)))
-
-same-length-2 : tie.Need-same-length-2 Inv-loop μ-loop
-same-length-2 c = search needs
 
 returns-2 : tie.Need-returns-2 Inv-loop μ-loop
 returns-2 c = λ e. growing-done (c .before .before .before .args .ws .now) (c .before .before .before .args .val .now) (c .before .loop .inv) (c .loop-test .left)
@@ -57,13 +39,13 @@ measure-trees-spec =
     μ-loop
     loop-holds
     size-of-requires
-    same-length
+    (λ c. search needs)
     returns
     cast-sizes
-    mul-sizes
-    slice-write-sizes
-    add-i
-    loop-less
+    (λ c. search needs)
+    (λ c. search needs)
+    (λ c. search needs)
+    (λ c. omega arith)
     loop-again
-    same-length-2
+    (λ c. search needs)
     returns-2)

@@ -14,29 +14,8 @@ Inv-loop k word at₀ entered₀ -all l₀ at entered l = (l ≤ k) × Begun l w
 abbrev μ-loop : tie.MeasureT-loop
 μ-loop k word at₀ entered₀ -all l₀ at entered l = k - l
 
-known-counts-requires : tie.Need-known-counts-requires Inv-loop μ-loop
-known-counts-requires c κs = search needs
-
 loop-holds : tie.Need-loop-holds Inv-loop μ-loop
 loop-holds c = (omega arith, record { blocks = each-none _ _ _; counts = each-none _ _ _ })
-
-mul-at : tie.Need-mul-at Inv-loop μ-loop
-mul-at c = search needs
-
-element-write-at : tie.Need-element-write-at Inv-loop μ-loop
-element-write-at c = search needs
-
-mul-entered : tie.Need-mul-entered Inv-loop μ-loop
-mul-entered c = search needs
-
-element-write-entered : tie.Need-element-write-entered Inv-loop μ-loop
-element-write-entered c = search needs
-
-add-l : tie.Need-add-l Inv-loop μ-loop
-add-l c = search needs
-
-loop-less : tie.Need-loop-less Inv-loop μ-loop
-loop-less c = omega arith
 
 loop-again : tie.Need-loop-again Inv-loop μ-loop
 loop-again c = (omega arith, record { blocks = each-more (c .before .loop .inv .1 .blocks) (omega (arith, c .before .before .known-counts .ensures .0)) refl; counts = each-more (c .before .loop .inv .1 .counts) (omega (arith, c .before .before .known-counts .ensures .1)) refl })
@@ -50,13 +29,13 @@ begin-spec =
     (tie.spec
     Inv-loop
     μ-loop
-    known-counts-requires
+    (λ c κs. search needs)
     loop-holds
-    mul-at
-    element-write-at
-    mul-entered
-    element-write-entered
-    add-l
-    loop-less
+    (λ c. search needs)
+    (λ c. search needs)
+    (λ c. search needs)
+    (λ c. search needs)
+    (λ c. search needs)
+    (λ c. omega arith)
     loop-again
     returns)

@@ -9,9 +9,6 @@ use borrow.Author.Needs.{needs}
 use Rattle.lanes.proofs.check_all.Statement.{statement}
 use Rattle.lanes.proofs.check_all.Tie as tie
 
-check-call-requires : tie.Need-check-call-requires
-check-call-requires c κs = search needs
-
 returns : tie.Need-returns
 returns c = let a = c .before .before .before .before .before in check-refused (sheetOf (a .args .attached .now) (a .args .sheet)) (memoryOf (a .args .ws .now) (a .args .val .now) (a .args .cw .now) (a .args .bw .now) (a .args .counts)) (a .args .start .0) (a .args .k) (saveOf (a .args .items .now) (a .args .atcs .now) (a .args .flags .now) (a .args .times .now) (a .args .vars .now)) _ (c .before .check-call .ensures) (c .if1 .taken)
 
@@ -34,7 +31,7 @@ pub check-all-spec : {M : Type 1} → statement M
 check-all-spec =
     tie.close
     (tie.spec
-    check-call-requires
+    (λ c κs. search needs)
     returns
     check-saves-requires
     returns-2

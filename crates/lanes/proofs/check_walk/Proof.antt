@@ -13,11 +13,8 @@ returns c = let a = c .before in λ ws val. walk-none (scriptOf (memoryOf ws val
 returns-2 : tie.Need-returns-2
 returns-2 c = let a = c .before .before in λ ws val. walk-many (scriptOf (memoryOf ws val (a .args .cw .now) (a .args .bw .now) (a .args .counts)) .blocks) (a .args .start .0) (a .args .k) (c .if2 .taken)
 
-falls-from-requires : tie.Need-falls-from-requires
-falls-from-requires c κs = search needs
-
 returns-3 : tie.Need-returns-3
 returns-3 c = let a = c .before .before .before in λ ws val. walk-falls (scriptOf (memoryOf ws val (a .args .cw .now) (a .args .bw .now) (a .args .counts)) .blocks) (a .args .start .0) (a .args .k) _ (omega arith) (omega arith) (c .falls-from .ensures ws val)
 
 pub check-walk-spec : {M : Type 1} → statement M
-check-walk-spec = tie.close (tie.spec returns returns-2 falls-from-requires returns-3)
+check-walk-spec = tie.close (tie.spec returns returns-2 (λ c κs. search needs) returns-3)

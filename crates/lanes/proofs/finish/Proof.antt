@@ -14,32 +14,8 @@ Inv-loop at k answers₀ -all l₀ answers l = (l ≤ k) × Each 0 (λ i a. last
 abbrev μ-loop : tie.MeasureT-loop
 μ-loop at k answers₀ -all l₀ answers l = k - l
 
-known-lanes-requires : tie.Need-known-lanes-requires Inv-loop μ-loop
-known-lanes-requires c κs = search needs
-
 loop-holds : tie.Need-loop-holds Inv-loop μ-loop
 loop-holds c = (omega arith, each-none _ _ _)
-
-element-copy-out-a : tie.Need-element-copy-out-a Inv-loop μ-loop
-element-copy-out-a c = search needs
-
-mul-last-answer : tie.Need-mul-last-answer Inv-loop μ-loop
-mul-last-answer c = search needs
-
-element-copy-out-last-answer : tie.Need-element-copy-out-last-answer Inv-loop μ-loop
-element-copy-out-last-answer c = search needs
-
-last-answer-requires : tie.Need-last-answer-requires Inv-loop μ-loop
-last-answer-requires c κs = search needs
-
-element-write-answers : tie.Need-element-write-answers Inv-loop μ-loop
-element-write-answers c = search needs
-
-add-l : tie.Need-add-l Inv-loop μ-loop
-add-l c = search needs
-
-loop-less : tie.Need-loop-less Inv-loop μ-loop
-loop-less c = omega arith
 
 loop-again : tie.Need-loop-again Inv-loop μ-loop
 loop-again c = (omega arith, each-more (c .before .before .before .before .loop .inv .1) (omega (arith, c .before .before .before .before .before .known-lanes .ensures)) (c .last-answer .ensures))
@@ -53,14 +29,14 @@ finish-spec =
     (tie.spec
     Inv-loop
     μ-loop
-    known-lanes-requires
+    (λ c κs. search needs)
     loop-holds
-    element-copy-out-a
-    mul-last-answer
-    element-copy-out-last-answer
-    last-answer-requires
-    element-write-answers
-    add-l
-    loop-less
+    (λ c. search needs)
+    (λ c. search needs)
+    (λ c. search needs)
+    (λ c κs. search needs)
+    (λ c. search needs)
+    (λ c. search needs)
+    (λ c. omega arith)
     loop-again
     returns)

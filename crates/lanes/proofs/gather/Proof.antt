@@ -15,35 +15,14 @@ Inv-loop at k word lanes₀ -all s₀ l₀ lanes s l = (l ≤ k) × (length lane
 abbrev μ-loop : tie.MeasureT-loop
 μ-loop at k word lanes₀ -all s₀ l₀ lanes s l = k - l
 
-known-lanes-requires : tie.Need-known-lanes-requires Inv-loop μ-loop
-known-lanes-requires c κs = search needs
-
 loop-holds : tie.Need-loop-holds Inv-loop μ-loop
 loop-holds c = (omega arith, c .known-lanes .ensures, gathered-none _ _ _)
-
-cast-lanes : tie.Need-cast-lanes Inv-loop μ-loop
-cast-lanes c = search needs
 
 element-write-lanes : tie.Need-element-write-lanes Inv-loop μ-loop
 element-write-lanes c = omega (arith, c .before .loop .inv .2 .few)
 
-mul-same : tie.Need-mul-same Inv-loop μ-loop
-mul-same c = search needs
-
-element-copy-out-same : tie.Need-element-copy-out-same Inv-loop μ-loop
-element-copy-out-same c = search needs
-
-same-requires : tie.Need-same-requires Inv-loop μ-loop
-same-requires c κs = search needs
-
 add-s : tie.Need-add-s Inv-loop μ-loop
 add-s c = omega (arith, c .before .before .before .loop .inv .2 .few, same-low (c .same .result) (getD (c .before .before .before .before .before .before .args .at .now) (c .before .before .before .loop .l) 0) (c .before .before .before .before .before .before .args .word) (c .same .ensures))
-
-add-l : tie.Need-add-l Inv-loop μ-loop
-add-l c = search needs
-
-loop-less : tie.Need-loop-less Inv-loop μ-loop
-loop-less c = omega arith
 
 loop-again : tie.Need-loop-again Inv-loop μ-loop
 loop-again c = (omega arith, simp length-set (c .before .before .before .loop .inv .1), gathered-more _ _ (c .before .before .before .loop .inv .1) (omega arith) (c .before .before .before .loop .inv .2) (c .same .result) (c .same .ensures))
@@ -57,15 +36,15 @@ gather-spec =
     (tie.spec
     Inv-loop
     μ-loop
-    known-lanes-requires
+    (λ c κs. search needs)
     loop-holds
-    cast-lanes
+    (λ c. search needs)
     element-write-lanes
-    mul-same
-    element-copy-out-same
-    same-requires
+    (λ c. search needs)
+    (λ c. search needs)
+    (λ c κs. search needs)
     add-s
-    add-l
-    loop-less
+    (λ c. search needs)
+    (λ c. omega arith)
     loop-again
     returns)

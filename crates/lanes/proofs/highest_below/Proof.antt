@@ -15,21 +15,6 @@ abbrev μ-loop : tie.MeasureT-loop
 loop-holds : tie.Need-loop-holds Inv-loop μ-loop
 loop-holds c = (omega arith, highest-none _ _)
 
-mul-higher : tie.Need-mul-higher Inv-loop μ-loop
-mul-higher c = search needs
-
-element-copy-out-higher : tie.Need-element-copy-out-higher Inv-loop μ-loop
-element-copy-out-higher c = search needs
-
-higher-requires : tie.Need-higher-requires Inv-loop μ-loop
-higher-requires c κs = search needs
-
-add-l : tie.Need-add-l Inv-loop μ-loop
-add-l c = search needs
-
-loop-less : tie.Need-loop-less Inv-loop μ-loop
-loop-less c = omega arith
-
 loop-again : tie.Need-loop-again Inv-loop μ-loop
 loop-again c = (omega arith, highest-more (c .before .before .before .loop .inv .1) (c .higher .ensures))
 
@@ -43,10 +28,10 @@ highest-below-spec =
     Inv-loop
     μ-loop
     loop-holds
-    mul-higher
-    element-copy-out-higher
-    higher-requires
-    add-l
-    loop-less
+    (λ c. search needs)
+    (λ c. search needs)
+    (λ c κs. search needs)
+    (λ c. search needs)
+    (λ c. omega arith)
     loop-again
     returns)

@@ -11,20 +11,11 @@ use borrow.Author.Needs.{needs}
 use Rattle.lanes.proofs.run_all.Statement.{statement}
 use Rattle.lanes.proofs.run_all.Tie as tie
 
-check-all-requires : tie.Need-check-all-requires
-check-all-requires c κs = search needs
-
-same-length : tie.Need-same-length
-same-length c = search needs
-
 returns : tie.Need-returns
 returns c = let a = c .before .before .before .before .before .before in left-refused (sheetOf (a .args .attached .now) (a .args .sheet)) (memoryOf (a .args .ws .now) (a .args .val .now) (a .args .cw .now) (a .args .bw .now) (a .args .counts)) (a .args .start .0) (a .args .k) (saveOf (a .args .items .now) (a .args .atcs .now) (a .args .flags .now) (a .args .times .now) (a .args .vars .now)) (a .args .answers .now) (a .args .entered .now) (a .args .vars .now) _ (c .before .check-all .ensures) (c .if1 .taken)
 
 walk-saves-requires : tie.Need-walk-saves-requires
 walk-saves-requires c κs = sym (c .before .before .before .before .check-all .ensures) ∙ c .before .before .before .if1 .left
-
-same-length-2 : tie.Need-same-length-2
-same-length-2 c = search needs
 
 returns-2 : tie.Need-returns-2
 returns-2 c = c .before .walk-saves .ensures
@@ -33,9 +24,9 @@ pub run-all-spec : {M : Type 1} → statement M
 run-all-spec =
     tie.close
     (tie.spec
-    check-all-requires
-    same-length
+    (λ c κs. search needs)
+    (λ c. search needs)
     returns
     walk-saves-requires
-    same-length-2
+    (λ c. search needs)
     returns-2)

@@ -5,20 +5,11 @@ use borrow.Author.Needs.{needs}
 use Rattle.lanes.proofs.values_ok.Statement.{statement}
 use Rattle.lanes.proofs.values_ok.Tie as tie
 
-counts-ok-requires : tie.Need-counts-ok-requires
-counts-ok-requires c κs = search needs
-
 returns : tie.Need-returns
 returns c = rw (sym (c .before .counts-ok .ensures) ∙ not-true _ (c .if1 .taken))
 
-bits-ok-requires : tie.Need-bits-ok-requires
-bits-ok-requires c κs = search needs
-
 returns-2 : tie.Need-returns-2
 returns-2 c = rw (sym (c .before .before .before .counts-ok .ensures) ∙ not-false _ (c .before .before .if1 .left), sym (c .before .bits-ok .ensures) ∙ not-true _ (c .if2 .taken))
-
-bits-ok-requires-2 : tie.Need-bits-ok-requires-2
-bits-ok-requires-2 c κs = search needs
 
 returns-3 : tie.Need-returns-3
 returns-3 c = rw (sym (c .before .before .before .before .counts-ok .ensures) ∙ not-false _ (c .before .before .before .if1 .left), sym (c .before .before .bits-ok .ensures) ∙ not-false _ (c .before .if2 .left)) (c .bits-ok2 .ensures)
@@ -26,4 +17,4 @@ returns-3 c = rw (sym (c .before .before .before .before .counts-ok .ensures) �
 pub values-ok-spec : {M : Type 1} → statement M
 values-ok-spec =
     tie.close
-    (tie.spec counts-ok-requires returns bits-ok-requires returns-2 bits-ok-requires-2 returns-3)
+    (tie.spec (λ c κs. search needs) returns (λ c κs. search needs) returns-2 (λ c κs. search needs) returns-3)

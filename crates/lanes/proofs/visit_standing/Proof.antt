@@ -13,17 +13,8 @@ use borrow.Author.Needs.{needs}
 use Rattle.lanes.proofs.visit_standing.Statement.{statement}
 use Rattle.lanes.proofs.visit_standing.Tie as tie
 
-gather-requires : tie.Need-gather-requires
-gather-requires c κs = search needs
-
-sub-visit-block : tie.Need-sub-visit-block
-sub-visit-block c = search needs
-
 visit-block-requires : tie.Need-visit-block-requires
 visit-block-requires c κs = (c .before .before .before .before .before .before .before .before .before .before .pre .0, lying-stand (c .before .before .before .before .before .before .before .before .before .before .pre .1) (c .before .before .before .before .before .gather .ensures), gathered-rising (c .before .before .before .before .before .gather .ensures) (c .before .before .before .before .before .before .before .before .before .before .pre .1 .few), countable (c .before .before .before .before .before .before .before .before .before .before .args .entered .now) (c .before .before .before .before .before .gather .ensures) (c .before .before .before .before .before .before .before .before .before .before .pre .3))
-
-same-length : tie.Need-same-length
-same-length c = search needs
 
 returns : tie.Need-returns
 returns c =
@@ -32,4 +23,4 @@ returns c =
 
 pub visit-standing-spec : {M : Type 1} → statement M
 visit-standing-spec =
-    tie.close (tie.spec gather-requires sub-visit-block visit-block-requires same-length returns)
+    tie.close (tie.spec (λ c κs. search needs) (λ c. search needs) visit-block-requires (λ c. search needs) returns)

@@ -7,12 +7,6 @@ use borrow.Author.Needs.{needs}
 use Rattle.lanes.proofs.walk_all.Statement.{statement}
 use Rattle.lanes.proofs.walk_all.Tie as tie
 
-add-word : tie.Need-add-word
-add-word c = search needs
-
-begin-requires : tie.Need-begin-requires
-begin-requires c κs = search needs
-
 visit-standing-requires : tie.Need-visit-standing-requires
 visit-standing-requires c κs = (c .before .before .before .before .before .before .before .before .before .before .pre .0, c .before .before .before .before .before .before .before .before .before .before .pre .1, omega arith, begun-counts 4294967294 _ _ _ _ (c .before .before .before .before .begin .ensures))
 
@@ -25,9 +19,6 @@ finish-requires c κs = c .before .before .before .before .before .before .befor
 add-result : tie.Need-add-result
 add-result c = omega (arith, c .before .before .before .before .walk-down .ensures [] .few, c .before .before .before .before .before .before .before .before .before .before .before .before .before .before .before .before .before .before .before .before .before .pre .0 .few)
 
-same-length : tie.Need-same-length
-same-length c = search needs
-
 returns : tie.Need-returns
 returns c = let a = c .before .before .before .before .before .before .before .before .before .before .before .before .before .before .before .before .before .before .before .before .before in lanes-walked (c .before .before .before .before .before .before .before .before .before .before .before .before .before .before .before .begin .ensures) (c .before .before .before .before .before .before .before .before .before .before .visit-standing .ensures (a .args .vars .now)) (script-length (memoryOf (a .args .ws .now) (a .args .val .now) (a .args .cw .now) (a .args .bw .now) (a .args .counts))) (c .before .before .before .before .walk-down .ensures (a .args .vars .now)) (c .finish .ensures)
 
@@ -35,11 +26,11 @@ pub walk-all-spec : {M : Type 1} → statement M
 walk-all-spec =
     tie.close
     (tie.spec
-    add-word
-    begin-requires
+    (λ c. search needs)
+    (λ c κs. search needs)
     visit-standing-requires
     walk-down-requires
     finish-requires
     add-result
-    same-length
+    (λ c. search needs)
     returns)

@@ -18,12 +18,6 @@ Inv-loop ws val cw bw counts k n m items atcs flags times vars₀ at₀ answers�
 abbrev μ-loop : tie.MeasureT-loop
 μ-loop ws val cw bw counts k n m items atcs flags times vars₀ at₀ answers₀ entered₀ read₀ top₀ word₀ vars at answers entered read top word = word
 
-cast-top : tie.Need-cast-top Inv-loop μ-loop
-cast-top c = search needs
-
-highest-requires : tie.Need-highest-requires Inv-loop μ-loop
-highest-requires c κs = search needs
-
 loop-holds : tie.Need-loop-holds Inv-loop μ-loop
 loop-holds c = (λ w. walking-none _ _ _ _ _ _ _ _, c .highest .ensures)
 
@@ -32,12 +26,6 @@ visit-standing-requires c κs = (c .before .before .before .before .before .befo
 
 add-read : tie.Need-add-read Inv-loop μ-loop
 add-read c = omega (arith, c .before .before .before .before .before .before .before .loop .inv .0 [] .low, c .before .before .before .before .before .before .before .before .before .before .before .before .before .pre .0 .few)
-
-sub-top : tie.Need-sub-top Inv-loop μ-loop
-sub-top c = omega arith
-
-highest-requires-2 : tie.Need-highest-requires-2 Inv-loop μ-loop
-highest-requires-2 c κs = search needs
 
 loop-less : tie.Need-loop-less Inv-loop μ-loop
 loop-less c = omega (arith, c .highest2 .ensures .low)
@@ -57,13 +45,13 @@ walk-down-spec =
     (tie.spec
     Inv-loop
     μ-loop
-    cast-top
-    highest-requires
+    (λ c. search needs)
+    (λ c κs. search needs)
     loop-holds
     visit-standing-requires
     add-read
-    sub-top
-    highest-requires-2
+    (λ c. omega arith)
+    (λ c κs. search needs)
     loop-less
     loop-again
     same-length

@@ -4,15 +4,6 @@ use borrow.Author.Needs.{needs}
 use Rattle.lanes.proofs.walk_one.Statement.{statement}
 use Rattle.lanes.proofs.walk_one.Tie as tie
 
-run-copied-requires : tie.Need-run-copied-requires
-run-copied-requires c κs = search needs
-
-element-write-answers : tie.Need-element-write-answers
-element-write-answers c = search needs
-
-element-write-entered : tie.Need-element-write-entered
-element-write-entered c = search needs
-
 same-length : tie.Need-same-length
 same-length c = search needs
 
@@ -23,8 +14,8 @@ pub walk-one-spec : {M : Type 1} → statement M
 walk-one-spec =
     tie.close
     (tie.spec
-    run-copied-requires
-    element-write-answers
-    element-write-entered
+    (λ c κs. search needs)
+    (λ c. search needs)
+    (λ c. search needs)
     same-length
     returns)

@@ -19,14 +19,8 @@ walk-one-requires c κs =
       omega (arith, saves-long (a .args .attached .now) (a .args .sheet) (saveOf (a .args .items .now) (a .args .atcs .now) (a .args .flags .now) (a .args .times .now) (a .args .vars .now)) (a .args .k) (p .lengths), c .before .before .before .if1 .taken),
     )
 
-same-length : tie.Need-same-length
-same-length c = search needs
-
 returns : tie.Need-returns
 returns c = let a = c .before .before .before .before .before .before .before .before .before in left-one (a .args .attached .now) (a .args .sheet) (memoryOf (a .args .ws .now) (a .args .val .now) (a .args .cw .now) (a .args .bw .now) (a .args .counts)) (a .args .start .0) (a .args .k) (saveOf (a .args .items .now) (a .args .atcs .now) (a .args .flags .now) (a .args .times .now) (a .args .vars .now)) (a .args .answers .now) (a .args .entered .now) (c .before .walk-one .result) _ _ _ (c .before .before .before .before .before .if1 .taken) (a .pre) (c .before .walk-one .ensures)
-
-cast-m : tie.Need-cast-m
-cast-m c = search needs
 
 walk-all-requires : tie.Need-walk-all-requires
 walk-all-requires c κs =
@@ -36,9 +30,6 @@ walk-all-requires c κs =
       saves-lie (a .args .attached .now) (a .args .sheet) (a .args .items .now) (a .args .atcs .now) (a .args .flags .now) (a .args .times .now) (a .args .vars .now) (a .args .k) (p .lengths) (p .few-saves),
       call-safe (sheetOf (a .args .attached .now) (a .args .sheet)) (memoryOf (a .args .ws .now) (a .args .val .now) (a .args .cw .now) (a .args .bw .now) (a .args .counts)) (a .args .start .0) (a .args .k) (saveOf (a .args .items .now) (a .args .atcs .now) (a .args .flags .now) (a .args .times .now) (a .args .vars .now)) (p .call) .1,
     )
-
-same-length-2 : tie.Need-same-length-2
-same-length-2 c = search needs
 
 returns-2 : tie.Need-returns-2
 returns-2 c =
@@ -51,9 +42,9 @@ walk-saves-spec =
     tie.close
     (tie.spec
     walk-one-requires
-    same-length
+    (λ c. search needs)
     returns
-    cast-m
+    (λ c. search needs)
     walk-all-requires
-    same-length-2
+    (λ c. search needs)
     returns-2)

@@ -25,29 +25,14 @@ add-command c = omega (arith, (c .before .before .before .before .pre .0 (c .bef
 command-requires : tie.Need-command-requires Inv-loop μ-loop
 command-requires c κs = (c .before .before .before .before .before .before .before .pre .0 (c .before .before .before .before .before .before .before .args .first + c .before .before .before .before .loop .i) (omega arith) (omega arith), stand-still (c .before .before .before .before .before .before .before .pre .1) (c .before .before .before .before .loop .inv .kept), c .before .before .before .before .before .before .before .pre .2)
 
-enum-told : tie.Need-enum-told Inv-loop μ-loop
-enum-told c = search needs
-
-add-i : tie.Need-add-i Inv-loop μ-loop
-add-i c = search needs
-
-loop-less : tie.Need-loop-less Inv-loop μ-loop
-loop-less c = omega arith
-
 loop-again : tie.Need-loop-again Inv-loop μ-loop
 loop-again c = one-passed _ _ _ _ _ _ _ _ _ _ _ (c .before .before .before .before .before .before .before .before .loop .inv) (c .before .before .before .before .before .before .before .loop-test .taken) (c .before .before .before .command .ensures) (c .enum-told .given .1)
-
-enum-known-f : tie.Need-enum-known-f Inv-loop μ-loop
-enum-known-f c = search needs
 
 same-length : tie.Need-same-length Inv-loop μ-loop
 same-length c = c .before .before .before .before .command .ensures 0 0 .kept .long ∙ c .before .before .before .before .before .before .before .before .before .loop .inv .kept .long
 
 returns : tie.Need-returns Inv-loop μ-loop
 returns c = out-passed _ _ _ _ _ _ _ _ _ _ _ (c .before .before .before .before .before .before .before .before .before .loop .inv) (c .before .before .before .before .before .before .before .before .loop-test .taken) (c .before .before .before .before .command .ensures) (c .before .f .given .1)
-
-follow-link-requires : tie.Need-follow-link-requires Inv-loop μ-loop
-follow-link-requires c κs = search needs
 
 same-length-2 : tie.Need-same-length-2 Inv-loop μ-loop
 same-length-2 c = c .before .before .loop .inv .kept .long
@@ -64,13 +49,13 @@ execute-block-spec =
     loop-holds
     add-command
     command-requires
-    enum-told
-    add-i
-    loop-less
+    (λ c. search needs)
+    (λ c. search needs)
+    (λ c. omega arith)
     loop-again
-    enum-known-f
+    (λ c. search needs)
     same-length
     returns
-    follow-link-requires
+    (λ c κs. search needs)
     same-length-2
     returns-2)

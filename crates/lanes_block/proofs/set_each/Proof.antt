@@ -7,23 +7,8 @@ use borrow.Author.Needs.{needs}
 use Rattle.lanes_block.proofs.set_each.Statement.{statement}
 use Rattle.lanes_block.proofs.set_each.Tie as tie
 
-add-evaluate-lanes : tie.Need-add-evaluate-lanes
-add-evaluate-lanes c = search needs
-
-evaluate-lanes-requires : tie.Need-evaluate-lanes-requires
-evaluate-lanes-requires c κs = search needs
-
-add-evaluate-lanes-2 : tie.Need-add-evaluate-lanes-2
-add-evaluate-lanes-2 c = search needs
-
-evaluate-lanes-requires-2 : tie.Need-evaluate-lanes-requires-2
-evaluate-lanes-requires-2 c κs = search needs
-
 store-lanes-requires : tie.Need-store-lanes-requires
 store-lanes-requires c κs = (c .before .before .before .before .before .before .before .before .before .before .before .before .before .before .pre .3, λ j h. c .before .before .before .before .before .before .before .before .before .before .before .before .before .before .pre .2 .lie j h .variables)
-
-same-length : tie.Need-same-length
-same-length c = search needs
 
 returns : tie.Need-returns
 returns c =
@@ -36,10 +21,10 @@ pub set-each-spec : {M : Type 1} → statement M
 set-each-spec =
     tie.close
     (tie.spec
-    add-evaluate-lanes
-    evaluate-lanes-requires
-    add-evaluate-lanes-2
-    evaluate-lanes-requires-2
+    (λ c. search needs)
+    (λ c κs. search needs)
+    (λ c. search needs)
+    (λ c κs. search needs)
     store-lanes-requires
-    same-length
+    (λ c. search needs)
     returns)

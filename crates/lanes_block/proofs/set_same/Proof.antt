@@ -12,32 +12,11 @@ use borrow.Author.Needs.{needs}
 use Rattle.lanes_block.proofs.set_same.Statement.{statement}
 use Rattle.lanes_block.proofs.set_same.Tie as tie
 
-add-number-below : tie.Need-add-number-below
-add-number-below c = search needs
-
-number-below-requires : tie.Need-number-below-requires
-number-below-requires c κs = search needs
-
-enum-known-v : tie.Need-enum-known-v
-enum-known-v c = search needs
-
 store-number-requires : tie.Need-store-number-requires
 store-number-requires c κs = (c .before .before .before .before .before .before .before .before .pre .2, λ j h. c .before .before .before .before .before .before .before .before .pre .1 .lie j h .variables)
 
-enum-told : tie.Need-enum-told
-enum-told c = search needs
-
-add-evaluate-lanes : tie.Need-add-evaluate-lanes
-add-evaluate-lanes c = search needs
-
-evaluate-lanes-requires : tie.Need-evaluate-lanes-requires
-evaluate-lanes-requires c κs = search needs
-
 store-same-requires : tie.Need-store-same-requires
 store-same-requires c κs = (c .before .before .before .before .before .before .before .before .before .before .before .before .pre .2, λ j h. c .before .before .before .before .before .before .before .before .before .before .before .before .pre .1 .lie j h .variables)
-
-same-length : tie.Need-same-length
-same-length c = search needs
 
 returns : tie.Need-returns
 returns c =
@@ -45,9 +24,6 @@ returns c =
     λ d nx t p.
     let ns = nodesIn (a .args .ws .now) (a .args .val .now) d in
     set-does (always-worth (toZ-ofZ (a .fits .k)) p) (always-worth refl (imm-always (tree ns (a .args .value)) _ (ap some (toZ-ofZ {w = w32} (record { sfits = c .before .before .before .before .known-told .given .0 .1 })) ∙ ap numberOf (sym (c .before .before .before .before .before .v .given .1)) ∙ (rw (below-root ns (a .args .value)) at (c .before .before .before .before .before .before .before .number-below .ensures d))))) (c .before .store-number .ensures)
-
-same-length-2 : tie.Need-same-length-2
-same-length-2 c = search needs
 
 returns-2 : tie.Need-returns-2
 returns-2 c =
@@ -58,15 +34,15 @@ pub set-same-spec : {M : Type 1} → statement M
 set-same-spec =
     tie.close
     (tie.spec
-    add-number-below
-    number-below-requires
-    enum-known-v
+    (λ c. search needs)
+    (λ c κs. search needs)
+    (λ c. search needs)
     store-number-requires
-    enum-told
-    add-evaluate-lanes
-    evaluate-lanes-requires
+    (λ c. search needs)
+    (λ c. search needs)
+    (λ c κs. search needs)
     store-same-requires
-    same-length
+    (λ c. search needs)
     returns
-    same-length-2
+    (λ c. search needs)
     returns-2)

@@ -11,27 +11,6 @@ use borrow.Author.Needs.{needs}
 use Rattle.lanes_block.proofs.set_variable.Statement.{statement}
 use Rattle.lanes_block.proofs.set_variable.Tie as tie
 
-add-number-below : tie.Need-add-number-below
-add-number-below c = search needs
-
-number-below-requires : tie.Need-number-below-requires
-number-below-requires c κs = search needs
-
-enum-known-t : tie.Need-enum-known-t
-enum-known-t c = search needs
-
-set-same-requires : tie.Need-set-same-requires
-set-same-requires c κs = search needs
-
-enum-told : tie.Need-enum-told
-enum-told c = search needs
-
-set-each-requires : tie.Need-set-each-requires
-set-each-requires c κs = search needs
-
-same-length : tie.Need-same-length
-same-length c = search needs
-
 returns : tie.Need-returns
 returns c =
     let a = c .before .before .before .before .before .before .before .before .before .before .before in
@@ -39,23 +18,17 @@ returns c =
     let ns = nodesIn (a .args .ws .now) (a .args .val .now) d in
     c .before .set-same .ensures d nx (tree ns (a .args .target)) (imm-always (tree ns (a .args .target)) _ (ap some (toZ-ofZ {w = w32} (record { sfits = c .before .before .before .before .before .known-told .given .0 .1 })) ∙ ap numberOf (sym (c .before .before .before .before .before .before .t .given .1)) ∙ (rw (below-root ns (a .args .target)) at (c .before .before .before .before .before .before .before .before .number-below .ensures d))))
 
-same-length-2 : tie.Need-same-length-2
-same-length-2 c = search needs
-
-returns-2 : tie.Need-returns-2
-returns-2 c = search needs
-
 pub set-variable-spec : {M : Type 1} → statement M
 set-variable-spec =
     tie.close
     (tie.spec
-    add-number-below
-    number-below-requires
-    enum-known-t
-    set-same-requires
-    enum-told
-    set-each-requires
-    same-length
+    (λ c. search needs)
+    (λ c κs. search needs)
+    (λ c. search needs)
+    (λ c κs. search needs)
+    (λ c. search needs)
+    (λ c κs. search needs)
+    (λ c. search needs)
     returns
-    same-length-2
-    returns-2)
+    (λ c. search needs)
+    (λ c. search needs))

@@ -18,17 +18,11 @@ Inv-loop lanes s out stops exit at₀ answers₀ entered₀ -all j₀ at answers
 abbrev μ-loop : tie.MeasureT-loop
 μ-loop lanes s out stops exit at₀ answers₀ entered₀ -all j₀ at answers entered j = s - j
 
-known-requires : tie.Need-known-requires Inv-loop μ-loop
-known-requires c κs = search needs
-
 loop-holds : tie.Need-loop-holds Inv-loop μ-loop
 loop-holds c = (omega arith, settled-none _ _ _ _ _ _ _)
 
 element-copy-out-lane-of : tie.Need-element-copy-out-lane-of Inv-loop μ-loop
 element-copy-out-lane-of c = omega (arith, c .before .before .before .before .before .before .pre .0 .few)
-
-lane-of-requires : tie.Need-lane-of-requires Inv-loop μ-loop
-lane-of-requires c κs = search needs
 
 mul-choose : tie.Need-mul-choose Inv-loop μ-loop
 mul-choose c = omega (arith, c .before .before .before .before .before .before .before .before .pre .0 .few)
@@ -38,9 +32,6 @@ element-copy-out-choose c = omega (arith, c .before .before .before .before .bef
 
 element-copy-out-choose-2 : tie.Need-element-copy-out-choose-2 Inv-loop μ-loop
 element-copy-out-choose-2 c = omega (arith, c .before .before .before .before .before .before .before .before .before .pre .0 .few)
-
-choose-requires : tie.Need-choose-requires Inv-loop μ-loop
-choose-requires c κs = search needs
 
 mul-at : tie.Need-mul-at Inv-loop μ-loop
 mul-at c = omega (arith, c .before .before .before .lane-of .ensures, c .before .before .before .before .before .before .before .before .before .before .before .pre .0 .low (c .before .before .before .before .before .before .loop .j) (c .before .before .before .before .before .loop-test .taken))
@@ -74,12 +65,6 @@ mul-entered-2 c = omega (arith, c .before .before .before .before .lane-of .ensu
 element-write-entered : tie.Need-element-write-entered Inv-loop μ-loop
 element-write-entered c = omega (arith, c .before .before .before .before .lane-of .ensures, c .before .before .before .before .before .before .before .before .before .before .before .before .pre .0 .low (c .before .before .before .before .before .before .before .loop .j) (c .before .before .before .before .before .before .loop-test .taken))
 
-add-j : tie.Need-add-j Inv-loop μ-loop
-add-j c = search needs
-
-loop-less : tie.Need-loop-less Inv-loop μ-loop
-loop-less c = omega arith
-
 loop-again : tie.Need-loop-again Inv-loop μ-loop
 loop-again c =
     let l = c .before .before .before .before .before .before .before in
@@ -100,14 +85,14 @@ settle-spec =
     (tie.spec
     Inv-loop
     μ-loop
-    known-requires
+    (λ c κs. search needs)
     loop-holds
     element-copy-out-lane-of
-    lane-of-requires
+    (λ c κs. search needs)
     mul-choose
     element-copy-out-choose
     element-copy-out-choose-2
-    choose-requires
+    (λ c κs. search needs)
     mul-at
     element-write-at
     element-write-answers
@@ -116,7 +101,7 @@ settle-spec =
     add-entered
     mul-entered-2
     element-write-entered
-    add-j
-    loop-less
+    (λ c. search needs)
+    (λ c. omega arith)
     loop-again
     returns)

@@ -16,21 +16,6 @@ returns-2 c = let s = c .before .before in stored-negative (s .args .vars .now) 
 cast-i : tie.Need-cast-i
 cast-i c = let s = c .before .before in rw (toZ-ofZ (s .fits .k)) (not-negative (s .args .k) (rw (toZ-ofZ (s .fits .k)) at (c .if2 .left)), fits-natAbs {w = w32} tt (s .fits .k))
 
-mul-x : tie.Need-mul-x
-mul-x c = search needs
-
-add-x : tie.Need-add-x
-add-x c = search needs
-
-mul-x-2 : tie.Need-mul-x-2
-mul-x-2 c = search needs
-
-slice-set-from-x : tie.Need-slice-set-from-x
-slice-set-from-x c = search needs
-
-same-length : tie.Need-same-length
-same-length c = search needs
-
 returns-3 : tie.Need-returns-3
 returns-3 c =
     let s = c .before .before .before in
@@ -48,10 +33,10 @@ store-lane-spec =
     returns
     returns-2
     cast-i
-    mul-x
-    add-x
-    mul-x-2
-    slice-set-from-x
-    same-length
+    (λ c. search needs)
+    (λ c. search needs)
+    (λ c. search needs)
+    (λ c. search needs)
+    (λ c. search needs)
     returns-3
     returns-4)

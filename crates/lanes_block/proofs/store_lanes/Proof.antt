@@ -21,32 +21,8 @@ abbrev μ-loop : tie.MeasureT-loop
 loop-holds : tie.Need-loop-holds Inv-loop μ-loop
 loop-holds c = (omega arith, stored-none _ _ _ _ _)
 
-element-copy-out-store-lane : tie.Need-element-copy-out-store-lane Inv-loop μ-loop
-element-copy-out-store-lane c = search needs
-
-mul-store-lane : tie.Need-mul-store-lane Inv-loop μ-loop
-mul-store-lane c = search needs
-
-element-copy-out-store-lane-2 : tie.Need-element-copy-out-store-lane-2 Inv-loop μ-loop
-element-copy-out-store-lane-2 c = search needs
-
-mul-store-lane-2 : tie.Need-mul-store-lane-2 Inv-loop μ-loop
-mul-store-lane-2 c = search needs
-
-element-copy-out-store-lane-3 : tie.Need-element-copy-out-store-lane-3 Inv-loop μ-loop
-element-copy-out-store-lane-3 c = search needs
-
-element-copy-out-store-lane-4 : tie.Need-element-copy-out-store-lane-4 Inv-loop μ-loop
-element-copy-out-store-lane-4 c = search needs
-
 store-lane-requires : tie.Need-store-lane-requires Inv-loop μ-loop
 store-lane-requires c κs = omega (arith, c .before .before .before .before .before .before .before .pre .1 (c .before .before .before .before .before .before .loop .j) (c .before .before .before .before .before .loop-test .taken), c .before .before .before .before .before .before .loop .inv .1 .kept .long)
-
-add-j : tie.Need-add-j Inv-loop μ-loop
-add-j c = search needs
-
-loop-less : tie.Need-loop-less Inv-loop μ-loop
-loop-less c = omega arith
 
 loop-again : tie.Need-loop-again Inv-loop μ-loop
 loop-again c =
@@ -68,15 +44,15 @@ store-lanes-spec =
     Inv-loop
     μ-loop
     loop-holds
-    element-copy-out-store-lane
-    mul-store-lane
-    element-copy-out-store-lane-2
-    mul-store-lane-2
-    element-copy-out-store-lane-3
-    element-copy-out-store-lane-4
+    (λ c. search needs)
+    (λ c. search needs)
+    (λ c. search needs)
+    (λ c. search needs)
+    (λ c. search needs)
+    (λ c. search needs)
     store-lane-requires
-    add-j
-    loop-less
+    (λ c. search needs)
+    (λ c. omega arith)
     loop-again
     same-length
     returns)

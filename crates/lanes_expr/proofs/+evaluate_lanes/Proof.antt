@@ -51,72 +51,17 @@ evaluate-lanes-below t =
 abbrev evaluate-lanes-claims : ℕ → evaluate-lanes-lts.Claims
 evaluate-lanes-claims t = (stop-lanes-reads.Asked, stop-lanes-reads.Learnt, kind-of-reads.Asked, kind-of-reads.Learnt, evaluate-lanes-below t, evaluate-lanes.Post, number-below-reads.Asked, number-below-reads.Learnt, repeated-reads.Asked, repeated-reads.Learnt, apply-two-lanes-reads.Asked, apply-two-lanes-reads.Learnt, stop-same-reads.Asked, stop-same-reads.Learnt, apply-same-lanes-reads.Asked, apply-same-lanes-reads.Learnt, stop-each-reads.Asked, stop-each-reads.Learnt, apply-one-lanes-reads.Asked, apply-one-lanes-reads.Learnt, fill-reads.Asked, fill-reads.Learnt)
 
-evaluate-lanes-stop-lanes-requires : (t : ℕ) → evaluate-lanes-lts.Need-stop-lanes-requires (evaluate-lanes-claims t) (evaluate-lanes-at t) evaluate-lanes.Post
-evaluate-lanes-stop-lanes-requires t c κs = search needs
-
 evaluate-lanes-returns : (t : ℕ) → evaluate-lanes-lts.Need-returns (evaluate-lanes-claims t) (evaluate-lanes-at t) evaluate-lanes.Post
 evaluate-lanes-returns t c = let s = c .before .before .before .before .before in λ k. out-done (s .args .n) (s .args .m) (value.reads (s .args .items .now) (s .args .atcs .now) (s .args .flags .now) (s .args .times .now)) (s .args .vars .now) (s .args .lanes .now) (s .args .s) (nodesIn (s .args .ws .now) (s .args .val .now) k) (s .args .b) (s .args .i) (c .before .before .if1 .taken) (c .stop-lanes .ensures)
-
-evaluate-lanes-mul-kind-of : (t : ℕ) → evaluate-lanes-lts.Need-mul-kind-of (evaluate-lanes-claims t) (evaluate-lanes-at t) evaluate-lanes.Post
-evaluate-lanes-mul-kind-of t c = search needs
-
-evaluate-lanes-mul-kind-of-2 : (t : ℕ) → evaluate-lanes-lts.Need-mul-kind-of-2 (evaluate-lanes-claims t) (evaluate-lanes-at t) evaluate-lanes.Post
-evaluate-lanes-mul-kind-of-2 t c = search needs
-
-evaluate-lanes-element-copy-out-kind-of :
-    (t : ℕ) → evaluate-lanes-lts.Need-element-copy-out-kind-of (evaluate-lanes-claims t) (evaluate-lanes-at t) evaluate-lanes.Post
-evaluate-lanes-element-copy-out-kind-of t c = search needs
-
-evaluate-lanes-kind-of-requires : (t : ℕ) → evaluate-lanes-lts.Need-kind-of-requires (evaluate-lanes-claims t) (evaluate-lanes-at t) evaluate-lanes.Post
-evaluate-lanes-kind-of-requires t c κs = search needs
-
-evaluate-lanes-mul-l : (t : ℕ) → evaluate-lanes-lts.Need-mul-l (evaluate-lanes-claims t) (evaluate-lanes-at t) evaluate-lanes.Post
-evaluate-lanes-mul-l t c = search needs
-
-evaluate-lanes-add-l : (t : ℕ) → evaluate-lanes-lts.Need-add-l (evaluate-lanes-claims t) (evaluate-lanes-at t) evaluate-lanes.Post
-evaluate-lanes-add-l t c = search needs
-
-evaluate-lanes-mul-l-2 : (t : ℕ) → evaluate-lanes-lts.Need-mul-l-2 (evaluate-lanes-claims t) (evaluate-lanes-at t) evaluate-lanes.Post
-evaluate-lanes-mul-l-2 t c = search needs
-
-evaluate-lanes-element-copy-out-l : (t : ℕ) → evaluate-lanes-lts.Need-element-copy-out-l (evaluate-lanes-claims t) (evaluate-lanes-at t) evaluate-lanes.Post
-evaluate-lanes-element-copy-out-l t c = search needs
-
-evaluate-lanes-mul-r : (t : ℕ) → evaluate-lanes-lts.Need-mul-r (evaluate-lanes-claims t) (evaluate-lanes-at t) evaluate-lanes.Post
-evaluate-lanes-mul-r t c = search needs
-
-evaluate-lanes-add-r : (t : ℕ) → evaluate-lanes-lts.Need-add-r (evaluate-lanes-claims t) (evaluate-lanes-at t) evaluate-lanes.Post
-evaluate-lanes-add-r t c = search needs
-
-evaluate-lanes-mul-r-2 : (t : ℕ) → evaluate-lanes-lts.Need-mul-r-2 (evaluate-lanes-claims t) (evaluate-lanes-at t) evaluate-lanes.Post
-evaluate-lanes-mul-r-2 t c = search needs
-
-evaluate-lanes-element-copy-out-r : (t : ℕ) → evaluate-lanes-lts.Need-element-copy-out-r (evaluate-lanes-claims t) (evaluate-lanes-at t) evaluate-lanes.Post
-evaluate-lanes-element-copy-out-r t c = search needs
-
-evaluate-lanes-enum-known-k : (t : ℕ) → evaluate-lanes-lts.Need-enum-known-k (evaluate-lanes-claims t) (evaluate-lanes-at t) evaluate-lanes.Post
-evaluate-lanes-enum-known-k t c = search needs
 
 evaluate-lanes-evaluate-lanes-requires : (t : ℕ) → evaluate-lanes-lts.Need-evaluate-lanes-requires (evaluate-lanes-claims t) (evaluate-lanes-at t) evaluate-lanes.Post
 evaluate-lanes-evaluate-lanes-requires t c κs = let s = c .before .before .before .before .before .before .before .before .before .before .before .before in
     let p : s .args .b ≡ t = s .pre .0 in
     let l = c .before .before .before .before .before .before .before .before .before .if1 .left in (omega (arith, l), (omega (arith, s .pre .1 .0, l), s .pre .1 .1))
 
-evaluate-lanes-number-below-requires : (t : ℕ) → evaluate-lanes-lts.Need-number-below-requires (evaluate-lanes-claims t) (evaluate-lanes-at t) evaluate-lanes.Post
-evaluate-lanes-number-below-requires t c κs = search needs
-
-evaluate-lanes-enum-known-q : (t : ℕ) → evaluate-lanes-lts.Need-enum-known-q (evaluate-lanes-claims t) (evaluate-lanes-at t) evaluate-lanes.Post
-evaluate-lanes-enum-known-q t c = search needs
-
-evaluate-lanes-repeated-requires : (t : ℕ) → evaluate-lanes-lts.Need-repeated-requires (evaluate-lanes-claims t) (evaluate-lanes-at t) evaluate-lanes.Post
-evaluate-lanes-repeated-requires t c κs = search needs
-
 evaluate-lanes-apply-two-lanes-requires :
     (t : ℕ) → evaluate-lanes-lts.Need-apply-two-lanes-requires (evaluate-lanes-claims t) (evaluate-lanes-at t) evaluate-lanes.Post
 evaluate-lanes-apply-two-lanes-requires t c κs = c .before .before .before .before .before .before .before .before .before .before .before .before .before .before .before .before .before .before .before .before .pre .1 .1 .few
-
-evaluate-lanes-enum-told : (t : ℕ) → evaluate-lanes-lts.Need-enum-told (evaluate-lanes-claims t) (evaluate-lanes-at t) evaluate-lanes.Post
-evaluate-lanes-enum-told t c = search needs
 
 evaluate-lanes-evaluate-lanes-requires-2 :
     (t : ℕ) → evaluate-lanes-lts.Need-evaluate-lanes-requires-2 (evaluate-lanes-claims t) (evaluate-lanes-at t) evaluate-lanes.Post
@@ -128,24 +73,8 @@ evaluate-lanes-apply-two-lanes-requires-2 :
     (t : ℕ) → evaluate-lanes-lts.Need-apply-two-lanes-requires-2 (evaluate-lanes-claims t) (evaluate-lanes-at t) evaluate-lanes.Post
 evaluate-lanes-apply-two-lanes-requires-2 t c κs = c .before .before .before .before .before .before .before .before .before .before .before .before .before .before .before .before .before .before .before .before .before .pre .1 .1 .few
 
-evaluate-lanes-enum-known-k-2 : (t : ℕ) → evaluate-lanes-lts.Need-enum-known-k-2 (evaluate-lanes-claims t) (evaluate-lanes-at t) evaluate-lanes.Post
-evaluate-lanes-enum-known-k-2 t c = search needs
-
-evaluate-lanes-number-below-requires-2 : (t : ℕ) → evaluate-lanes-lts.Need-number-below-requires-2 (evaluate-lanes-claims t) (evaluate-lanes-at t) evaluate-lanes.Post
-evaluate-lanes-number-below-requires-2 t c κs = search needs
-
-evaluate-lanes-enum-known-q-2 : (t : ℕ) → evaluate-lanes-lts.Need-enum-known-q-2 (evaluate-lanes-claims t) (evaluate-lanes-at t) evaluate-lanes.Post
-evaluate-lanes-enum-known-q-2 t c = search needs
-
 evaluate-lanes-stop-same-requires : (t : ℕ) → evaluate-lanes-lts.Need-stop-same-requires (evaluate-lanes-claims t) (evaluate-lanes-at t) evaluate-lanes.Post
 evaluate-lanes-stop-same-requires t c κs = c .before .before .before .before .before .before .before .before .before .before .before .before .before .before .before .pre .1 .1 .few
-
-evaluate-lanes-apply-same-lanes-requires :
-    (t : ℕ) → evaluate-lanes-lts.Need-apply-same-lanes-requires (evaluate-lanes-claims t) (evaluate-lanes-at t) evaluate-lanes.Post
-evaluate-lanes-apply-same-lanes-requires t c κs = search needs
-
-evaluate-lanes-enum-told-2 : (t : ℕ) → evaluate-lanes-lts.Need-enum-told-2 (evaluate-lanes-claims t) (evaluate-lanes-at t) evaluate-lanes.Post
-evaluate-lanes-enum-told-2 t c = search needs
 
 evaluate-lanes-evaluate-lanes-requires-3 :
     (t : ℕ) → evaluate-lanes-lts.Need-evaluate-lanes-requires-3 (evaluate-lanes-claims t) (evaluate-lanes-at t) evaluate-lanes.Post
@@ -158,36 +87,6 @@ evaluate-lanes-stop-each-requires t c κs = c .before .before .before .before .b
 
 evaluate-lanes-apply-one-lanes-requires : (t : ℕ) → evaluate-lanes-lts.Need-apply-one-lanes-requires (evaluate-lanes-claims t) (evaluate-lanes-at t) evaluate-lanes.Post
 evaluate-lanes-apply-one-lanes-requires t c κs = c .before .before .before .before .before .before .before .before .before .before .before .before .before .before .before .before .before .before .before .before .pre .1 .1
-
-evaluate-lanes-enum-told-3 : (t : ℕ) → evaluate-lanes-lts.Need-enum-told-3 (evaluate-lanes-claims t) (evaluate-lanes-at t) evaluate-lanes.Post
-evaluate-lanes-enum-told-3 t c = search needs
-
-evaluate-lanes-mul-fill : (t : ℕ) → evaluate-lanes-lts.Need-mul-fill (evaluate-lanes-claims t) (evaluate-lanes-at t) evaluate-lanes.Post
-evaluate-lanes-mul-fill t c = search needs
-
-evaluate-lanes-element-copy-out-fill : (t : ℕ) → evaluate-lanes-lts.Need-element-copy-out-fill (evaluate-lanes-claims t) (evaluate-lanes-at t) evaluate-lanes.Post
-evaluate-lanes-element-copy-out-fill t c = search needs
-
-evaluate-lanes-fill-requires : (t : ℕ) → evaluate-lanes-lts.Need-fill-requires (evaluate-lanes-claims t) (evaluate-lanes-at t) evaluate-lanes.Post
-evaluate-lanes-fill-requires t c κs = search needs
-
-evaluate-lanes-enum-told-4 : (t : ℕ) → evaluate-lanes-lts.Need-enum-told-4 (evaluate-lanes-claims t) (evaluate-lanes-at t) evaluate-lanes.Post
-evaluate-lanes-enum-told-4 t c = search needs
-
-evaluate-lanes-mul-fill-2 : (t : ℕ) → evaluate-lanes-lts.Need-mul-fill-2 (evaluate-lanes-claims t) (evaluate-lanes-at t) evaluate-lanes.Post
-evaluate-lanes-mul-fill-2 t c = search needs
-
-evaluate-lanes-element-copy-out-fill-2 : (t : ℕ) → evaluate-lanes-lts.Need-element-copy-out-fill-2 (evaluate-lanes-claims t) (evaluate-lanes-at t) evaluate-lanes.Post
-evaluate-lanes-element-copy-out-fill-2 t c = search needs
-
-evaluate-lanes-fill-requires-2 : (t : ℕ) → evaluate-lanes-lts.Need-fill-requires-2 (evaluate-lanes-claims t) (evaluate-lanes-at t) evaluate-lanes.Post
-evaluate-lanes-fill-requires-2 t c κs = search needs
-
-evaluate-lanes-enum-told-5 : (t : ℕ) → evaluate-lanes-lts.Need-enum-told-5 (evaluate-lanes-claims t) (evaluate-lanes-at t) evaluate-lanes.Post
-evaluate-lanes-enum-told-5 t c = search needs
-
-evaluate-lanes-stop-lanes-requires-2 : (t : ℕ) → evaluate-lanes-lts.Need-stop-lanes-requires-2 (evaluate-lanes-claims t) (evaluate-lanes-at t) evaluate-lanes.Post
-evaluate-lanes-stop-lanes-requires-2 t c κs = search needs
 
 evaluate-lanes-returns-2 : (t : ℕ) → evaluate-lanes-lts.Need-returns-2 (evaluate-lanes-claims t) (evaluate-lanes-at t) evaluate-lanes.Post
 evaluate-lanes-returns-2 t c = let s = c .before .before .before .before .before .before .before .before .before .before .before .before .before .before .before .before .before .before .before .before .before in
@@ -226,48 +125,48 @@ pub +evaluate-lanes-spec : {M : Type 1} → statement M
 +evaluate-lanes-spec = close μ-evaluate-lanes λ t. evaluate-lanes-lts.spec (evaluate-lanes-claims t)
     (evaluate-lanes-at t)
     evaluate-lanes.Post
-    (evaluate-lanes-stop-lanes-requires t)
+    (λ c κs. search needs)
     (evaluate-lanes-returns t)
-    (evaluate-lanes-mul-kind-of t)
-    (evaluate-lanes-mul-kind-of-2 t)
-    (evaluate-lanes-element-copy-out-kind-of t)
-    (evaluate-lanes-kind-of-requires t)
-    (evaluate-lanes-mul-l t)
-    (evaluate-lanes-add-l t)
-    (evaluate-lanes-mul-l-2 t)
-    (evaluate-lanes-element-copy-out-l t)
-    (evaluate-lanes-mul-r t)
-    (evaluate-lanes-add-r t)
-    (evaluate-lanes-mul-r-2 t)
-    (evaluate-lanes-element-copy-out-r t)
-    (evaluate-lanes-enum-known-k t)
+    (λ c. search needs)
+    (λ c. search needs)
+    (λ c. search needs)
+    (λ c κs. search needs)
+    (λ c. search needs)
+    (λ c. search needs)
+    (λ c. search needs)
+    (λ c. search needs)
+    (λ c. search needs)
+    (λ c. search needs)
+    (λ c. search needs)
+    (λ c. search needs)
+    (λ c. search needs)
     (evaluate-lanes-evaluate-lanes-requires t)
-    (evaluate-lanes-number-below-requires t)
-    (evaluate-lanes-enum-known-q t)
-    (evaluate-lanes-repeated-requires t)
+    (λ c κs. search needs)
+    (λ c. search needs)
+    (λ c κs. search needs)
     (evaluate-lanes-apply-two-lanes-requires t)
-    (evaluate-lanes-enum-told t)
+    (λ c. search needs)
     (evaluate-lanes-evaluate-lanes-requires-2 t)
     (evaluate-lanes-apply-two-lanes-requires-2 t)
-    (evaluate-lanes-enum-known-k-2 t)
-    (evaluate-lanes-number-below-requires-2 t)
-    (evaluate-lanes-enum-known-q-2 t)
+    (λ c. search needs)
+    (λ c κs. search needs)
+    (λ c. search needs)
     (evaluate-lanes-stop-same-requires t)
-    (evaluate-lanes-apply-same-lanes-requires t)
-    (evaluate-lanes-enum-told-2 t)
+    (λ c κs. search needs)
+    (λ c. search needs)
     (evaluate-lanes-evaluate-lanes-requires-3 t)
     (evaluate-lanes-stop-each-requires t)
     (evaluate-lanes-apply-one-lanes-requires t)
-    (evaluate-lanes-enum-told-3 t)
-    (evaluate-lanes-mul-fill t)
-    (evaluate-lanes-element-copy-out-fill t)
-    (evaluate-lanes-fill-requires t)
-    (evaluate-lanes-enum-told-4 t)
-    (evaluate-lanes-mul-fill-2 t)
-    (evaluate-lanes-element-copy-out-fill-2 t)
-    (evaluate-lanes-fill-requires-2 t)
-    (evaluate-lanes-enum-told-5 t)
-    (evaluate-lanes-stop-lanes-requires-2 t)
+    (λ c. search needs)
+    (λ c. search needs)
+    (λ c. search needs)
+    (λ c κs. search needs)
+    (λ c. search needs)
+    (λ c. search needs)
+    (λ c. search needs)
+    (λ c κs. search needs)
+    (λ c. search needs)
+    (λ c κs. search needs)
     (evaluate-lanes-returns-2 t)
     (evaluate-lanes-returns-3 t)
     (evaluate-lanes-returns-4 t)

@@ -19,42 +19,6 @@ arm : (c : tie.Start) (r : ℤ) (p : Op1) → SFits w32 r → c .args .o ≡ p �
     → toZ w32 (ofZ w32 r) ≡ applyIn (c .args .n) (c .args .m) (value.reads (c .args .items .now) (c .args .atcs .now) (c .args .flags .now) (c .args .times .now)) (c .args .vars .now) (c .args .o) (c .args .l) (c .args .x)
 arm c r p f e q = toZ-ofZ f ∙ q ∙ rw e
 
-enum-told : tie.Need-enum-told
-enum-told c = search needs
-
-apply-two-requires : tie.Need-apply-two-requires
-apply-two-requires c κs = search needs
-
-enum-told-2 : tie.Need-enum-told-2
-enum-told-2 c = search needs
-
-byte-in-requires : tie.Need-byte-in-requires
-byte-in-requires c κs = search needs
-
-enum-told-3 : tie.Need-enum-told-3
-enum-told-3 c = search needs
-
-number-in-requires : tie.Need-number-in-requires
-number-in-requires c κs = search needs
-
-enum-told-4 : tie.Need-enum-told-4
-enum-told-4 c = search needs
-
-short-in-requires : tie.Need-short-in-requires
-short-in-requires c κs = search needs
-
-enum-told-5 : tie.Need-enum-told-5
-enum-told-5 c = search needs
-
-byte-in-requires-2 : tie.Need-byte-in-requires-2
-byte-in-requires-2 c κs = search needs
-
-enum-told-6 : tie.Need-enum-told-6
-enum-told-6 c = search needs
-
-short-in-requires-2 : tie.Need-short-in-requires-2
-short-in-requires-2 c κs = search needs
-
 returns : tie.Need-returns
 returns c = arm (c .before .before .before .before .before) _ _ (record { sfits = c .apply-two .ok }) (c .before .enum-told .given .1) (rw (toZ-ofZ (c .before .before .before .before .before .fits .x)) at (c .apply-two .ensures))
 
@@ -77,18 +41,18 @@ pub apply-in-spec : {M : Type 1} → statement M
 apply-in-spec =
     tie.close
     (tie.spec
-    enum-told
-    apply-two-requires
-    enum-told-2
-    byte-in-requires
-    enum-told-3
-    number-in-requires
-    enum-told-4
-    short-in-requires
-    enum-told-5
-    byte-in-requires-2
-    enum-told-6
-    short-in-requires-2
+    (λ c. search needs)
+    (λ c κs. search needs)
+    (λ c. search needs)
+    (λ c κs. search needs)
+    (λ c. search needs)
+    (λ c κs. search needs)
+    (λ c. search needs)
+    (λ c κs. search needs)
+    (λ c. search needs)
+    (λ c κs. search needs)
+    (λ c. search needs)
+    (λ c κs. search needs)
     returns
     returns-2
     returns-3

@@ -20,25 +20,10 @@ arm : (c : tie.Start) (p : Op1) {xs′ : List ℤ} → c .args .o ≡ p → Each
     → Each (pos 0) (λ j x. applyIn (c .args .n) (c .args .m) (value.reads (c .args .items .now) (c .args .atcs .now) (c .args .flags .now) (c .args .times .now)) (c .args .vars .now) (c .args .o) (getD (c .args .lanes .now) j 0) x) (c .args .s) (c .args .out .now) xs′
 arm c p e h = rw e h
 
-enum-told : tie.Need-enum-told
-enum-told c = search needs
-
-repeated-requires : tie.Need-repeated-requires
-repeated-requires c κs = search needs
-
-two-each-requires : tie.Need-two-each-requires
-two-each-requires c κs = search needs
-
-one-each-requires : tie.Need-one-each-requires
-one-each-requires c κs = search needs
-
 returns : tie.Need-returns
 returns c = arm (c .before .before .before .before .before .before .before .before) _ (c .before .before .before .before .enum-told .given .1) (each-as (c .two-each .ensures) (λ j x. ap (λ (y : List ℤ). apply2 Equal x (getD y j (pos 0))) (c .before .before .before .repeated .ensures) ∙ ap (apply2 Equal x) (same-at 64 j (pos 0))))
-
-returns-2 : tie.Need-returns-2
-returns-2 c = search needs
 
 pub apply-one-lanes-spec : {M : Type 1} → statement M
 apply-one-lanes-spec =
     tie.close
-    (tie.spec enum-told repeated-requires two-each-requires one-each-requires returns returns-2)
+    (tie.spec (λ c. search needs) (λ c κs. search needs) (λ c κs. search needs) (λ c κs. search needs) returns (λ c. search needs))

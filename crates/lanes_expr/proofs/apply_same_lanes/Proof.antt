@@ -19,41 +19,17 @@ arm : (c : tie.Start) (p : Op1) {f : ℕ → ℤ → ℤ} {xs′ : List ℤ} →
     → Each (pos 0) (λ j _. applyIn (c .args .n) (c .args .m) (value.reads (c .args .items .now) (c .args .atcs .now) (c .args .flags .now) (c .args .times .now)) (c .args .vars .now) (c .args .o) (getD (c .args .lanes .now) j 0) (c .args .x)) (c .args .s) (c .args .out .now) xs′
 arm c p e h q = each-as h (λ j y. q j y ∙ rw e)
 
-enum-told : tie.Need-enum-told
-enum-told c = search needs
-
-apply-two-requires : tie.Need-apply-two-requires
-apply-two-requires c κs = search needs
-
-fill-requires : tie.Need-fill-requires
-fill-requires c κs = search needs
-
-enum-told-2 : tie.Need-enum-told-2
-enum-told-2 c = search needs
-
 same-bytes-requires : tie.Need-same-bytes-requires
 same-bytes-requires c κs = record { few = c .before .before .before .before .before .pre .few; lie = λ j l. c .before .before .before .before .before .pre .lie j l .flags }
-
-enum-told-3 : tie.Need-enum-told-3
-enum-told-3 c = search needs
 
 same-numbers-requires : tie.Need-same-numbers-requires
 same-numbers-requires c κs = record { few = c .before .before .before .before .before .pre .few; lie = λ j l. c .before .before .before .before .before .pre .lie j l .variables }
 
-enum-told-4 : tie.Need-enum-told-4
-enum-told-4 c = search needs
-
 same-shorts-requires : tie.Need-same-shorts-requires
 same-shorts-requires c κs = record { few = c .before .before .before .before .before .pre .few; lie = λ j l. c .before .before .before .before .before .pre .lie j l .items }
 
-enum-told-5 : tie.Need-enum-told-5
-enum-told-5 c = search needs
-
 same-bytes-requires-2 : tie.Need-same-bytes-requires-2
 same-bytes-requires-2 c κs = record { few = c .before .before .before .before .before .pre .few; lie = λ j l. c .before .before .before .before .before .pre .lie j l .atcs }
-
-enum-told-6 : tie.Need-enum-told-6
-enum-told-6 c = search needs
 
 same-shorts-requires-2 : tie.Need-same-shorts-requires-2
 same-shorts-requires-2 c κs = record { few = c .before .before .before .before .before .pre .few; lie = λ j l. c .before .before .before .before .before .pre .lie j l .times }
@@ -80,18 +56,18 @@ pub apply-same-lanes-spec : {M : Type 1} → statement M
 apply-same-lanes-spec =
     tie.close
     (tie.spec
-    enum-told
-    apply-two-requires
-    fill-requires
-    enum-told-2
+    (λ c. search needs)
+    (λ c κs. search needs)
+    (λ c κs. search needs)
+    (λ c. search needs)
     same-bytes-requires
-    enum-told-3
+    (λ c. search needs)
     same-numbers-requires
-    enum-told-4
+    (λ c. search needs)
     same-shorts-requires
-    enum-told-5
+    (λ c. search needs)
     same-bytes-requires-2
-    enum-told-6
+    (λ c. search needs)
     same-shorts-requires-2
     returns
     returns-2

@@ -15,66 +15,6 @@ use Rattle.lanes_expr.proofs.apply_two_lanes.Tie as tie
 arm : {o p : Op2} {s : ℕ} {xs xs′ : List ℤ} (ys : List ℤ) → o ≡ p → Each (pos 0) (λ j x. apply2 p x (getD ys j (pos 0))) s xs xs′ → Each (pos 0) (λ j x. apply2 o x (getD ys j (pos 0))) s xs xs′
 arm ys e h = rw e h
 
-enum-told : tie.Need-enum-told
-enum-told c = search needs
-
-two-each-requires : tie.Need-two-each-requires
-two-each-requires c κs = search needs
-
-enum-told-2 : tie.Need-enum-told-2
-enum-told-2 c = search needs
-
-two-each-requires-2 : tie.Need-two-each-requires-2
-two-each-requires-2 c κs = search needs
-
-enum-told-3 : tie.Need-enum-told-3
-enum-told-3 c = search needs
-
-two-each-requires-3 : tie.Need-two-each-requires-3
-two-each-requires-3 c κs = search needs
-
-enum-told-4 : tie.Need-enum-told-4
-enum-told-4 c = search needs
-
-two-each-requires-4 : tie.Need-two-each-requires-4
-two-each-requires-4 c κs = search needs
-
-enum-told-5 : tie.Need-enum-told-5
-enum-told-5 c = search needs
-
-two-each-requires-5 : tie.Need-two-each-requires-5
-two-each-requires-5 c κs = search needs
-
-enum-told-6 : tie.Need-enum-told-6
-enum-told-6 c = search needs
-
-two-each-requires-6 : tie.Need-two-each-requires-6
-two-each-requires-6 c κs = search needs
-
-enum-told-7 : tie.Need-enum-told-7
-enum-told-7 c = search needs
-
-two-each-requires-7 : tie.Need-two-each-requires-7
-two-each-requires-7 c κs = search needs
-
-enum-told-8 : tie.Need-enum-told-8
-enum-told-8 c = search needs
-
-two-each-requires-8 : tie.Need-two-each-requires-8
-two-each-requires-8 c κs = search needs
-
-enum-told-9 : tie.Need-enum-told-9
-enum-told-9 c = search needs
-
-two-each-requires-9 : tie.Need-two-each-requires-9
-two-each-requires-9 c κs = search needs
-
-enum-told-10 : tie.Need-enum-told-10
-enum-told-10 c = search needs
-
-two-each-requires-10 : tie.Need-two-each-requires-10
-two-each-requires-10 c κs = search needs
-
 returns : tie.Need-returns
 returns c = arm (c .before .before .before .before .args .right .now) (c .before .before .enum-told .given .1) (c .two-each .ensures)
 
@@ -109,26 +49,26 @@ pub apply-two-lanes-spec : {M : Type 1} → statement M
 apply-two-lanes-spec =
     tie.close
     (tie.spec
-    enum-told
-    two-each-requires
-    enum-told-2
-    two-each-requires-2
-    enum-told-3
-    two-each-requires-3
-    enum-told-4
-    two-each-requires-4
-    enum-told-5
-    two-each-requires-5
-    enum-told-6
-    two-each-requires-6
-    enum-told-7
-    two-each-requires-7
-    enum-told-8
-    two-each-requires-8
-    enum-told-9
-    two-each-requires-9
-    enum-told-10
-    two-each-requires-10
+    (λ c. search needs)
+    (λ c κs. search needs)
+    (λ c. search needs)
+    (λ c κs. search needs)
+    (λ c. search needs)
+    (λ c κs. search needs)
+    (λ c. search needs)
+    (λ c κs. search needs)
+    (λ c. search needs)
+    (λ c κs. search needs)
+    (λ c. search needs)
+    (λ c κs. search needs)
+    (λ c. search needs)
+    (λ c κs. search needs)
+    (λ c. search needs)
+    (λ c κs. search needs)
+    (λ c. search needs)
+    (λ c κs. search needs)
+    (λ c. search needs)
+    (λ c κs. search needs)
     returns
     returns-2
     returns-3

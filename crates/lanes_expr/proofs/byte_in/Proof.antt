@@ -8,20 +8,8 @@ use borrow.Author.Needs.{needs}
 use Rattle.lanes_expr.proofs.byte_in.Statement.{statement}
 use Rattle.lanes_expr.proofs.byte_in.Tie as tie
 
-place-in-requires : tie.Need-place-in-requires
-place-in-requires c κs = search needs
-
-enum-known-p : tie.Need-enum-known-p
-enum-known-p c = search needs
-
 shared-slice-read-signed-of : tie.Need-shared-slice-read-signed-of
 shared-slice-read-signed-of c = let p = placed _ _ (c .before .before .before .before .before .before .args .x) (c .before .before .p .given .0 .0) (sym (c .before .before .p .given .1) ∙ (rw (toZ-ofZ (c .before .before .before .before .before .before .fits .x)) at (c .before .before .before .before .place-in .ensures))) in omega (arith, c .before .before .before .before .before .before .pre)
-
-signed-of-requires : tie.Need-signed-of-requires
-signed-of-requires c κs = search needs
-
-enum-told : tie.Need-enum-told
-enum-told c = search needs
 
 returns : tie.Need-returns
 returns c = toZ-ofZ {w = w32} (record { sfits = c .signed-of .ok }) ∙ c .signed-of .ensures ∙ nat-placed (c .before .before .before .before .before .before .before .args .list .now) (placed _ _ (c .before .before .before .before .before .before .before .args .x) (c .before .before .before .p .given .0 .0) (sym (c .before .before .before .p .given .1) ∙ (rw (toZ-ofZ (c .before .before .before .before .before .before .before .fits .x)) at (c .before .before .before .before .before .place-in .ensures))))
@@ -33,10 +21,10 @@ pub byte-in-spec : {M : Type 1} → statement M
 byte-in-spec =
     tie.close
     (tie.spec
-    place-in-requires
-    enum-known-p
+    (λ c κs. search needs)
+    (λ c. search needs)
     shared-slice-read-signed-of
-    signed-of-requires
-    enum-told
+    (λ c κs. search needs)
+    (λ c. search needs)
     returns
     returns-2)

@@ -17,23 +17,8 @@ Inv-loop z s out₀ -all j₀ out j = (j ≤ s) × Each (pos 0) (λ _ _. toZ w32
 abbrev μ-loop : tie.MeasureT-loop
 μ-loop z s out₀ -all j₀ out j = s - j
 
-known-requires : tie.Need-known-requires Inv-loop μ-loop
-known-requires c κs = search needs
-
 loop-holds : tie.Need-loop-holds Inv-loop μ-loop
 loop-holds c = (omega arith, each-none _ _ _)
-
-mul-z : tie.Need-mul-z Inv-loop μ-loop
-mul-z c = search needs
-
-element-set-from-z : tie.Need-element-set-from-z Inv-loop μ-loop
-element-set-from-z c = search needs
-
-add-j : tie.Need-add-j Inv-loop μ-loop
-add-j c = search needs
-
-loop-less : tie.Need-loop-less Inv-loop μ-loop
-loop-less c = omega arith
 
 loop-again : tie.Need-loop-again Inv-loop μ-loop
 loop-again c = (omega arith, each-more (c .before .loop .inv .1) (omega (arith, c .before .before .known .ensures)) refl)
@@ -47,11 +32,11 @@ fill-spec =
     (tie.spec
     Inv-loop
     μ-loop
-    known-requires
+    (λ c κs. search needs)
     loop-holds
-    mul-z
-    element-set-from-z
-    add-j
-    loop-less
+    (λ c. search needs)
+    (λ c. search needs)
+    (λ c. search needs)
+    (λ c. omega arith)
     loop-again
     returns)

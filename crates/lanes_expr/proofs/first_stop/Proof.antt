@@ -10,11 +10,8 @@ stands : (a r : ℕ) → (a ≡ 0 → ⊥) → a ≡ firstOf2 a r
 stands zero r d = absurd (d refl)
 stands (suc a) r d = refl
 
-returns : tie.Need-returns
-returns c = search needs
-
 returns-2 : tie.Need-returns-2
 returns-2 c = stands _ _ (c .if1 .left)
 
 pub first-stop-spec : {M : Type 1} → statement M
-first-stop-spec = tie.close (tie.spec returns returns-2)
+first-stop-spec = tie.close (tie.spec (λ c. search needs) returns-2)

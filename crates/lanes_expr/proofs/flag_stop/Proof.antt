@@ -12,9 +12,6 @@ use Rattle.lanes_expr.proofs.flag_stop.Tie as tie
 answered : (r a b : Bool) → r ≡ a → r ≡ b → cond b 0 noFlag ≡ cond a 0 noFlag
 answered r a b p q = ap (λ (t : Bool). cond t 0 noFlag) (sym q ∙ p)
 
-is-flag-requires : tie.Need-is-flag-requires
-is-flag-requires c κs = search needs
-
 returns : tie.Need-returns
 returns c = answered _ _ true (rw (toZ-ofZ (c .before .before .fits .x)) at (c .before .is-flag .ensures)) (c .if1 .taken)
 
@@ -22,4 +19,4 @@ returns-2 : tie.Need-returns-2
 returns-2 c = answered _ _ false (rw (toZ-ofZ (c .before .before .fits .x)) at (c .before .is-flag .ensures)) (c .if1 .left)
 
 pub flag-stop-spec : {M : Type 1} → statement M
-flag-stop-spec = tie.close (tie.spec is-flag-requires returns returns-2)
+flag-stop-spec = tie.close (tie.spec (λ c κs. search needs) returns returns-2)

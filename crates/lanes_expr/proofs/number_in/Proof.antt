@@ -8,20 +8,11 @@ use borrow.Author.Needs.{needs}
 use Rattle.lanes_expr.proofs.number_in.Statement.{statement}
 use Rattle.lanes_expr.proofs.number_in.Tie as tie
 
-place-in-requires : tie.Need-place-in-requires
-place-in-requires c κs = search needs
-
-enum-known-p : tie.Need-enum-known-p
-enum-known-p c = search needs
-
 mul-result : tie.Need-mul-result
 mul-result c = let p = placed _ _ (c .before .before .before .before .args .x) (c .before .p .given .0 .0) (sym (c .before .p .given .1) ∙ (rw (toZ-ofZ (c .before .before .before .before .fits .x)) at (c .before .before .before .place-in .ensures))) in record { fits = omega (arith, c .before .before .before .before .pre, c .before .before .before .before .good .0 .1) }
 
 shared-slice-copy-out-result : tie.Need-shared-slice-copy-out-result
 shared-slice-copy-out-result c = let p = placed _ _ (c .before .before .before .before .args .x) (c .before .p .given .0 .0) (sym (c .before .p .given .1) ∙ (rw (toZ-ofZ (c .before .before .before .before .fits .x)) at (c .before .before .before .place-in .ensures))) in omega (arith, c .before .before .before .before .pre)
-
-enum-told : tie.Need-enum-told
-enum-told c = search needs
 
 returns : tie.Need-returns
 returns c = toZ-ofZ {w = w32} (record { sfits = c .result .given }) ∙ int-placed (c .before .before .before .before .before .args .list .now) (placed _ _ (c .before .before .before .before .before .args .x) (c .before .before .p .given .0 .0) (sym (c .before .before .p .given .1) ∙ (rw (toZ-ofZ (c .before .before .before .before .before .fits .x)) at (c .before .before .before .before .place-in .ensures))))
@@ -33,10 +24,10 @@ pub number-in-spec : {M : Type 1} → statement M
 number-in-spec =
     tie.close
     (tie.spec
-    place-in-requires
-    enum-known-p
+    (λ c κs. search needs)
+    (λ c. search needs)
     mul-result
     shared-slice-copy-out-result
-    enum-told
+    (λ c. search needs)
     returns
     returns-2)

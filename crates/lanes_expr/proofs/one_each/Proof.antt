@@ -19,38 +19,11 @@ Inv-loop o lanes s n m items atcs flags times vars out₀ -all j₀ out j = (j �
 abbrev μ-loop : tie.MeasureT-loop
 μ-loop o lanes s n m items atcs flags times vars out₀ -all j₀ out j = s - j
 
-known-requires : tie.Need-known-requires Inv-loop μ-loop
-known-requires c κs = search needs
-
 loop-holds : tie.Need-loop-holds Inv-loop μ-loop
 loop-holds c = (omega arith, each-none _ _ _)
 
-element-copy-out-lane-of : tie.Need-element-copy-out-lane-of Inv-loop μ-loop
-element-copy-out-lane-of c = search needs
-
-lane-of-requires : tie.Need-lane-of-requires Inv-loop μ-loop
-lane-of-requires c κs = search needs
-
-mul-x : tie.Need-mul-x Inv-loop μ-loop
-mul-x c = search needs
-
-element-copy-out-x : tie.Need-element-copy-out-x Inv-loop μ-loop
-element-copy-out-x c = search needs
-
 apply-in-requires : tie.Need-apply-in-requires Inv-loop μ-loop
 apply-in-requires c κs = rw (c .before .lane-of .ensures) (c .before .before .before .before .before .before .before .before .before .pre .lie (c .before .before .before .before .loop .j) (c .before .before .before .loop-test .taken))
-
-mul-z : tie.Need-mul-z Inv-loop μ-loop
-mul-z c = search needs
-
-element-set-from-z : tie.Need-element-set-from-z Inv-loop μ-loop
-element-set-from-z c = search needs
-
-add-j : tie.Need-add-j Inv-loop μ-loop
-add-j c = search needs
-
-loop-less : tie.Need-loop-less Inv-loop μ-loop
-loop-less c = omega arith
 
 loop-again : tie.Need-loop-again Inv-loop μ-loop
 loop-again c = (omega arith, each-more (c .before .before .before .before .before .loop .inv .1) (omega (arith, c .before .before .before .before .before .before .known .ensures, c .before .before .before .before .before .before .before .before .before .before .pre .few)) (toZ-ofZ {w = w32} (record { sfits = c .apply-in .ok }) ∙ (rw (toZ-ofZ {w = w32} (record { sfits = c .before .x .given }), c .before .before .lane-of .ensures) at (c .apply-in .ensures))))
@@ -64,16 +37,16 @@ one-each-spec =
     (tie.spec
     Inv-loop
     μ-loop
-    known-requires
+    (λ c κs. search needs)
     loop-holds
-    element-copy-out-lane-of
-    lane-of-requires
-    mul-x
-    element-copy-out-x
+    (λ c. search needs)
+    (λ c κs. search needs)
+    (λ c. search needs)
+    (λ c. search needs)
     apply-in-requires
-    mul-z
-    element-set-from-z
-    add-j
-    loop-less
+    (λ c. search needs)
+    (λ c. search needs)
+    (λ c. search needs)
+    (λ c. omega arith)
     loop-again
     returns)

@@ -13,12 +13,6 @@ returns c = place-negative _ _ (c .before .args .x) (rw (toZ-ofZ (c .before .fit
 cast-i : tie.Need-cast-i
 cast-i c = rw (toZ-ofZ (c .before .fits .x)) (not-negative (c .before .args .x) (rw (toZ-ofZ (c .before .fits .x)) at (c .if1 .left)), fits-natAbs {w = w32} tt (c .before .fits .x))
 
-mul-t6 : tie.Need-mul-t6
-mul-t6 c = search needs
-
-add-t7 : tie.Need-add-t7
-add-t7 c = search needs
-
 returns-2 : tie.Need-returns-2
 returns-2 c = rw (toZ-ofZ (c .before .before .fits .x)) (place-low _ _ (c .before .before .args .x) (rw (toZ-ofZ (c .before .before .fits .x)) at (c .before .if1 .left)) (rw (toZ-ofZ (c .before .before .fits .x)) at (c .if2 .taken)))
 
@@ -26,4 +20,4 @@ returns-3 : tie.Need-returns-3
 returns-3 c = place-high _ _ (c .before .before .args .x) (rw (toZ-ofZ (c .before .before .fits .x)) at (c .before .if1 .left)) (rw (toZ-ofZ (c .before .before .fits .x)) at (c .if2 .left))
 
 pub place-in-spec : {M : Type 1} → statement M
-place-in-spec = tie.close (tie.spec returns cast-i mul-t6 add-t7 returns-2 returns-3)
+place-in-spec = tie.close (tie.spec returns cast-i (λ c. search needs) (λ c. search needs) returns-2 returns-3)

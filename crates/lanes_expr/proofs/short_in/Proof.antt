@@ -8,23 +8,11 @@ use borrow.Author.Needs.{needs}
 use Rattle.lanes_expr.proofs.short_in.Statement.{statement}
 use Rattle.lanes_expr.proofs.short_in.Tie as tie
 
-place-in-requires : tie.Need-place-in-requires
-place-in-requires c κs = search needs
-
-enum-known-p : tie.Need-enum-known-p
-enum-known-p c = search needs
-
 mul-widen16 : tie.Need-mul-widen16
 mul-widen16 c = let p = placed _ _ (c .before .before .before .before .args .x) (c .before .p .given .0 .0) (sym (c .before .p .given .1) ∙ (rw (toZ-ofZ (c .before .before .before .before .fits .x)) at (c .before .before .before .place-in .ensures))) in record { fits = omega (arith, c .before .before .before .before .pre, c .before .before .before .before .good .0 .1) }
 
 shared-slice-copy-out-widen16 : tie.Need-shared-slice-copy-out-widen16
 shared-slice-copy-out-widen16 c = let p = placed _ _ (c .before .before .before .before .args .x) (c .before .p .given .0 .0) (sym (c .before .p .given .1) ∙ (rw (toZ-ofZ (c .before .before .before .before .fits .x)) at (c .before .before .before .place-in .ensures))) in omega (arith, c .before .before .before .before .pre)
-
-widen16-requires : tie.Need-widen16-requires
-widen16-requires c κs = search needs
-
-enum-told : tie.Need-enum-told
-enum-told c = search needs
 
 returns : tie.Need-returns
 returns c = toZ-ofZ {w = w32} (record { sfits = c .widen16 .ok }) ∙ (rw (toZ-ofZ {w = w16} (record { sfits = c .before .widen16-arg .given })) at (c .widen16 .ensures)) ∙ int-placed (c .before .before .before .before .before .before .args .list .now) (placed _ _ (c .before .before .before .before .before .before .args .x) (c .before .before .before .p .given .0 .0) (sym (c .before .before .before .p .given .1) ∙ (rw (toZ-ofZ (c .before .before .before .before .before .before .fits .x)) at (c .before .before .before .before .before .place-in .ensures))))
@@ -36,11 +24,11 @@ pub short-in-spec : {M : Type 1} → statement M
 short-in-spec =
     tie.close
     (tie.spec
-    place-in-requires
-    enum-known-p
+    (λ c κs. search needs)
+    (λ c. search needs)
     mul-widen16
     shared-slice-copy-out-widen16
-    widen16-requires
-    enum-told
+    (λ c κs. search needs)
+    (λ c. search needs)
     returns
     returns-2)

@@ -13,26 +13,8 @@ Inv-loop r s stops₀ -all j₀ stops j = (j ≤ s) × Each 0 (λ _ a. firstOf2 
 abbrev μ-loop : tie.MeasureT-loop
 μ-loop r s stops₀ -all j₀ stops j = s - j
 
-known-stops-requires : tie.Need-known-stops-requires Inv-loop μ-loop
-known-stops-requires c κs = search needs
-
 loop-holds : tie.Need-loop-holds Inv-loop μ-loop
 loop-holds c = (omega arith, each-none _ _ _)
-
-element-copy-out-a : tie.Need-element-copy-out-a Inv-loop μ-loop
-element-copy-out-a c = search needs
-
-first-stop-requires : tie.Need-first-stop-requires Inv-loop μ-loop
-first-stop-requires c κs = search needs
-
-element-write-stops : tie.Need-element-write-stops Inv-loop μ-loop
-element-write-stops c = search needs
-
-add-j : tie.Need-add-j Inv-loop μ-loop
-add-j c = search needs
-
-loop-less : tie.Need-loop-less Inv-loop μ-loop
-loop-less c = omega arith
 
 loop-again : tie.Need-loop-again Inv-loop μ-loop
 loop-again c = (omega arith, each-more (c .before .before .before .loop .inv .1) (omega (arith, c .before .before .before .before .known-stops .ensures)) (c .first-stop .ensures))
@@ -46,12 +28,12 @@ stop-lanes-spec =
     (tie.spec
     Inv-loop
     μ-loop
-    known-stops-requires
+    (λ c κs. search needs)
     loop-holds
-    element-copy-out-a
-    first-stop-requires
-    element-write-stops
-    add-j
-    loop-less
+    (λ c. search needs)
+    (λ c κs. search needs)
+    (λ c. search needs)
+    (λ c. search needs)
+    (λ c. omega arith)
     loop-again
     returns)

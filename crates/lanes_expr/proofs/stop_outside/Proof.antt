@@ -18,35 +18,8 @@ Inv-loop s at stops₀ -all j₀ stops j = (j ≤ s) × Each 0 (λ j a. firstOf2
 abbrev μ-loop : tie.MeasureT-loop
 μ-loop s at stops₀ -all j₀ stops j = s - j
 
-known-stops-requires : tie.Need-known-stops-requires Inv-loop μ-loop
-known-stops-requires c κs = search needs
-
 loop-holds : tie.Need-loop-holds Inv-loop μ-loop
 loop-holds c = (omega arith, each-none _ _ _)
-
-mul-flag-stop : tie.Need-mul-flag-stop Inv-loop μ-loop
-mul-flag-stop c = search needs
-
-element-copy-out-flag-stop : tie.Need-element-copy-out-flag-stop Inv-loop μ-loop
-element-copy-out-flag-stop c = search needs
-
-flag-stop-requires : tie.Need-flag-stop-requires Inv-loop μ-loop
-flag-stop-requires c κs = search needs
-
-element-copy-out-a : tie.Need-element-copy-out-a Inv-loop μ-loop
-element-copy-out-a c = search needs
-
-first-stop-requires : tie.Need-first-stop-requires Inv-loop μ-loop
-first-stop-requires c κs = search needs
-
-element-write-stops : tie.Need-element-write-stops Inv-loop μ-loop
-element-write-stops c = search needs
-
-add-j : tie.Need-add-j Inv-loop μ-loop
-add-j c = search needs
-
-loop-less : tie.Need-loop-less Inv-loop μ-loop
-loop-less c = omega arith
 
 loop-again : tie.Need-loop-again Inv-loop μ-loop
 loop-again c = (omega arith, each-more (c .before .before .before .before .before .loop .inv .1) (omega (arith, c .before .before .before .before .before .before .known-stops .ensures)) (c .first-stop .ensures ∙ ap (firstOf2 (getD (c .before .before .before .before .before .loop .stops) (c .before .before .before .before .before .loop .j) 0)) (rw (toZ-ofZ {w = w32} (record { sfits = c .before .before .before .flag-stop-arg .given })) at (c .before .before .flag-stop .ensures))))
@@ -60,15 +33,15 @@ stop-outside-spec =
     (tie.spec
     Inv-loop
     μ-loop
-    known-stops-requires
+    (λ c κs. search needs)
     loop-holds
-    mul-flag-stop
-    element-copy-out-flag-stop
-    flag-stop-requires
-    element-copy-out-a
-    first-stop-requires
-    element-write-stops
-    add-j
-    loop-less
+    (λ c. search needs)
+    (λ c. search needs)
+    (λ c κs. search needs)
+    (λ c. search needs)
+    (λ c κs. search needs)
+    (λ c. search needs)
+    (λ c. search needs)
+    (λ c. omega arith)
     loop-again
     returns)

@@ -8,15 +8,6 @@ use borrow.Author.Needs.{needs}
 use Rattle.lanes_expr.proofs.stop_same.Statement.{statement}
 use Rattle.lanes_expr.proofs.stop_same.Tie as tie
 
-reads-flag-requires : tie.Need-reads-flag-requires
-reads-flag-requires c κs = search needs
-
-flag-stop-requires : tie.Need-flag-stop-requires
-flag-stop-requires c κs = search needs
-
-stop-lanes-requires : tie.Need-stop-lanes-requires
-stop-lanes-requires c κs = search needs
-
 returns : tie.Need-returns
 returns c = each-as (c .stop-lanes .ensures) (λ j a. ap (firstOf2 a) ((rw (toZ-ofZ (c .before .before .before .before .before .before .fits .x)) at (c .before .before .before .flag-stop .ensures)) ∙ read-flag (c .before .before .before .before .before .before .args .o) (sym (c .before .before .before .before .before .reads-flag .ensures) ∙ c .before .before .before .before .if1 .taken) (c .before .before .before .before .before .before .args .x)))
 
@@ -27,4 +18,4 @@ returns-3 : tie.Need-returns-3
 returns-3 c = each-kept _ _ _ _ (λ j a. none-new a _ (read-plain (c .before .before .args .o) (sym (c .before .reads-flag .ensures) ∙ c .if1 .left) (c .before .before .args .x)))
 
 pub stop-same-spec : {M : Type 1} → statement M
-stop-same-spec = tie.close (tie.spec reads-flag-requires flag-stop-requires stop-lanes-requires returns returns-2 returns-3)
+stop-same-spec = tie.close (tie.spec (λ c κs. search needs) (λ c κs. search needs) (λ c κs. search needs) returns returns-2 returns-3)

@@ -18,38 +18,8 @@ Inv-loop o s right out₀ -all j₀ out j = (j ≤ s) × Each (pos 0) (λ j x. a
 abbrev μ-loop : tie.MeasureT-loop
 μ-loop o s right out₀ -all j₀ out j = s - j
 
-known-requires : tie.Need-known-requires Inv-loop μ-loop
-known-requires c κs = search needs
-
 loop-holds : tie.Need-loop-holds Inv-loop μ-loop
 loop-holds c = (omega arith, each-none _ _ _)
-
-mul-x : tie.Need-mul-x Inv-loop μ-loop
-mul-x c = search needs
-
-element-copy-out-x : tie.Need-element-copy-out-x Inv-loop μ-loop
-element-copy-out-x c = search needs
-
-mul-y : tie.Need-mul-y Inv-loop μ-loop
-mul-y c = search needs
-
-element-copy-out-y : tie.Need-element-copy-out-y Inv-loop μ-loop
-element-copy-out-y c = search needs
-
-apply-two-requires : tie.Need-apply-two-requires Inv-loop μ-loop
-apply-two-requires c κs = search needs
-
-mul-z : tie.Need-mul-z Inv-loop μ-loop
-mul-z c = search needs
-
-element-set-from-z : tie.Need-element-set-from-z Inv-loop μ-loop
-element-set-from-z c = search needs
-
-add-j : tie.Need-add-j Inv-loop μ-loop
-add-j c = search needs
-
-loop-less : tie.Need-loop-less Inv-loop μ-loop
-loop-less c = omega arith
 
 loop-again : tie.Need-loop-again Inv-loop μ-loop
 loop-again c = (omega arith, each-more (c .before .before .before .before .loop .inv .1) (omega (arith, c .before .before .before .before .before .known .ensures)) (toZ-ofZ {w = w32} (record { sfits = c .apply-two .ok }) ∙ (rw (toZ-ofZ {w = w32} (record { sfits = c .before .before .x .given }), toZ-ofZ {w = w32} (record { sfits = c .before .y .given })) at (c .apply-two .ensures))))
@@ -63,16 +33,16 @@ two-each-spec =
     (tie.spec
     Inv-loop
     μ-loop
-    known-requires
+    (λ c κs. search needs)
     loop-holds
-    mul-x
-    element-copy-out-x
-    mul-y
-    element-copy-out-y
-    apply-two-requires
-    mul-z
-    element-set-from-z
-    add-j
-    loop-less
+    (λ c. search needs)
+    (λ c. search needs)
+    (λ c. search needs)
+    (λ c. search needs)
+    (λ c κs. search needs)
+    (λ c. search needs)
+    (λ c. search needs)
+    (λ c. search needs)
+    (λ c. omega arith)
     loop-again
     returns)

@@ -7,14 +7,8 @@ use Rattle.lanes_falls.proofs.link_below.Tie as tie
 returns : tie.Need-returns
 returns c = link-none _ _ _ (c .if1 .taken)
 
-sub-mark-below : tie.Need-sub-mark-below
-sub-mark-below c = search needs
-
-mark-below-requires : tie.Need-mark-below-requires
-mark-below-requires c κs = search needs
-
 returns-2 : tie.Need-returns-2
 returns-2 c = link-some _ _ (c .before .before .if1 .left) (c .mark-below .ensures)
 
 pub link-below-spec : {M : Type 1} → statement M
-link-below-spec = tie.close (tie.spec returns sub-mark-below mark-below-requires returns-2)
+link-below-spec = tie.close (tie.spec returns (λ c. search needs) (λ c κs. search needs) returns-2)

@@ -7,14 +7,8 @@ use Rattle.lanes_falls.proofs.mark_below.Tie as tie
 returns : tie.Need-returns
 returns c = marking-high _ _ _ (c .if1 .taken)
 
-index-of-requires : tie.Need-index-of-requires
-index-of-requires c κs = search needs
-
-element-write-marks : tie.Need-element-write-marks
-element-write-marks c = search needs
-
 returns-2 : tie.Need-returns-2
 returns-2 c = marking-one _ _ _ _ (c .index-of .ensures) (c .before .if1 .left)
 
 pub mark-below-spec : {M : Type 1} → statement M
-mark-below-spec = tie.close (tie.spec returns index-of-requires element-write-marks returns-2)
+mark-below-spec = tie.close (tie.spec returns (λ c κs. search needs) (λ c. search needs) returns-2)

@@ -16,12 +16,6 @@ abbrev μ-loop : tie.MeasureT-loop
 loop-holds : tie.Need-loop-holds Inv-loop μ-loop
 loop-holds c = sweeps-start _ _ _ _
 
-sub-n : tie.Need-sub-n Inv-loop μ-loop
-sub-n c = search needs
-
-index-of-requires : tie.Need-index-of-requires Inv-loop μ-loop
-index-of-requires c κs = search needs
-
 element-copy-out-if1 : tie.Need-element-copy-out-if1 Inv-loop μ-loop
 element-copy-out-if1 c = sweep-room (c .before .before .before .pre) (c .before .before .loop .inv) (c .before .loop-test .taken) (c .index-of .ensures)
 
@@ -31,14 +25,8 @@ links-below-requires c κs = sweep-asks (c .before .before .before .before .befo
 returns : tie.Need-returns Inv-loop μ-loop
 returns c = sweeps-out _ _ _ _ (c .before .before .before .before .before .before .before .loop .inv) (c .before .before .before .before .before .before .loop-test .taken) (c .before .before .before .before .before .index-of .ensures) (c .before .before .before .if1 .taken) (c .before .links-below .ensures) (not-true _ (c .if2 .taken))
 
-loop-less : tie.Need-loop-less Inv-loop μ-loop
-loop-less c = omega arith
-
 loop-again : tie.Need-loop-again Inv-loop μ-loop
 loop-again c = sweeps-on _ _ _ _ (c .before .before .before .before .before .before .before .loop .inv) (c .before .before .before .before .before .before .loop-test .taken) (c .before .before .before .before .before .index-of .ensures) (c .before .before .before .if1 .taken) (c .before .links-below .ensures) (not-false _ (c .if2 .left))
-
-loop-less-2 : tie.Need-loop-less-2 Inv-loop μ-loop
-loop-less-2 c = omega arith
 
 loop-again-2 : tie.Need-loop-again-2 Inv-loop μ-loop
 loop-again-2 c = sweeps-past _ _ _ _ (c .before .before .before .before .loop .inv) (c .before .before .before .loop-test .taken) (c .before .before .index-of .ensures) (c .if1 .left)
@@ -53,13 +41,13 @@ sweep-down-spec =
     Inv-loop
     μ-loop
     loop-holds
-    sub-n
-    index-of-requires
+    (λ c. search needs)
+    (λ c κs. search needs)
     element-copy-out-if1
     links-below-requires
     returns
-    loop-less
+    (λ c. omega arith)
     loop-again
-    loop-less-2
+    (λ c. omega arith)
     loop-again-2
     returns-2)

@@ -4,36 +4,6 @@ use borrow.Author.Needs.{needs}
 use Rattle.lanes_falls.proofs.target_below.Statement.{statement}
 use Rattle.lanes_falls.proofs.target_below.Tie as tie
 
-mul-block : tie.Need-mul-block
-mul-block c = search needs
-
-add-block : tie.Need-add-block
-add-block c = search needs
-
-mul-block-2 : tie.Need-mul-block-2
-mul-block-2 c = search needs
-
-element-copy-out-block : tie.Need-element-copy-out-block
-element-copy-out-block c = search needs
-
-mul-match : tie.Need-mul-match
-mul-match c = search needs
-
-mul-match-2 : tie.Need-mul-match-2
-mul-match-2 c = search needs
-
-element-copy-out-match : tie.Need-element-copy-out-match
-element-copy-out-match c = search needs
-
-mark-below-requires : tie.Need-mark-below-requires
-mark-below-requires c κs = search needs
-
-mark-below-requires-2 : tie.Need-mark-below-requires-2
-mark-below-requires-2 c κs = search needs
-
-mark-below-requires-3 : tie.Need-mark-below-requires-3
-mark-below-requires-3 c κs = search needs
-
 returns : tie.Need-returns
 returns c = target-some (c .before .before .before .before .before .args .cw .now) (c .before .before .before .before .before .args .i) _ 1 (c .before .before .match .keys1) names-goto (c .mark-below .ensures)
 
@@ -50,16 +20,16 @@ pub target-below-spec : {M : Type 1} → statement M
 target-below-spec =
     tie.close
     (tie.spec
-    mul-block
-    add-block
-    mul-block-2
-    element-copy-out-block
-    mul-match
-    mul-match-2
-    element-copy-out-match
-    mark-below-requires
-    mark-below-requires-2
-    mark-below-requires-3
+    (λ c. search needs)
+    (λ c. search needs)
+    (λ c. search needs)
+    (λ c. search needs)
+    (λ c. search needs)
+    (λ c. search needs)
+    (λ c. search needs)
+    (λ c κs. search needs)
+    (λ c κs. search needs)
+    (λ c κs. search needs)
     returns
     returns-2
     returns-3

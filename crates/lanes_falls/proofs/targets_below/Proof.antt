@@ -13,29 +13,14 @@ Inv-loop cw first held marks₀ n f count i₀ marks i = TargetsLeft cw n first 
 abbrev μ-loop : tie.MeasureT-loop
 μ-loop cw first held marks₀ n f count i₀ marks i = count - i
 
-index-of-requires : tie.Need-index-of-requires Inv-loop μ-loop
-index-of-requires c κs = search needs
-
-index-of-requires-2 : tie.Need-index-of-requires-2 Inv-loop μ-loop
-index-of-requires-2 c κs = search needs
-
 loop-holds : tie.Need-loop-holds Inv-loop μ-loop
 loop-holds c = targets-start _ _ _ _ _ _ _ (c .before .index-of .ensures) (c .index-of2 .ensures)
-
-add-target-below : tie.Need-add-target-below Inv-loop μ-loop
-add-target-below c = search needs
 
 target-below-requires : tie.Need-target-below-requires Inv-loop μ-loop
 target-below-requires c κs = (c .before .before .before .before .before .pre .0, targets-room _ _ _ _ _ _ _ _ (c .before .before .loop .inv) (c .before .loop-test .taken) (c .before .before .before .before .before .pre .1))
 
 returns : tie.Need-returns Inv-loop μ-loop
 returns c = targets-stop _ _ _ _ _ _ _ _ (c .before .before .before .before .loop .inv) _ (c .before .before .before .loop-test .taken) (not-true _ (c .if1 .taken)) (c .before .target-below .ensures)
-
-add-i : tie.Need-add-i Inv-loop μ-loop
-add-i c = search needs
-
-loop-less : tie.Need-loop-less Inv-loop μ-loop
-loop-less c = omega arith
 
 loop-again : tie.Need-loop-again Inv-loop μ-loop
 loop-again c = targets-step _ _ _ _ _ _ _ _ (c .before .before .before .before .loop .inv) _ (c .before .before .before .loop-test .taken) (not-false _ (c .if1 .left)) (c .before .target-below .ensures)
@@ -49,13 +34,13 @@ targets-below-spec =
     (tie.spec
     Inv-loop
     μ-loop
-    index-of-requires
-    index-of-requires-2
+    (λ c κs. search needs)
+    (λ c κs. search needs)
     loop-holds
-    add-target-below
+    (λ c. search needs)
     target-below-requires
     returns
-    add-i
-    loop-less
+    (λ c. search needs)
+    (λ c. omega arith)
     loop-again
     returns-2)

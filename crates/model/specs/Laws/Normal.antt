@@ -218,7 +218,7 @@ pub record SheetOk (h : Sheet) : Type 0 where
   pub items : length (h .atcOf) ≤ 512
   pub atcs : (w a : ℕ) → atcFor h w ≡ some a → ltb a (h .atcCount) ≡ true
 
-all-insert : (p : Requirement → Bool) (r : Requirement) (xs : List Requirement) → p r ≡ true → all p xs ≡ true → all p (insert r xs) ≡ true
+pub all-insert : (p : Requirement → Bool) (r : Requirement) (xs : List Requirement) → p r ≡ true → all p xs ≡ true → all p (insert r xs) ≡ true
 unfolding insert
 all-insert p r [] a b = rw a
 all-insert p r (x ∷ xs) a b = by (sameReq r x) (before r x) (all-insert p r xs a (and-right (p x) _ b))

@@ -38,6 +38,12 @@ place-count i h =
 
 -- ---- updateSlots
 
+pub updates-length : (h : Sheet) (rs : List Requirement) (ms ns : List (Option ℤ)) (xs : List Slot) → length (updateSlots h rs ms ns xs) ≡ length xs
+updates-length h rs [] ns xs = refl
+updates-length h rs (a ∷ ms) [] xs = refl
+updates-length h rs (a ∷ ms) (b ∷ ns) [] = refl
+updates-length h rs (a ∷ ms) (b ∷ ns) (x ∷ xs) = ap suc (updates-length h rs ms ns xs)
+
 pub updates-blank : (h : Sheet) (rs : List Requirement) (n : ℕ) (xs : List Slot) → updateSlots h rs (replicate n none) (replicate n none) xs ≡ xs
 updates-blank h rs zero xs = refl
 updates-blank h rs (suc n) [] = refl

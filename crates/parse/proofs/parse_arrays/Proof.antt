@@ -24,12 +24,6 @@ sheet s = sheetOf (s .args .attached .now) (s .args .sheet)
 passes : (c : tie.Else1) → let s = c .before .before .before .before .before .before .before .before in callIn (sheet s) (memory s) (s .args .setup .0) ≡ 0
 passes c = sym (c .before .check-call .ensures) ∙ c .if1 .left
 
-clear-arrays-requires : tie.Need-clear-arrays-requires
-clear-arrays-requires c κs = search needs
-
-check-call-requires : tie.Need-check-call-requires
-check-call-requires c κs = search needs
-
 returns : tie.Need-returns
 returns c = let s = c .before .before .before .before .before .before .before .before in parse-refused (sheet s) (memory s) (s .args .setup .0) _ (c .before .check-call .ensures) (c .if1 .taken) _ (c .before .before .clear-arrays .ensures)
 
@@ -45,9 +39,6 @@ walk-requires c κs =
     let p = call-passed (sheet s) (memory s) (s .args .setup .0) (passes (c1)) in
     ((record { blocks = p .blocks; rest = p .rest; is = p .judged }, ap shopFrom (c2 .clear-arrays .ensures) ∙ shop-none), p .inside)
 
-clear-arrays-requires-2 : tie.Need-clear-arrays-requires-2
-clear-arrays-requires-2 c κs = search needs
-
 returns-2 : tie.Need-returns-2
 returns-2 c =
     let c1 = c .before .before .before .before .before in
@@ -57,9 +48,6 @@ returns-2 c =
     let s = c4 in
     let w = c2 .walk .ensures (sheet s) (record { items = items-counted (s .args .attached .now) (s .args .sheet); atcs = atcs-counted (s .args .attached .now) (s .args .sheet) }) in
     parse-stopped (sheet s) (memory s) (s .args .setup .0) _ (passes (c3)) (w .answer) (c1 .if2 .taken) _ (c .clear-arrays2 .ensures)
-
-sizes-requires : tie.Need-sizes-requires
-sizes-requires c κs = search needs
 
 returns-3 : tie.Need-returns-3
 returns-3 c =
@@ -76,12 +64,12 @@ pub parse-arrays-spec : {M : Type 1} → statement M
 parse-arrays-spec =
     tie.close
     (tie.spec
-    clear-arrays-requires
-    check-call-requires
+    (λ c κs. search needs)
+    (λ c κs. search needs)
     returns
     cast-t23
     walk-requires
-    clear-arrays-requires-2
+    (λ c κs. search needs)
     returns-2
-    sizes-requires
+    (λ c κs. search needs)
     returns-3)

@@ -47,38 +47,6 @@ read-condition-returns t c =
     read-out (now (start .args .ws)) (now (start .args .val)) (start .args .known) (start .args .b) (start .args .i) (start .args .neg) (start .args .r) _ _ _ _
     (start .pre .1 .1) (c .if1 .taken)
 
-read-condition-mul-kind-of : (t : ℕ) → read-condition-lts.Need-mul-kind-of (read-condition-claims t) (read-condition-at t) read-condition.Post
-read-condition-mul-kind-of t c = search needs
-
-read-condition-mul-kind-of-2 : (t : ℕ) → read-condition-lts.Need-mul-kind-of-2 (read-condition-claims t) (read-condition-at t) read-condition.Post
-read-condition-mul-kind-of-2 t c = search needs
-
-read-condition-element-copy-out-kind-of :
-    (t : ℕ) → read-condition-lts.Need-element-copy-out-kind-of (read-condition-claims t) (read-condition-at t) read-condition.Post
-read-condition-element-copy-out-kind-of t c = search needs
-
-read-condition-kind-of-requires : (t : ℕ) → read-condition-lts.Need-kind-of-requires (read-condition-claims t) (read-condition-at t) read-condition.Post
-read-condition-kind-of-requires t c κs = search needs
-
-read-condition-is-join-requires : (t : ℕ) → read-condition-lts.Need-is-join-requires (read-condition-claims t) (read-condition-at t) read-condition.Post
-read-condition-is-join-requires t c κs = search needs
-
-read-condition-mul-index-of : (t : ℕ) → read-condition-lts.Need-mul-index-of (read-condition-claims t) (read-condition-at t) read-condition.Post
-read-condition-mul-index-of t c = search needs
-
-read-condition-add-index-of : (t : ℕ) → read-condition-lts.Need-add-index-of (read-condition-claims t) (read-condition-at t) read-condition.Post
-read-condition-add-index-of t c = search needs
-
-read-condition-mul-index-of-2 : (t : ℕ) → read-condition-lts.Need-mul-index-of-2 (read-condition-claims t) (read-condition-at t) read-condition.Post
-read-condition-mul-index-of-2 t c = search needs
-
-read-condition-element-copy-out-index-of :
-    (t : ℕ) → read-condition-lts.Need-element-copy-out-index-of (read-condition-claims t) (read-condition-at t) read-condition.Post
-read-condition-element-copy-out-index-of t c = search needs
-
-read-condition-index-of-requires : (t : ℕ) → read-condition-lts.Need-index-of-requires (read-condition-claims t) (read-condition-at t) read-condition.Post
-read-condition-index-of-requires t c κs = search needs
-
 read-condition-read-condition-requires : (t : ℕ) → read-condition-lts.Need-read-condition-requires (read-condition-claims t) (read-condition-at t) read-condition.Post
 read-condition-read-condition-requires t c κs = (
   omega (arith, c .before .before .before .before .before .before .before .before .before .before .before .before .before .before .before .pre .0, c .before .before .before .before .before .before .before .before .before .before .if1 .left),
@@ -112,22 +80,6 @@ read-condition-returns-2 t c =
     join-full (now (start .args .ws)) (now (start .args .val)) (start .args .known) (start .args .b) (start .args .i) (start .args .neg) (start .args .r) _ _
     (x20 .if1 .left) _ (x18 .kind-of .ensures) (sym (x17 .is-join .ensures) ∙ x16 .if2 .taken) _ _ (x14 .index-of .ensures) refl _ _ _ _ _ (x9 .read-condition .ensures)
     (c .if3 .taken)
-
-read-condition-mul-index-of-3 : (t : ℕ) → read-condition-lts.Need-mul-index-of-3 (read-condition-claims t) (read-condition-at t) read-condition.Post
-read-condition-mul-index-of-3 t c = search needs
-
-read-condition-add-index-of-2 : (t : ℕ) → read-condition-lts.Need-add-index-of-2 (read-condition-claims t) (read-condition-at t) read-condition.Post
-read-condition-add-index-of-2 t c = search needs
-
-read-condition-mul-index-of-4 : (t : ℕ) → read-condition-lts.Need-mul-index-of-4 (read-condition-claims t) (read-condition-at t) read-condition.Post
-read-condition-mul-index-of-4 t c = search needs
-
-read-condition-element-copy-out-index-of-2 :
-    (t : ℕ) → read-condition-lts.Need-element-copy-out-index-of-2 (read-condition-claims t) (read-condition-at t) read-condition.Post
-read-condition-element-copy-out-index-of-2 t c = search needs
-
-read-condition-index-of-requires-2 : (t : ℕ) → read-condition-lts.Need-index-of-requires-2 (read-condition-claims t) (read-condition-at t) read-condition.Post
-read-condition-index-of-requires-2 t c κs = search needs
 
 read-condition-read-condition-requires-2 :
     (t : ℕ) → read-condition-lts.Need-read-condition-requires-2 (read-condition-claims t) (read-condition-at t) read-condition.Post
@@ -173,25 +125,6 @@ read-condition-returns-3 t c =
     (x35 .if1 .left) _ (x33 .kind-of .ensures) (sym (x32 .is-join .ensures) ∙ x31 .if2 .taken) _ _ (x29 .index-of .ensures) (x13 .index-of2 .ensures) _ _ _ _ _
     (x24 .read-condition .ensures) _ _ _ _ _ (x15 .if3 .left) (x8 .read-condition2 .ensures)
 
-read-condition-is-not-requires : (t : ℕ) → read-condition-lts.Need-is-not-requires (read-condition-claims t) (read-condition-at t) read-condition.Post
-read-condition-is-not-requires t c κs = search needs
-
-read-condition-mul-index-of-5 : (t : ℕ) → read-condition-lts.Need-mul-index-of-5 (read-condition-claims t) (read-condition-at t) read-condition.Post
-read-condition-mul-index-of-5 t c = search needs
-
-read-condition-add-index-of-3 : (t : ℕ) → read-condition-lts.Need-add-index-of-3 (read-condition-claims t) (read-condition-at t) read-condition.Post
-read-condition-add-index-of-3 t c = search needs
-
-read-condition-mul-index-of-6 : (t : ℕ) → read-condition-lts.Need-mul-index-of-6 (read-condition-claims t) (read-condition-at t) read-condition.Post
-read-condition-mul-index-of-6 t c = search needs
-
-read-condition-element-copy-out-index-of-3 :
-    (t : ℕ) → read-condition-lts.Need-element-copy-out-index-of-3 (read-condition-claims t) (read-condition-at t) read-condition.Post
-read-condition-element-copy-out-index-of-3 t c = search needs
-
-read-condition-index-of-requires-3 : (t : ℕ) → read-condition-lts.Need-index-of-requires-3 (read-condition-claims t) (read-condition-at t) read-condition.Post
-read-condition-index-of-requires-3 t c κs = search needs
-
 read-condition-read-condition-requires-3 :
     (t : ℕ) → read-condition-lts.Need-read-condition-requires-3 (read-condition-claims t) (read-condition-at t) read-condition.Post
 read-condition-read-condition-requires-3 t c κs = (
@@ -226,9 +159,6 @@ read-condition-returns-4 t c =
     read-not (now (start .args .ws)) (now (start .args .val)) (start .args .known) (start .args .b) (start .args .i) (start .args .neg) (start .args .r) _ _
     (x21 .if1 .left) _ (x19 .kind-of .ensures) (sym (x16 .is-not .ensures) ∙ x15 .if4 .taken) _ _ _ _ _ _ (x13 .index-of3 .ensures) (x8 .read-condition3 .ensures)
 
-read-condition-read-leaf-requires : (t : ℕ) → read-condition-lts.Need-read-leaf-requires (read-condition-claims t) (read-condition-at t) read-condition.Post
-read-condition-read-leaf-requires t c κs = search needs
-
 read-condition-same-length-13 : (t : ℕ) → read-condition-lts.Need-same-length-13 (read-condition-claims t) (read-condition-at t) read-condition.Post
 read-condition-same-length-13 t c = c .before .before .before .before .before .before .before .keys4 .given
 
@@ -260,46 +190,46 @@ pub +read-condition-spec : {M : Type 1} → statement M
     (read-condition-at t)
     read-condition.Post
     (read-condition-returns t)
-    (read-condition-mul-kind-of t)
-    (read-condition-mul-kind-of-2 t)
-    (read-condition-element-copy-out-kind-of t)
-    (read-condition-kind-of-requires t)
-    (read-condition-is-join-requires t)
-    (read-condition-mul-index-of t)
-    (read-condition-add-index-of t)
-    (read-condition-mul-index-of-2 t)
-    (read-condition-element-copy-out-index-of t)
-    (read-condition-index-of-requires t)
+    (λ c. search needs)
+    (λ c. search needs)
+    (λ c. search needs)
+    (λ c κs. search needs)
+    (λ c κs. search needs)
+    (λ c. search needs)
+    (λ c. search needs)
+    (λ c. search needs)
+    (λ c. search needs)
+    (λ c κs. search needs)
     (read-condition-read-condition-requires t)
     (read-condition-same-length t)
     (read-condition-same-length-2 t)
     (read-condition-same-length-3 t)
     (read-condition-same-length-4 t)
     (read-condition-returns-2 t)
-    (read-condition-mul-index-of-3 t)
-    (read-condition-add-index-of-2 t)
-    (read-condition-mul-index-of-4 t)
-    (read-condition-element-copy-out-index-of-2 t)
-    (read-condition-index-of-requires-2 t)
+    (λ c. search needs)
+    (λ c. search needs)
+    (λ c. search needs)
+    (λ c. search needs)
+    (λ c κs. search needs)
     (read-condition-read-condition-requires-2 t)
     (read-condition-same-length-5 t)
     (read-condition-same-length-6 t)
     (read-condition-same-length-7 t)
     (read-condition-same-length-8 t)
     (read-condition-returns-3 t)
-    (read-condition-is-not-requires t)
-    (read-condition-mul-index-of-5 t)
-    (read-condition-add-index-of-3 t)
-    (read-condition-mul-index-of-6 t)
-    (read-condition-element-copy-out-index-of-3 t)
-    (read-condition-index-of-requires-3 t)
+    (λ c κs. search needs)
+    (λ c. search needs)
+    (λ c. search needs)
+    (λ c. search needs)
+    (λ c. search needs)
+    (λ c κs. search needs)
     (read-condition-read-condition-requires-3 t)
     (read-condition-same-length-9 t)
     (read-condition-same-length-10 t)
     (read-condition-same-length-11 t)
     (read-condition-same-length-12 t)
     (read-condition-returns-4 t)
-    (read-condition-read-leaf-requires t)
+    (λ c κs. search needs)
     (read-condition-same-length-13 t)
     (read-condition-same-length-14 t)
     (read-condition-same-length-15 t)

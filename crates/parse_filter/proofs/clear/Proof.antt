@@ -44,9 +44,6 @@ shared-slice-read-index-of c =
     let s = l .before .before .before .before .before in
     omega (arith, cell-at _ _ _ _ _ (s .pre) (l .loop .c) (omega (arith, c .before .before .loop-test .taken)) (l .loop .inv .low) .row)
 
-index-of-requires : tie.Need-index-of-requires Inv-loop μ-loop
-index-of-requires c κs = search needs
-
 mul-index-of-3 : tie.Need-mul-index-of-3 Inv-loop μ-loop
 mul-index-of-3 c =
     let l = c .before .before .before .before in
@@ -70,9 +67,6 @@ shared-slice-read-index-of-2 c =
     let l = c .before .before .before .before .before in
     let s = l .before .before .before .before .before in
     omega (arith, cell-at _ _ _ _ _ (s .pre) (l .loop .c) (omega (arith, c .before .before .before .before .loop-test .taken)) (l .loop .inv .low) .row)
-
-index-of-requires-2 : tie.Need-index-of-requires-2 Inv-loop μ-loop
-index-of-requires-2 c κs = search needs
 
 sub-clear-part : tie.Need-sub-clear-part Inv-loop μ-loop
 sub-clear-part c = omega (arith, c .before .before .before .before .before .loop-test .taken)
@@ -100,9 +94,6 @@ shared-slice-read-index-of-3 c =
     let l = c .before .before .before .before .before .before .before .before .before .before in
     let s = l .before .before .before .before .before in
     omega (arith, cell-at _ _ _ _ _ (s .pre) (l .loop .c) (omega (arith, c .before .before .before .before .before .before .before .before .before .loop-test .taken)) (l .loop .inv .low) .row)
-
-index-of-requires-3 : tie.Need-index-of-requires-3 Inv-loop μ-loop
-index-of-requires-3 c κs = search needs
 
 loop-less : tie.Need-loop-less Inv-loop μ-loop
 loop-less c =
@@ -137,18 +128,18 @@ clear-spec =
     add-index-of
     mul-index-of-2
     shared-slice-read-index-of
-    index-of-requires
+    (λ c κs. search needs)
     mul-index-of-3
     add-index-of-2
     mul-index-of-4
     shared-slice-read-index-of-2
-    index-of-requires-2
+    (λ c κs. search needs)
     sub-clear-part
     clear-part-requires
     mul-index-of-5
     mul-index-of-6
     shared-slice-read-index-of-3
-    index-of-requires-3
+    (λ c κs. search needs)
     loop-less
     loop-again
     same-length

@@ -22,9 +22,6 @@ loop-holds c =
     let s = c .before .before .before in
     ((omega arith, s .pre .low), (rw part-none (unmarks-none (now (s .args .seen))), refl))
 
-mul-signed-entry : tie.Need-mul-signed-entry Inv-loop μ-loop
-mul-signed-entry c = search needs
-
 shared-slice-read-signed-entry : tie.Need-shared-slice-read-signed-entry Inv-loop μ-loop
 shared-slice-read-signed-entry c =
     let s = c .before .before .before .before .before .before in
@@ -36,18 +33,12 @@ signed-entry-requires c κs =
     let s = l .before .before .before .before in
     s .pre .other (l .loop .j) (l .loop .inv .0 .0) (c .before .loop-test .taken)
 
-index-of-requires : tie.Need-index-of-requires Inv-loop μ-loop
-index-of-requires c κs = search needs
-
 slice-write-seen : tie.Need-slice-write-seen Inv-loop μ-loop
 slice-write-seen c =
     let l = c .before .before .before .before in
     let s = l .before .before .before .before in
     rw (c .index-of .ensures, c .before .signed-entry .ensures, l .loop .inv .1 .1)
     (signed-place (now (s .args .companions)) (now (s .args .list)) (length (now (s .args .seen))) (s .args .from) (s .args .to) (s .args .neg) (l .loop .j) (s .pre) (l .loop .inv .0 .0) (c .before .before .before .loop-test .taken))
-
-add-j : tie.Need-add-j Inv-loop μ-loop
-add-j c = search needs
 
 loop-less : tie.Need-loop-less Inv-loop μ-loop
 loop-less c = omega (arith, c .before .before .before .loop-test .taken)
@@ -81,12 +72,12 @@ clear-part-spec =
     Inv-loop
     μ-loop
     loop-holds
-    mul-signed-entry
+    (λ c. search needs)
     shared-slice-read-signed-entry
     signed-entry-requires
-    index-of-requires
+    (λ c κs. search needs)
     slice-write-seen
-    add-j
+    (λ c. search needs)
     loop-less
     loop-again
     same-length

@@ -19,16 +19,10 @@ loop-holds c =
     let s = c .before .before .before in
     coding-start (now (s .args .keys)) (now (s .args .companions)) (now (s .args .alive)) (s .args .n) (s .pre .held) (now (s .args .codes))
 
-mul-index-of : tie.Need-mul-index-of Inv-loop μ-loop
-mul-index-of c = search needs
-
 shared-slice-read-index-of : tie.Need-shared-slice-read-index-of Inv-loop μ-loop
 shared-slice-read-index-of c =
     let s = c .before .before .before .before .before .before .before in
     omega (arith, c .before .before .loop-test .taken, s .pre .held)
-
-index-of-requires : tie.Need-index-of-requires Inv-loop μ-loop
-index-of-requires c κs = search needs
 
 mul-entry-code : tie.Need-mul-entry-code Inv-loop μ-loop
 mul-entry-code c =
@@ -83,9 +77,9 @@ companion-codes-spec =
     Inv-loop
     μ-loop
     loop-holds
-    mul-index-of
+    (λ c. search needs)
     shared-slice-read-index-of
-    index-of-requires
+    (λ c κs. search needs)
     mul-entry-code
     shared-slice-read-entry-code
     entry-code-requires

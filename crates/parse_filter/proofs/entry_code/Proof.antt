@@ -5,15 +5,6 @@ use borrow.Author.Needs.{needs}
 use Rattle.parse_filter.proofs.entry_code.Statement.{statement}
 use Rattle.parse_filter.proofs.entry_code.Tie as tie
 
-index-of-requires : tie.Need-index-of-requires
-index-of-requires c κs = search needs
-
-mul-key : tie.Need-mul-key
-mul-key c = search needs
-
-shared-slice-read-key : tie.Need-shared-slice-read-key
-shared-slice-read-key c = search needs
-
 returns : tie.Need-returns
 returns c = rw (c .before .before .index-of .ensures) (omega arith)
 
@@ -28,4 +19,4 @@ returns-2 c = c .missing-of .ensures ∙ rw (c .before .before .before .index-of
 pub entry-code-spec : {M : Type 1} → statement M
 entry-code-spec =
     tie.close
-    (tie.spec index-of-requires mul-key shared-slice-read-key returns missing-of-requires returns-2)
+    (tie.spec (λ c κs. search needs) (λ c. search needs) (λ c. search needs) returns missing-of-requires returns-2)

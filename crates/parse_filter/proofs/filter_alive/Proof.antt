@@ -21,26 +21,17 @@ loop-holds c =
     let s = c .before .before .before in
     sifting-start (now (s .args .companions)) (now (s .args .seen)) (now (s .args .alive)) (s .args .n) (s .pre .held)
 
-mul-e : tie.Need-mul-e Inv-loop μ-loop
-mul-e c = search needs
-
 slice-read-e : tie.Need-slice-read-e Inv-loop μ-loop
 slice-read-e c =
     let l = c .before .before in
     let s = l .before .before .before .before in
     omega (arith, c .before .loop-test .taken, l .loop .inv .long, s .pre .held)
 
-mul-alive : tie.Need-mul-alive Inv-loop μ-loop
-mul-alive c = search needs
-
 slice-write-alive : tie.Need-slice-write-alive Inv-loop μ-loop
 slice-write-alive c =
     let l = c .before .before in
     let s = l .before .before .before .before in
     omega (arith, c .before .loop-test .taken, l .loop .inv .long, s .pre .held, l .loop .inv .low)
-
-index-of-requires : tie.Need-index-of-requires Inv-loop μ-loop
-index-of-requires c κs = search needs
 
 mul-index-of : tie.Need-mul-index-of Inv-loop μ-loop
 mul-index-of c =
@@ -54,9 +45,6 @@ shared-slice-read-index-of c =
     let l = c .before .before .before .before in
     let s = l .before .before .before .before in
     rw (c .before .index-of .ensures, l .loop .inv .rest (l .loop .j) (omega arith)) (s .pre .entry (l .loop .j) (c .before .before .before .loop-test .taken))
-
-index-of-requires-2 : tie.Need-index-of-requires-2 Inv-loop μ-loop
-index-of-requires-2 c κs = search needs
 
 shared-slice-read-if1 : tie.Need-shared-slice-read-if1 Inv-loop μ-loop
 shared-slice-read-if1 c =
@@ -98,14 +86,14 @@ filter-alive-spec =
     Inv-loop
     μ-loop
     loop-holds
-    mul-e
+    (λ c. search needs)
     slice-read-e
-    mul-alive
+    (λ c. search needs)
     slice-write-alive
-    index-of-requires
+    (λ c κs. search needs)
     mul-index-of
     shared-slice-read-index-of
-    index-of-requires-2
+    (λ c κs. search needs)
     shared-slice-read-if1
     add-kept
     add-j

@@ -12,12 +12,6 @@ Inv-loop cells list companions seen₀ alive₀ first below a₀ c₀ seen alive
 abbrev μ-loop : tie.MeasureT-loop
 μ-loop cells list companions seen₀ alive₀ first below a₀ c₀ seen alive a c = c
 
-index-of-requires : tie.Need-index-of-requires Inv-loop μ-loop
-index-of-requires c κs = search needs
-
-index-of-requires-2 : tie.Need-index-of-requires-2 Inv-loop μ-loop
-index-of-requires-2 c κs = search needs
-
 loop-holds : tie.Need-loop-holds Inv-loop μ-loop
 loop-holds c =
     let s = c .before .before .before .before .before .before .before in
@@ -54,9 +48,6 @@ shared-slice-read-index-of c =
     let s = l .before .before .before .before .before .before .before .before in
     omega (arith, cell-at _ _ _ _ _ (s .pre .walk) (l .loop .c) (omega (arith, c .before .before .before .loop-test .taken)) (l .loop .inv .low) .row)
 
-index-of-requires-3 : tie.Need-index-of-requires-3 Inv-loop μ-loop
-index-of-requires-3 c κs = search needs
-
 mul-index-of-3 : tie.Need-mul-index-of-3 Inv-loop μ-loop
 mul-index-of-3 c =
     let l = c .before .before .before .before .before in
@@ -80,9 +71,6 @@ shared-slice-read-index-of-2 c =
     let l = c .before .before .before .before .before .before in
     let s = l .before .before .before .before .before .before .before .before in
     omega (arith, cell-at _ _ _ _ _ (s .pre .walk) (l .loop .c) (omega (arith, c .before .before .before .before .before .loop-test .taken)) (l .loop .inv .low) .row)
-
-index-of-requires-4 : tie.Need-index-of-requires-4 Inv-loop μ-loop
-index-of-requires-4 c κs = search needs
 
 mark-part-requires : tie.Need-mark-part-requires Inv-loop μ-loop
 mark-part-requires c κs =
@@ -108,9 +96,6 @@ shared-slice-read-index-of-3 c =
     let l = c .before .before .before .before .before .before .before .before .before .before .before .before .before in
     let s = l .before .before .before .before .before .before .before .before in
     omega (arith, cell-at _ _ _ _ _ (s .pre .walk) (l .loop .c) (omega (arith, c .before .before .before .before .before .before .before .before .before .before .before .before .loop-test .taken)) (l .loop .inv .low) .row)
-
-index-of-requires-5 : tie.Need-index-of-requires-5 Inv-loop μ-loop
-index-of-requires-5 c κs = search needs
 
 loop-less : tie.Need-loop-less Inv-loop μ-loop
 loop-less c =
@@ -142,8 +127,8 @@ mark-chain-spec =
     (tie.spec
     Inv-loop
     μ-loop
-    index-of-requires
-    index-of-requires-2
+    (λ c κs. search needs)
+    (λ c κs. search needs)
     loop-holds
     sub-j
     sub-neg
@@ -151,17 +136,17 @@ mark-chain-spec =
     add-index-of
     mul-index-of-2
     shared-slice-read-index-of
-    index-of-requires-3
+    (λ c κs. search needs)
     mul-index-of-3
     add-index-of-2
     mul-index-of-4
     shared-slice-read-index-of-2
-    index-of-requires-4
+    (λ c κs. search needs)
     mark-part-requires
     mul-index-of-5
     mul-index-of-6
     shared-slice-read-index-of-3
-    index-of-requires-5
+    (λ c κs. search needs)
     loop-less
     loop-again
     same-length

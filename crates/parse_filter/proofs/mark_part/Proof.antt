@@ -22,9 +22,6 @@ loop-holds c =
     let s = c .before .before .before .before in
     ((omega arith, s .pre .0 .low), (rw part-none (marks-none (now (s .args .seen)) (now (s .args .alive)) (s .args .before)), (refl, refl)))
 
-mul-signed-entry : tie.Need-mul-signed-entry Inv-loop μ-loop
-mul-signed-entry c = search needs
-
 shared-slice-read-signed-entry : tie.Need-shared-slice-read-signed-entry Inv-loop μ-loop
 shared-slice-read-signed-entry c =
     let s = c .before .before .before .before .before .before .before .before .before in
@@ -45,9 +42,6 @@ mark-entry-requires c κs =
       rw (l .loop .inv .1 .1 .1)
           (marked-room (now (s .args .companions)) (now (s .args .list)) (now (s .args .seen)) (now (s .args .alive)) (s .args .from) (s .args .to) (s .args .neg) (s .args .before) (l .loop .j) (s .pre .0) (l .loop .inv .0 .0) (c .before .before .before .before .loop-test .taken) (s .pre .1) (l .loop .seen) (l .loop .alive) (l .loop .a) (l .loop .inv .1 .0)),
     )
-
-add-j : tie.Need-add-j Inv-loop μ-loop
-add-j c = search needs
 
 loop-less : tie.Need-loop-less Inv-loop μ-loop
 loop-less c = omega (arith, c .before .before .before .before .before .before .before .before .before .loop-test .taken)
@@ -83,11 +77,11 @@ mark-part-spec =
     Inv-loop
     μ-loop
     loop-holds
-    mul-signed-entry
+    (λ c. search needs)
     shared-slice-read-signed-entry
     signed-entry-requires
     mark-entry-requires
-    add-j
+    (λ c. search needs)
     loop-less
     loop-again
     same-length

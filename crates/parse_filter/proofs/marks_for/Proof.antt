@@ -8,12 +8,6 @@ use Rattle.parse_filter.specs.Marks.{as-they-are, none-left}
 use Rattle.parse_filter.proofs.marks_for.Statement.{statement}
 use Rattle.parse_filter.proofs.marks_for.Tie as tie
 
-index-of-requires : tie.Need-index-of-requires
-index-of-requires c κs = search needs
-
-stands-on-requires : tie.Need-stands-on-requires
-stands-on-requires c κs = search needs
-
 returns : tie.Need-returns
 returns c =
     let s = c .before .before .before .before .before .before .before in
@@ -26,13 +20,10 @@ clear-requires c κs =
     let s = c .before .before .before .before .before .before .before .before in
     rw (c .before .before .before .index-of .ensures) (s .pre .0)
 
-same-length : tie.Need-same-length
-same-length c = search needs
-
 returns-2 : tie.Need-returns-2
 returns-2 c = none-left (rw (c .before .before .before .before .before .before .index-of .ensures) at (c .before .before .clear .ensures)) refl
 
 pub marks-for-spec : {M : Type 1} → statement M
 marks-for-spec =
     tie.close
-    (tie.spec index-of-requires stands-on-requires returns clear-requires same-length returns-2)
+    (tie.spec (λ c κs. search needs) (λ c κs. search needs) returns clear-requires (λ c. search needs) returns-2)

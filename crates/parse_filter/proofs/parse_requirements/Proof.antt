@@ -54,12 +54,6 @@ cast-t29 c =
           _ _ (c .before .before .before .before .alive2 .given) (c .before .before .before .before .before .filter-alive .ensures),
     )
 
-same-length : tie.Need-same-length
-same-length c = search needs
-
-same-length-2 : tie.Need-same-length-2
-same-length-2 c = search needs
-
 returns-2 : tie.Need-returns-2
 returns-2 c =
     let s = c .before .before .before .before .before .before .before .before .before .before .before .before .before .before .before .before .before .before .before .before .before .before .before .before .before .before in
@@ -79,6 +73,6 @@ parse-requirements-spec =
     companion-codes-requires
     cast-t28
     cast-t29
-    same-length
-    same-length-2
+    (λ c. search needs)
+    (λ c. search needs)
     returns-2)

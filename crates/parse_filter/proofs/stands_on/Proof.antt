@@ -20,9 +20,6 @@ abbrev μ-loop : tie.MeasureT-loop
 loop-holds : tie.Need-loop-holds Inv-loop μ-loop
 loop-holds c = (omega arith, refl)
 
-sub-index-of : tie.Need-sub-index-of Inv-loop μ-loop
-sub-index-of c = omega arith
-
 mul-index-of : tie.Need-mul-index-of Inv-loop μ-loop
 mul-index-of c =
     let l = c .before in
@@ -40,9 +37,6 @@ shared-slice-read-index-of c =
     let l = c .before .before in
     let s = l .before .before in
     s .pre .row (l .loop .c) (omega (arith, c .before .loop-test .taken)) (l .loop .inv .0)
-
-index-of-requires : tie.Need-index-of-requires Inv-loop μ-loop
-index-of-requires c κs = search needs
 
 loop-less : tie.Need-loop-less Inv-loop μ-loop
 loop-less c =
@@ -71,11 +65,11 @@ stands-on-spec =
     Inv-loop
     μ-loop
     loop-holds
-    sub-index-of
+    (λ c. omega arith)
     mul-index-of
     mul-index-of-2
     shared-slice-read-index-of
-    index-of-requires
+    (λ c κs. search needs)
     loop-less
     loop-again
     returns)

@@ -37,24 +37,6 @@ code-below-claims t = (kind-of-reads.Asked, kind-of-reads.Learnt, zero-sign-read
 code-below-returns : (t : ℕ) → code-below-lts.Need-returns (code-below-claims t) (code-below-at t) code-below.Post
 code-below-returns t c = means-out (now (c .before .args .ws)) (now (c .before .args .val)) (c .before .args .known) (c .before .args .b) (c .before .args .i) (c .before .args .neg) (c .if1 .taken)
 
-code-below-mul-kind-of : (t : ℕ) → code-below-lts.Need-mul-kind-of (code-below-claims t) (code-below-at t) code-below.Post
-code-below-mul-kind-of t c = search needs
-
-code-below-mul-kind-of-2 : (t : ℕ) → code-below-lts.Need-mul-kind-of-2 (code-below-claims t) (code-below-at t) code-below.Post
-code-below-mul-kind-of-2 t c = search needs
-
-code-below-element-copy-out-kind-of : (t : ℕ) → code-below-lts.Need-element-copy-out-kind-of (code-below-claims t) (code-below-at t) code-below.Post
-code-below-element-copy-out-kind-of t c = search needs
-
-code-below-kind-of-requires : (t : ℕ) → code-below-lts.Need-kind-of-requires (code-below-claims t) (code-below-at t) code-below.Post
-code-below-kind-of-requires t c κs = search needs
-
-code-below-enum-known-k : (t : ℕ) → code-below-lts.Need-enum-known-k (code-below-claims t) (code-below-at t) code-below.Post
-code-below-enum-known-k t c = search needs
-
-code-below-zero-sign-requires : (t : ℕ) → code-below-lts.Need-zero-sign-requires (code-below-claims t) (code-below-at t) code-below.Post
-code-below-zero-sign-requires t c κs = search needs
-
 code-below-returns-2 : (t : ℕ) → code-below-lts.Need-returns-2 (code-below-claims t) (code-below-at t) code-below.Post
 code-below-returns-2 t c =
     let x5 = c .before .before .before .before .before in
@@ -62,21 +44,6 @@ code-below-returns-2 t c =
     let start = x7 .before in
     means-nothing (now (start .args .ws)) (now (start .args .val)) (start .args .known) (start .args .b) (start .args .i) (start .args .neg) (x7 .if1 .left) _
     (x5 .kind-of .ensures) _ _ (c .before .before .before .k .given .1) (c .before .zero-sign .ensures) (c .if2 .taken)
-
-code-below-mul-index-of : (t : ℕ) → code-below-lts.Need-mul-index-of (code-below-claims t) (code-below-at t) code-below.Post
-code-below-mul-index-of t c = search needs
-
-code-below-add-index-of : (t : ℕ) → code-below-lts.Need-add-index-of (code-below-claims t) (code-below-at t) code-below.Post
-code-below-add-index-of t c = search needs
-
-code-below-mul-index-of-2 : (t : ℕ) → code-below-lts.Need-mul-index-of-2 (code-below-claims t) (code-below-at t) code-below.Post
-code-below-mul-index-of-2 t c = search needs
-
-code-below-element-copy-out-index-of : (t : ℕ) → code-below-lts.Need-element-copy-out-index-of (code-below-claims t) (code-below-at t) code-below.Post
-code-below-element-copy-out-index-of t c = search needs
-
-code-below-index-of-requires : (t : ℕ) → code-below-lts.Need-index-of-requires (code-below-claims t) (code-below-at t) code-below.Post
-code-below-index-of-requires t c κs = search needs
 
 code-below-code-below-requires : (t : ℕ) → code-below-lts.Need-code-below-requires (code-below-claims t) (code-below-at t) code-below.Post
 code-below-code-below-requires t c κs = let p : c .before .before .before .before .before .before .before .before .before .before .before .args .b ≡ t = c .before .before .before .before .before .before .before .before .before .before .before .pre .0 in omega (arith, c .before .before .before .before .before .before .before .before .before .before .before .pre .1, c .before .before .before .before .before .before .before .before .before .before .if1 .left)
@@ -94,41 +61,8 @@ code-below-returns-3 t c =
 code-below-code-below-requires-2 : (t : ℕ) → code-below-lts.Need-code-below-requires-2 (code-below-claims t) (code-below-at t) code-below.Post
 code-below-code-below-requires-2 t c κs = let p : c .before .before .before .before .before .before .before .before .before .before .before .args .b ≡ t = c .before .before .before .before .before .before .before .before .before .before .before .pre .0 in omega (arith, c .before .before .before .before .before .before .before .before .before .before .before .pre .1, c .before .before .before .before .before .before .before .before .before .before .if1 .left)
 
-code-below-enum-known-k-2 : (t : ℕ) → code-below-lts.Need-enum-known-k-2 (code-below-claims t) (code-below-at t) code-below.Post
-code-below-enum-known-k-2 t c = search needs
-
-code-below-cast-shifted-below : (t : ℕ) → code-below-lts.Need-cast-shifted-below (code-below-claims t) (code-below-at t) code-below.Post
-code-below-cast-shifted-below t c = search needs
-
-code-below-mul-shifted-below : (t : ℕ) → code-below-lts.Need-mul-shifted-below (code-below-claims t) (code-below-at t) code-below.Post
-code-below-mul-shifted-below t c = search needs
-
-code-below-add-shifted-below : (t : ℕ) → code-below-lts.Need-add-shifted-below (code-below-claims t) (code-below-at t) code-below.Post
-code-below-add-shifted-below t c = search needs
-
-code-below-mul-shifted-below-2 : (t : ℕ) → code-below-lts.Need-mul-shifted-below-2 (code-below-claims t) (code-below-at t) code-below.Post
-code-below-mul-shifted-below-2 t c = search needs
-
-code-below-element-copy-out-shifted-below : (t : ℕ) → code-below-lts.Need-element-copy-out-shifted-below (code-below-claims t) (code-below-at t) code-below.Post
-code-below-element-copy-out-shifted-below t c = search needs
-
-code-below-shifted-below-requires : (t : ℕ) → code-below-lts.Need-shifted-below-requires (code-below-claims t) (code-below-at t) code-below.Post
-code-below-shifted-below-requires t c κs = search needs
-
-code-below-read-code-requires : (t : ℕ) → code-below-lts.Need-read-code-requires (code-below-claims t) (code-below-at t) code-below.Post
-code-below-read-code-requires t c κs = search needs
-
 code-below-signed-code-requires : (t : ℕ) → code-below-lts.Need-signed-code-requires (code-below-claims t) (code-below-at t) code-below.Post
 code-below-signed-code-requires t c κs = c .read-code .ensures .most
-
-code-below-enum-told : (t : ℕ) → code-below-lts.Need-enum-told (code-below-claims t) (code-below-at t) code-below.Post
-code-below-enum-told t c = search needs
-
-code-below-enum-told-2 : (t : ℕ) → code-below-lts.Need-enum-told-2 (code-below-claims t) (code-below-at t) code-below.Post
-code-below-enum-told-2 t c = search needs
-
-code-below-enum-told-3 : (t : ℕ) → code-below-lts.Need-enum-told-3 (code-below-claims t) (code-below-at t) code-below.Post
-code-below-enum-told-3 t c = search needs
 
 code-below-returns-4 : (t : ℕ) → code-below-lts.Need-returns-4 (code-below-claims t) (code-below-at t) code-below.Post
 code-below-returns-4 t c =
@@ -177,33 +111,33 @@ pub +code-below-spec : {M : Type 1} → statement M
     (code-below-at t)
     code-below.Post
     (code-below-returns t)
-    (code-below-mul-kind-of t)
-    (code-below-mul-kind-of-2 t)
-    (code-below-element-copy-out-kind-of t)
-    (code-below-kind-of-requires t)
-    (code-below-enum-known-k t)
-    (code-below-zero-sign-requires t)
+    (λ c. search needs)
+    (λ c. search needs)
+    (λ c. search needs)
+    (λ c κs. search needs)
+    (λ c. search needs)
+    (λ c κs. search needs)
     (code-below-returns-2 t)
-    (code-below-mul-index-of t)
-    (code-below-add-index-of t)
-    (code-below-mul-index-of-2 t)
-    (code-below-element-copy-out-index-of t)
-    (code-below-index-of-requires t)
+    (λ c. search needs)
+    (λ c. search needs)
+    (λ c. search needs)
+    (λ c. search needs)
+    (λ c κs. search needs)
     (code-below-code-below-requires t)
     (code-below-returns-3 t)
     (code-below-code-below-requires-2 t)
-    (code-below-enum-known-k-2 t)
-    (code-below-cast-shifted-below t)
-    (code-below-mul-shifted-below t)
-    (code-below-add-shifted-below t)
-    (code-below-mul-shifted-below-2 t)
-    (code-below-element-copy-out-shifted-below t)
-    (code-below-shifted-below-requires t)
-    (code-below-read-code-requires t)
+    (λ c. search needs)
+    (λ c. search needs)
+    (λ c. search needs)
+    (λ c. search needs)
+    (λ c. search needs)
+    (λ c. search needs)
+    (λ c κs. search needs)
+    (λ c κs. search needs)
     (code-below-signed-code-requires t)
-    (code-below-enum-told t)
-    (code-below-enum-told-2 t)
-    (code-below-enum-told-3 t)
+    (λ c. search needs)
+    (λ c. search needs)
+    (λ c. search needs)
     (code-below-returns-4 t)
     (code-below-returns-5 t)
     (code-below-returns-6 t)

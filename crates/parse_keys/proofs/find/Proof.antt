@@ -15,20 +15,8 @@ abbrev μ-loop : tie.MeasureT-loop
 loop-holds : tie.Need-loop-holds Inv-loop μ-loop
 loop-holds c = seek-start _ _ _ _ (c .before .before .pre .1)
 
-mul-link : tie.Need-mul-link Inv-loop μ-loop
-mul-link c = search needs
-
-add-link : tie.Need-add-link Inv-loop μ-loop
-add-link c = search needs
-
-mul-index-of : tie.Need-mul-index-of Inv-loop μ-loop
-mul-index-of c = search needs
-
 shared-slice-read-index-of : tie.Need-shared-slice-read-index-of Inv-loop μ-loop
 shared-slice-read-index-of c = omega (arith, c .before .loop .inv .most, c .before .before .before .before .pre .0 .1)
-
-index-of-requires : tie.Need-index-of-requires Inv-loop μ-loop
-index-of-requires c κs = search needs
 
 returns : tie.Need-returns Inv-loop μ-loop
 returns c = free-answer _ _ _ _ _ (seek-free _ _ _ _ (c .before .before .before .before .before .before .pre .1) (c .before .before .before .loop .at) (c .before .before .before .loop .bits) (c .before .before .before .loop .inv) _ (c .before .index-of .ensures) (c .if1 .taken))
@@ -55,11 +43,11 @@ find-spec =
     Inv-loop
     μ-loop
     loop-holds
-    mul-link
-    add-link
-    mul-index-of
+    (λ c. search needs)
+    (λ c. search needs)
+    (λ c. search needs)
     shared-slice-read-index-of
-    index-of-requires
+    (λ c κs. search needs)
     returns
     mul-if2
     shared-slice-read-if2

@@ -7,9 +7,6 @@ use borrow.Author.Needs.{needs}
 use Rattle.parse_keys.proofs.flag_code.Statement.{statement}
 use Rattle.parse_keys.proofs.flag_code.Tie as tie
 
-add-result : tie.Need-add-result
-add-result c = search needs
-
 returns : tie.Need-returns
 returns c = sym (rw (lt-ltb (c .before .args .s) wide (c .if1 .taken)))
 
@@ -17,4 +14,4 @@ returns-2 : tie.Need-returns-2
 returns-2 c = sym (rw (le-ltb (c .before .args .s) wide (c .if1 .left)))
 
 pub flag-code-spec : {M : Type 1} → statement M
-flag-code-spec = tie.close (tie.spec add-result returns returns-2)
+flag-code-spec = tie.close (tie.spec (λ c. search needs) returns returns-2)

@@ -10,9 +10,6 @@ use Rattle.parse_keys.proofs.id_code.Tie as tie
 returns : tie.Need-returns
 returns c = sym (rw (lt-ltb (c .before .args .s) half (c .if1 .taken)))
 
-add-result : tie.Need-add-result
-add-result c = search needs
-
 returns-2 : tie.Need-returns-2
 returns-2 c = sym (rw (le-ltb (c .before .before .args .s) half (c .before .if1 .left), lt-ltb (c .before .before .args .s - half) (c .before .before .args .n) (c .if2 .taken)))
 
@@ -20,4 +17,4 @@ returns-3 : tie.Need-returns-3
 returns-3 c = sym (rw (le-ltb (c .before .before .args .s) half (c .before .if1 .left), le-ltb (c .before .before .args .s - half) (c .before .before .args .n) (c .if2 .left)))
 
 pub id-code-spec : {M : Type 1} → statement M
-id-code-spec = tie.close (tie.spec returns add-result returns-2 returns-3)
+id-code-spec = tie.close (tie.spec returns (λ c. search needs) returns-2 returns-3)

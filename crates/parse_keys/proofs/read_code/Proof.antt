@@ -5,33 +5,6 @@ use borrow.Author.Needs.{needs}
 use Rattle.parse_keys.proofs.read_code.Statement.{statement}
 use Rattle.parse_keys.proofs.read_code.Tie as tie
 
-enum-told : tie.Need-enum-told
-enum-told c = search needs
-
-enum-told-2 : tie.Need-enum-told-2
-enum-told-2 c = search needs
-
-flag-code-requires : tie.Need-flag-code-requires
-flag-code-requires c κs = search needs
-
-enum-told-3 : tie.Need-enum-told-3
-enum-told-3 c = search needs
-
-enum-told-4 : tie.Need-enum-told-4
-enum-told-4 c = search needs
-
-id-code-requires : tie.Need-id-code-requires
-id-code-requires c κs = search needs
-
-enum-told-5 : tie.Need-enum-told-5
-enum-told-5 c = search needs
-
-id-code-requires-2 : tie.Need-id-code-requires-2
-id-code-requires-2 c κs = search needs
-
-enum-told-6 : tie.Need-enum-told-6
-enum-told-6 c = search needs
-
 returns : tie.Need-returns
 returns c = read-by _ _ _ _ _ (c .before .before .fits .items .fits) (c .before .before .fits .atcs .fits) (rw (c .enum-told .given .1))
 
@@ -54,15 +27,15 @@ pub read-code-spec : {M : Type 1} → statement M
 read-code-spec =
     tie.close
     (tie.spec
-    enum-told
-    enum-told-2
-    flag-code-requires
-    enum-told-3
-    enum-told-4
-    id-code-requires
-    enum-told-5
-    id-code-requires-2
-    enum-told-6
+    (λ c. search needs)
+    (λ c. search needs)
+    (λ c κs. search needs)
+    (λ c. search needs)
+    (λ c. search needs)
+    (λ c κs. search needs)
+    (λ c. search needs)
+    (λ c κs. search needs)
+    (λ c. search needs)
     returns
     returns-2
     returns-3

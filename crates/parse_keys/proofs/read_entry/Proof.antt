@@ -5,9 +5,6 @@ use borrow.Author.Needs.{needs}
 use Rattle.parse_keys.proofs.read_entry.Statement.{statement}
 use Rattle.parse_keys.proofs.read_entry.Tie as tie
 
-code-below-requires : tie.Need-code-below-requires
-code-below-requires c κs = search needs
-
 returns : tie.Need-returns
 returns c =
     let start = c .before .before .before .before .before in
@@ -19,15 +16,6 @@ entry-of-requires c κs =
     let x4 = c .before .before .before .before in
     let start = x4 .before .before .before .before in
     (start .pre .1, node-subject (now (start .args .ws)) (now (start .args .val)) (start .args .known) (start .args .b) (start .args .i) (start .args .neg) _ (x4 .code-below .ensures) (c .before .before .before .if1 .left))
-
-same-length : tie.Need-same-length
-same-length c = search needs
-
-same-length-2 : tie.Need-same-length-2
-same-length-2 c = search needs
-
-same-length-3 : tie.Need-same-length-3
-same-length-3 c = search needs
 
 returns-2 : tie.Need-returns-2
 returns-2 c =
@@ -42,10 +30,10 @@ pub read-entry-spec : {M : Type 1} → statement M
 read-entry-spec =
     tie.close
     (tie.spec
-    code-below-requires
+    (λ c κs. search needs)
     returns
     entry-of-requires
-    same-length
-    same-length-2
-    same-length-3
+    (λ c. search needs)
+    (λ c. search needs)
+    (λ c. search needs)
     returns-2)

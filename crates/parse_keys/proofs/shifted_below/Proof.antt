@@ -5,18 +5,6 @@ use borrow.Author.Needs.{needs}
 use Rattle.parse_keys.proofs.shifted_below.Statement.{statement}
 use Rattle.parse_keys.proofs.shifted_below.Tie as tie
 
-number-below-requires : tie.Need-number-below-requires
-number-below-requires c κs = search needs
-
-enum-known-v : tie.Need-enum-known-v
-enum-known-v c = search needs
-
-shifted-requires : tie.Need-shifted-requires
-shifted-requires c κs = search needs
-
-enum-told : tie.Need-enum-told
-enum-told c = search needs
-
 returns : tie.Need-returns
 returns c = λ n. rw (← c .before .before .before .before .number-below .ensures n, c .before .before .v .given .1) (rw (toZ-ofZ {w = w32} (record { sfits = c .before .known-told .given .0 .1 })) at (c .shifted .ensures))
 
@@ -26,4 +14,4 @@ returns-2 c = λ n. rw (← c .before .before .number-below .ensures n, c .enum-
 pub shifted-below-spec : {M : Type 1} → statement M
 shifted-below-spec =
     tie.close
-    (tie.spec number-below-requires enum-known-v shifted-requires enum-told returns returns-2)
+    (tie.spec (λ c κs. search needs) (λ c. search needs) (λ c κs. search needs) (λ c. search needs) returns returns-2)

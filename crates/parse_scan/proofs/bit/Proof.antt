@@ -8,14 +8,8 @@ use borrow.Author.Needs.{needs}
 use Rattle.parse_scan.proofs.bit.Statement.{statement}
 use Rattle.parse_scan.proofs.bit.Tie as tie
 
-cast-result : tie.Need-cast-result
-cast-result c = search needs
-
-shl-result : tie.Need-shl-result
-shl-result c = search needs
-
 returns : tie.Need-returns
 returns c = ap (λ (n : ℕ). n % 2 ^ 32) (one-mul (2 ^ c .args .i)) ∙ mod-eq-of-lt (pow-lt {j = 32} (omega arith))
 
 pub bit-spec : {M : Type 1} → statement M
-bit-spec = tie.close (tie.spec cast-result shl-result returns)
+bit-spec = tie.close (tie.spec (λ c. search needs) (λ c. search needs) returns)

@@ -6,11 +6,8 @@ use borrow.Author.Needs.{needs}
 use Rattle.parse_scan.proofs.cut.Statement.{statement}
 use Rattle.parse_scan.proofs.cut.Tie as tie
 
-cut-i16-requires : tie.Need-cut-i16-requires
-cut-i16-requires c κs = search needs
-
 returns : tie.Need-returns
 returns c = toZ-ofZ {w = w16} (record { sfits = c .cut-i16 .ok }) ∙ (rw (toZ-ofZ (c .before .fits .x)) at (c .cut-i16 .ensures))
 
 pub cut-spec : {M : Type 1} → statement M
-cut-spec = tie.close (tie.spec cut-i16-requires returns)
+cut-spec = tie.close (tie.spec (λ c κs. search needs) returns)

@@ -22,37 +22,10 @@ goes c n =
     let s = c .before .before in
     c .target-of .ensures ∙ ap place (c .before .number-below .ensures n ∙ ap value (below-in (nodes c n) 32768 (s .args .t) (s .pre .target)))
 
-number-below-requires : tie.Need-number-below-requires
-number-below-requires c κs = search needs
-
-target-of-requires : tie.Need-target-of-requires
-target-of-requires c κs = search needs
-
-enum-told : tie.Need-enum-told
-enum-told c = search needs
-
-limit-after-requires : tie.Need-limit-after-requires
-limit-after-requires c κs = search needs
-
-enum-told-2 : tie.Need-enum-told-2
-enum-told-2 c = search needs
-
-enum-known-target : tie.Need-enum-known-target
-enum-known-target c = search needs
-
-written-by-requires : tie.Need-written-by-requires
-written-by-requires c κs = search needs
-
 keep-requires : tie.Need-keep-requires
 keep-requires c κs = let t = c .before .before .before .before .target .given in
     let f = c .before .before .before .before .before .before in
     target-low (numberOf (f .before .number-below .result)) (t .0 .0) (sym (ap targetIs (t .1)) ∙ f .target-of .ensures)
-
-enum-known-target-2 : tie.Need-enum-known-target-2
-enum-known-target-2 c = search needs
-
-written-by-requires-2 : tie.Need-written-by-requires-2
-written-by-requires-2 c κs = search needs
 
 keep-requires-2 : tie.Need-keep-requires-2
 keep-requires-2 c κs = let t = c .before .before .before .before .target2 .given in
@@ -100,16 +73,16 @@ pub evaluate-set-spec : {M : Type 1} → statement M
 evaluate-set-spec =
     tie.close
     (tie.spec
-    number-below-requires
-    target-of-requires
-    enum-told
-    limit-after-requires
-    enum-told-2
-    enum-known-target
-    written-by-requires
+    (λ c κs. search needs)
+    (λ c κs. search needs)
+    (λ c. search needs)
+    (λ c κs. search needs)
+    (λ c. search needs)
+    (λ c. search needs)
+    (λ c κs. search needs)
     keep-requires
-    enum-known-target-2
-    written-by-requires-2
+    (λ c. search needs)
+    (λ c κs. search needs)
     keep-requires-2
     returns
     returns-2

@@ -23,12 +23,9 @@ returns-2 : tie.Need-returns-2
 returns-2 c = let s = c .before .before .before in
     rw (toZ-ofZ (s .fits .x), missing (c .before .before), no-item, le-ltb (s .args .id .0) (s .args .known) (c .if2 .taken))
 
-cast-result : tie.Need-cast-result
-cast-result c = search needs
-
 returns-3 : tie.Need-returns-3
 returns-3 c = let a = c .before .before .before .before .args in
     rw (toZ-pos w32 (a .id .0) (omega arith), missing (c .before .before .before), no-item, one-item (a .id .0) (omega arith), lt-ltb (a .id .0) (a .known) (c .before .if2 .left))
 
 pub fill-number-spec : {M : Type 1} → statement M
-fill-number-spec = tie.close (tie.spec returns returns-2 cast-result returns-3)
+fill-number-spec = tie.close (tie.spec returns returns-2 (λ c. search needs) returns-3)

@@ -10,36 +10,6 @@ use borrow.Author.Needs.{needs}
 use Rattle.parse_scan.proofs.fill_slot.Statement.{statement}
 use Rattle.parse_scan.proofs.fill_slot.Tie as tie
 
-mul-fill-number : tie.Need-mul-fill-number
-mul-fill-number c = search needs
-
-element-copy-out-fill-number : tie.Need-element-copy-out-fill-number
-element-copy-out-fill-number c = search needs
-
-fill-number-requires : tie.Need-fill-number-requires
-fill-number-requires c κs = search needs
-
-mul-t12 : tie.Need-mul-t12
-mul-t12 c = search needs
-
-element-set-from-items : tie.Need-element-set-from-items
-element-set-from-items c = search needs
-
-mul-new-count : tie.Need-mul-new-count
-mul-new-count c = search needs
-
-element-copy-out-new-count : tie.Need-element-copy-out-new-count
-element-copy-out-new-count c = search needs
-
-new-count-requires : tie.Need-new-count-requires
-new-count-requires c κs = search needs
-
-mul-t12-2 : tie.Need-mul-t12-2
-mul-t12-2 c = search needs
-
-element-set-from-limits : tie.Need-element-set-from-limits
-element-set-from-limits c = search needs
-
 returns : tie.Need-returns
 returns c = let s = c .before .before .before .before in
     let a = s .args in
@@ -54,14 +24,14 @@ pub fill-slot-spec : {M : Type 1} → statement M
 fill-slot-spec =
     tie.close
     (tie.spec
-    mul-fill-number
-    element-copy-out-fill-number
-    fill-number-requires
-    mul-t12
-    element-set-from-items
-    mul-new-count
-    element-copy-out-new-count
-    new-count-requires
-    mul-t12-2
-    element-set-from-limits
+    (λ c. search needs)
+    (λ c. search needs)
+    (λ c κs. search needs)
+    (λ c. search needs)
+    (λ c. search needs)
+    (λ c. search needs)
+    (λ c. search needs)
+    (λ c κs. search needs)
+    (λ c. search needs)
+    (λ c. search needs)
     returns)

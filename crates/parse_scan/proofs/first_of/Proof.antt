@@ -8,20 +8,8 @@ use borrow.Author.Needs.{needs}
 use Rattle.parse_scan.proofs.first_of.Statement.{statement}
 use Rattle.parse_scan.proofs.first_of.Tie as tie
 
-enum-told : tie.Need-enum-told
-enum-told c = search needs
-
 returns : tie.Need-returns
 returns c = no-variable (c .before .args .o) _ _ (c .match .keys2)
-
-enum-known-x : tie.Need-enum-known-x
-enum-known-x c = search needs
-
-enum-told-2 : tie.Need-enum-told-2
-enum-told-2 c = search needs
-
-returns-2 : tie.Need-returns-2
-returns-2 c = search needs
 
 returns-3 : tie.Need-returns-3
 returns-3 c = let f : SFits w32 (c .before .before .x .given .0 .0) = record { sfits = c .before .known-told .given .0 .1 } in rw (toZ-ofZ (c .before .before .before .before .before .before .fits .limit), c .before .before .before .before .enum-told .given .1, c .before .before .x .given .1) (zero-first _ _ f (c .if1 .taken))
@@ -31,4 +19,4 @@ returns-4 c = rw (c .before .before .before .before .enum-told .given .1, c .bef
 
 pub first-of-spec : {M : Type 1} → statement M
 first-of-spec =
-    tie.close (tie.spec enum-told returns enum-known-x enum-told-2 returns-2 returns-3 returns-4)
+    tie.close (tie.spec (λ c. search needs) returns (λ c. search needs) (λ c. search needs) (λ c. search needs) returns-3 returns-4)

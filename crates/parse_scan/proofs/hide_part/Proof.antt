@@ -7,27 +7,6 @@ use borrow.Author.Needs.{needs}
 use Rattle.parse_scan.proofs.hide_part.Statement.{statement}
 use Rattle.parse_scan.proofs.hide_part.Tie as tie
 
-add-end : tie.Need-add-end
-add-end c = search needs
-
-mul-hide-row : tie.Need-mul-hide-row
-mul-hide-row c = search needs
-
-sub-hide-row : tie.Need-sub-hide-row
-sub-hide-row c = search needs
-
-part-hide-row-start : tie.Need-part-hide-row-start
-part-hide-row-start c = search needs
-
-part-hide-row-end : tie.Need-part-hide-row-end
-part-hide-row-end c = search needs
-
-hide-row-requires : tie.Need-hide-row-requires
-hide-row-requires c κs = search needs
-
-same-length : tie.Need-same-length
-same-length c = search needs
-
 returns : tie.Need-returns
 returns c =
     let a = c .before .before .before .before .before .args in
@@ -37,11 +16,11 @@ pub hide-part-spec : {M : Type 1} → statement M
 hide-part-spec =
     tie.close
     (tie.spec
-    add-end
-    mul-hide-row
-    sub-hide-row
-    part-hide-row-start
-    part-hide-row-end
-    hide-row-requires
-    same-length
+    (λ c. search needs)
+    (λ c. search needs)
+    (λ c. search needs)
+    (λ c. search needs)
+    (λ c. search needs)
+    (λ c κs. search needs)
+    (λ c. search needs)
     returns)

@@ -27,17 +27,8 @@ more-left c = omega (arith, ds-long (c .before .before), c .loop-test .taken)
 next : (c : tie.In-loop Inv-loop μ-loop) → let a = c .before .before .before .before .args in getD (a .more .now) (c .before .loop .i) 0 ≡ getD (take (a .len) (a .more .now)) (c .before .loop .i) 0
 next c = let a = c .before .before .before .before .args in sym (getD-take (a .len) (a .more .now) (c .before .loop .i) 0 (c .loop-test .taken))
 
-capacity-requires : tie.Need-capacity-requires Inv-loop μ-loop
-capacity-requires c κs = search needs
-
 loop-holds : tie.Need-loop-holds Inv-loop μ-loop
 loop-holds c = let s = c .before .before in row-start _ _ _ (s .pre .0) (s .pre .1 .0)
-
-mul-insert-row : tie.Need-mul-insert-row Inv-loop μ-loop
-mul-insert-row c = search needs
-
-element-copy-out-insert-row : tie.Need-element-copy-out-insert-row Inv-loop μ-loop
-element-copy-out-insert-row c = omega arith
 
 insert-row-requires : tie.Need-insert-row-requires Inv-loop μ-loop
 insert-row-requires c κs = let v = c .before .before .before .loop .inv in (v .long, v .few)
@@ -53,9 +44,6 @@ returns c = let w = c .before .before .before in
     let l = w .before .before .before .before in
     let s = l .before .before .before in
     row-over _ _ _ _ _ _ (l .loop .inv) (more-left (w .before .before .before)) _ (next (w .before .before .before)) _ _ (w .insert-row .ensures) (c .if1 .taken)
-
-add-i : tie.Need-add-i Inv-loop μ-loop
-add-i c = search needs
 
 loop-less : tie.Need-loop-less Inv-loop μ-loop
 loop-less c = omega (arith, c .before .before .before .before .before .before .loop-test .taken)
@@ -76,14 +64,14 @@ hide-row-spec =
     (tie.spec
     Inv-loop
     μ-loop
-    capacity-requires
+    (λ c κs. search needs)
     loop-holds
-    mul-insert-row
-    element-copy-out-insert-row
+    (λ c. search needs)
+    (λ c. omega arith)
     insert-row-requires
     same-length
     returns
-    add-i
+    (λ c. search needs)
     loop-less
     loop-again
     same-length-2

@@ -7,26 +7,8 @@ use Rattle.parse_scan.proofs.hide_slot.Tie as tie
 returns : tie.Need-returns
 returns c = hidden-none _ _ _ (c .before .pre .0 .0) _ _ (c .if1 .taken)
 
-mul-hide-part : tie.Need-mul-hide-part
-mul-hide-part c = search needs
-
-element-copy-out-hide-part : tie.Need-element-copy-out-hide-part
-element-copy-out-hide-part c = search needs
-
-cast-hide-part : tie.Need-cast-hide-part
-cast-hide-part c = search needs
-
-hide-part-requires : tie.Need-hide-part-requires
-hide-part-requires c κs = search needs
-
 returns-2 : tie.Need-returns-2
 returns-2 c = hidden-over _ _ _ (c .before .before .before .before .before .pre .0 .0) _ _ (c .before .before .before .before .if1 .left) _ _ (c .before .hide-part .ensures) (c .if2 .taken)
-
-cast-lens : tie.Need-cast-lens
-cast-lens c = search needs
-
-element-write-lens : tie.Need-element-write-lens
-element-write-lens c = search needs
 
 returns-3 : tie.Need-returns-3
 returns-3 c = let s = c .before .before .before .before .before in
@@ -37,11 +19,11 @@ hide-slot-spec =
     tie.close
     (tie.spec
     returns
-    mul-hide-part
-    element-copy-out-hide-part
-    cast-hide-part
-    hide-part-requires
+    (λ c. search needs)
+    (λ c. search needs)
+    (λ c. search needs)
+    (λ c κs. search needs)
     returns-2
-    cast-lens
-    element-write-lens
+    (λ c. search needs)
+    (λ c. search needs)
     returns-3)

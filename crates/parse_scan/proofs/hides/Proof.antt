@@ -17,14 +17,8 @@ Inv-loop s ids at₀ at = ShownBelow (s .«item_mask») ids (s .«count_mask») 
 abbrev μ-loop : tie.MeasureT-loop
 μ-loop s ids at₀ at = slotCount - at
 
-size-requires : tie.Need-size-requires Inv-loop μ-loop
-size-requires c κs = search needs
-
 loop-holds : tie.Need-loop-holds Inv-loop μ-loop
 loop-holds c = shown-start _ _ (c .size .ensures) _
-
-next-touched-requires : tie.Need-next-touched-requires Inv-loop μ-loop
-next-touched-requires c κs = search needs
 
 returns : tie.Need-returns Inv-loop μ-loop
 returns c = let e = c .before .before .before .before .size .ensures in
@@ -32,21 +26,12 @@ returns c = let e = c .before .before .before .before .size .ensures in
     let n = c .before .next-touched .ensures in
     shown-all _ _ e _ slotCount (shown-to _ _ e _ (l .at) slotCount (l .inv) (omega arith) (omega (arith, c .if1 .taken))) (omega arith)
 
-value-at-requires : tie.Need-value-at-requires Inv-loop μ-loop
-value-at-requires c κs = search needs
-
-hides-by-requires : tie.Need-hides-by-requires Inv-loop μ-loop
-hides-by-requires c κs = search needs
-
 returns-2 : tie.Need-returns-2 Inv-loop μ-loop
 returns-2 c = let t = c .before .before .before .before in
     let a = t .before .before .before .before .args in
     let n = t .next-touched .ensures in
     hidden-at _ _ (t .before .before .before .size .ensures) _ (t .before .before .loop .at) (omega (arith, c .before .before .before .if1 .left))
     (λ z. sym (c .if2 .taken) ∙ c .before .hides-by .ensures z ∙ ap (λ o. hidesBy o (some z)) (c .before .before .value-at .ensures ∙ ap (λ j. getD (tableOf (a .s .«item_mask») (a .ids .now)) j none) n))
-
-add-at : tie.Need-add-at Inv-loop μ-loop
-add-at c = search needs
 
 loop-less : tie.Need-loop-less Inv-loop μ-loop
 loop-less c = let t = c .before .before .before .before in
@@ -71,14 +56,14 @@ hides-spec =
     (tie.spec
     Inv-loop
     μ-loop
-    size-requires
+    (λ c κs. search needs)
     loop-holds
-    next-touched-requires
+    (λ c κs. search needs)
     returns
-    value-at-requires
-    hides-by-requires
+    (λ c κs. search needs)
+    (λ c κs. search needs)
     returns-2
-    add-at
+    (λ c. search needs)
     loop-less
     loop-again
     returns-3)

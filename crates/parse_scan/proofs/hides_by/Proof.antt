@@ -12,12 +12,6 @@ use borrow.Author.Needs.{needs}
 use Rattle.parse_scan.proofs.hides_by.Statement.{statement}
 use Rattle.parse_scan.proofs.hides_by.Tie as tie
 
-enum-known-item : tie.Need-enum-known-item
-enum-known-item c = search needs
-
-enum-told : tie.Need-enum-told
-enum-told c = search needs
-
 returns : tie.Need-returns
 returns c = λ z. rw (c .enum-told .given .1)
 
@@ -28,4 +22,4 @@ returns-2 c = λ z.
     ap (λ (k : ℤ). ltZ k (pos 0)) (toZ-ofZ f) ∙ hides-negative (i .0 .0) z ∙ sym (ap (λ o. hidesBy (shortIs o) (some z)) (i .1))
 
 pub hides-by-spec : {M : Type 1} → statement M
-hides-by-spec = tie.close (tie.spec enum-known-item enum-told returns returns-2)
+hides-by-spec = tie.close (tie.spec (λ c. search needs) (λ c. search needs) returns returns-2)

@@ -12,41 +12,8 @@ use Rattle.parse_scan.proofs.index_below.Tie as tie
 returns : tie.Need-returns
 returns c = λ n. sym (ap itemIndex (below-out (nodesIn (c .before .args .ws .now) (c .before .args .val .now) n) (c .before .args .b) (c .before .args .i) (c .if1 .taken)))
 
-mul-kind-of : tie.Need-mul-kind-of
-mul-kind-of c = search needs
-
-mul-kind-of-2 : tie.Need-mul-kind-of-2
-mul-kind-of-2 c = search needs
-
-element-copy-out-kind-of : tie.Need-element-copy-out-kind-of
-element-copy-out-kind-of c = search needs
-
-kind-of-requires : tie.Need-kind-of-requires
-kind-of-requires c κs = search needs
-
-enum-known-k : tie.Need-enum-known-k
-enum-known-k c = search needs
-
 returns-2 : tie.Need-returns-2
 returns-2 c = λ n. no-one _ (nodesIn (c .before .before .before .before .args .ws .now) (c .before .before .before .before .args .val .now) n) (c .before .before .before .before .args .b) (c .before .before .before .before .args .i) (c .before .before .before .if1 .left) (c .before .kind-of .ensures) (c .match .keys2)
-
-mul-number-below : tie.Need-mul-number-below
-mul-number-below c = search needs
-
-add-number-below : tie.Need-add-number-below
-add-number-below c = search needs
-
-mul-number-below-2 : tie.Need-mul-number-below-2
-mul-number-below-2 c = search needs
-
-element-copy-out-number-below : tie.Need-element-copy-out-number-below
-element-copy-out-number-below c = search needs
-
-number-below-requires : tie.Need-number-below-requires
-number-below-requires c κs = search needs
-
-index-by-requires : tie.Need-index-by-requires
-index-by-requires c κs = search needs
 
 returns-3 : tie.Need-returns-3
 returns-3 c = λ n.
@@ -60,16 +27,16 @@ index-below-spec =
     tie.close
     (tie.spec
     returns
-    mul-kind-of
-    mul-kind-of-2
-    element-copy-out-kind-of
-    kind-of-requires
-    enum-known-k
+    (λ c. search needs)
+    (λ c. search needs)
+    (λ c. search needs)
+    (λ c κs. search needs)
+    (λ c. search needs)
     returns-2
-    mul-number-below
-    add-number-below
-    mul-number-below-2
-    element-copy-out-number-below
-    number-below-requires
-    index-by-requires
+    (λ c. search needs)
+    (λ c. search needs)
+    (λ c. search needs)
+    (λ c. search needs)
+    (λ c κs. search needs)
+    (λ c κs. search needs)
     returns-3)

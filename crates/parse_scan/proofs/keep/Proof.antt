@@ -7,23 +7,8 @@ use borrow.Author.Needs.{needs}
 use Rattle.parse_scan.proofs.keep.Statement.{statement}
 use Rattle.parse_scan.proofs.keep.Tie as tie
 
-enum-known-w : tie.Need-enum-known-w
-enum-known-w c = search needs
-
-enum-told : tie.Need-enum-told
-enum-told c = search needs
-
 returns : tie.Need-returns
 returns c = rw (c .enum-told .given .1)
-
-mul-v : tie.Need-mul-v
-mul-v c = search needs
-
-element-set-from-v : tie.Need-element-set-from-v
-element-set-from-v c = search needs
-
-bit-requires : tie.Need-bit-requires
-bit-requires c κs = search needs
 
 returns-2 : tie.Need-returns-2
 returns-2 c = let a = c .before .before .before .before .args in
@@ -34,4 +19,4 @@ returns-2 c = let a = c .before .before .before .before .args in
 pub keep-spec : {M : Type 1} → statement M
 keep-spec =
     tie.close
-    (tie.spec enum-known-w enum-told returns mul-v element-set-from-v bit-requires returns-2)
+    (tie.spec (λ c. search needs) (λ c. search needs) returns (λ c. search needs) (λ c. search needs) (λ c κs. search needs) returns-2)

@@ -9,32 +9,14 @@ use borrow.Author.Needs.{needs}
 use Rattle.parse_scan.proofs.limit_by.Statement.{statement}
 use Rattle.parse_scan.proofs.limit_by.Tie as tie
 
-enum-told : tie.Need-enum-told
-enum-told c = search needs
-
 returns : tie.Need-returns
 returns c = rw (toZ-ofZ (c .before .fits .limit)) (no-subtract (c .before .args .o) _ _ (c .match .keys2))
-
-enum-told-2 : tie.Need-enum-told-2
-enum-told-2 c = search needs
-
-enum-told-3 : tie.Need-enum-told-3
-enum-told-3 c = search needs
 
 returns-2 : tie.Need-returns-2
 returns-2 c = rw (toZ-ofZ (c .before .before .before .before .fits .limit), c .before .before .enum-told .given .1, c .enum-told3 .given .1) (limit-unindexed (numberOf (c .before .before .before .before .args .x)) (c .before .before .before .before .args .limit))
 
-enum-known-x : tie.Need-enum-known-x
-enum-known-x c = search needs
-
-enum-told-4 : tie.Need-enum-told-4
-enum-told-4 c = search needs
-
 returns-3 : tie.Need-returns-3
 returns-3 c = rw (toZ-ofZ (c .before .before .before .before .before .before .fits .limit), c .before .before .before .before .enum-told .given .1, c .enum-told4 .given .1)
-
-cut-requires : tie.Need-cut-requires
-cut-requires c κs = search needs
 
 returns-4 : tie.Need-returns-4
 returns-4 c = let f : SFits w32 (c .before .before .x .given .0 .0) = record { sfits = c .before .known-told .given .0 .1 } in rw (toZ-ofZ {w = w16} {z = c .cut .result} (record { sfits = c .cut .ok }), c .before .before .before .before .before .before .enum-told .given .1, c .before .before .before .before .enum-told2 .given .1, c .before .before .x .given .1) (rw (toZ-ofZ f) at (c .cut .ensures))
@@ -43,13 +25,13 @@ pub limit-by-spec : {M : Type 1} → statement M
 limit-by-spec =
     tie.close
     (tie.spec
-    enum-told
+    (λ c. search needs)
     returns
-    enum-told-2
-    enum-told-3
+    (λ c. search needs)
+    (λ c. search needs)
     returns-2
-    enum-known-x
-    enum-told-4
+    (λ c. search needs)
+    (λ c. search needs)
     returns-3
-    cut-requires
+    (λ c κs. search needs)
     returns-4)

@@ -24,12 +24,6 @@ abbrev μ-loop : tie.MeasureT-loop
 abbrev coded : tie.Start Inv-loop μ-loop → ℕ → ℕ → Coded
 coded s n m = codedIn (s .args .ws .now) (s .args .val .now) (s .args .cw .now) n m
 
-size-requires : tie.Need-size-requires Inv-loop μ-loop
-size-requires c κs = search needs
-
-size-requires-2 : tie.Need-size-requires-2 Inv-loop μ-loop
-size-requires-2 c κs = search needs
-
 loop-holds : tie.Need-loop-holds Inv-loop μ-loop
 loop-holds c = let s = c .before .before .before .before in
     ((omega arith, last-start (s .args .cw .now) (s .args .held) (s .args .first) _ refl), λ n m e. scan-start (coded s n m) e (s .args .held) (s .args .first) _)
@@ -48,9 +42,6 @@ scan-one-requires : tie.Need-scan-one-requires Inv-loop μ-loop
 scan-one-requires c κs = let l = c .before .before .before .loop in
     let t = c .before .before .loop-test .taken in
     c .before .before .before .before .before .before .before .before .pre .each _ (omega (arith, l .inv .0 .0, t)) (omega (arith, l .inv .0 .0, t))
-
-sub-left : tie.Need-sub-left Inv-loop μ-loop
-sub-left c = search needs
 
 loop-less : tie.Need-loop-less Inv-loop μ-loop
 loop-less c = omega (arith, c .before .before .before .loop-test .taken)
@@ -82,13 +73,13 @@ scan-block-spec =
     (tie.spec
     Inv-loop
     μ-loop
-    size-requires
-    size-requires-2
+    (λ c κs. search needs)
+    (λ c κs. search needs)
     loop-holds
     sub-scan-one
     add-scan-one
     scan-one-requires
-    sub-left
+    (λ c. search needs)
     loop-less
     loop-again
     returns)

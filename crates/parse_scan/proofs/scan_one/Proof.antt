@@ -9,27 +9,6 @@ use borrow.Author.Needs.{needs}
 use Rattle.parse_scan.proofs.scan_one.Statement.{statement}
 use Rattle.parse_scan.proofs.scan_one.Tie as tie
 
-mul-code : tie.Need-mul-code
-mul-code c = search needs
-
-mul-code-2 : tie.Need-mul-code-2
-mul-code-2 c = search needs
-
-element-copy-out-code : tie.Need-element-copy-out-code
-element-copy-out-code c = search needs
-
-mul-a : tie.Need-mul-a
-mul-a c = search needs
-
-add-a : tie.Need-add-a
-add-a c = search needs
-
-mul-a-2 : tie.Need-mul-a-2
-mul-a-2 c = search needs
-
-element-copy-out-a : tie.Need-element-copy-out-a
-element-copy-out-a c = search needs
-
 add-t20 : tie.Need-add-t20
 add-t20 c = let h = c .before .before .before .pre .tests (c .if1 .taken) in omega arith
 
@@ -42,33 +21,9 @@ returns-2 : tie.Need-returns-2
 returns-2 c = let a = c .before .before .before .before .args in
     record { is = λ n m e. met-other (a .ws .now) (a .val .now) (a .cw .now) n m e (a .c) (a .s) (a .ids .now) (a .counts .now) (c .before .if1 .left) (c .if2 .taken); last = last-kept (a .cw .now) (a .c) (a .s .«last_if») (c .before .if1 .left) }
 
-mul-if3 : tie.Need-mul-if3
-mul-if3 c = search needs
-
-add-if3 : tie.Need-add-if3
-add-if3 c = search needs
-
-mul-if3-2 : tie.Need-mul-if3-2
-mul-if3-2 c = search needs
-
-element-copy-out-if3 : tie.Need-element-copy-out-if3
-element-copy-out-if3 c = search needs
-
 returns-3 : tie.Need-returns-3
 returns-3 c = let a = c .before .before .before .before .before .before .args in
     record { is = λ n m e. met-set-other (a .ws .now) (a .val .now) (a .cw .now) n m e (a .c) (a .s) (a .ids .now) (a .counts .now) (c .before .before .if2 .left) (c .if3 .taken); last = last-kept (a .cw .now) (a .c) (a .s .«last_if») (c .before .before .before .if1 .left) }
-
-mul-evaluate-set : tie.Need-mul-evaluate-set
-mul-evaluate-set c = search needs
-
-add-evaluate-set : tie.Need-add-evaluate-set
-add-evaluate-set c = search needs
-
-mul-evaluate-set-2 : tie.Need-mul-evaluate-set-2
-mul-evaluate-set-2 c = search needs
-
-element-copy-out-evaluate-set : tie.Need-element-copy-out-evaluate-set
-element-copy-out-evaluate-set c = search needs
 
 evaluate-set-requires : tie.Need-evaluate-set-requires
 evaluate-set-requires c κs = c .before .before .before .before .before .before .before .before .before .pre .sets (c .before .before .before .before .before .if2 .left) (c .before .before .before .if3 .left)
@@ -84,24 +39,24 @@ pub scan-one-spec : {M : Type 1} → statement M
 scan-one-spec =
     tie.close
     (tie.spec
-    mul-code
-    mul-code-2
-    element-copy-out-code
-    mul-a
-    add-a
-    mul-a-2
-    element-copy-out-a
+    (λ c. search needs)
+    (λ c. search needs)
+    (λ c. search needs)
+    (λ c. search needs)
+    (λ c. search needs)
+    (λ c. search needs)
+    (λ c. search needs)
     add-t20
     returns
     returns-2
-    mul-if3
-    add-if3
-    mul-if3-2
-    element-copy-out-if3
+    (λ c. search needs)
+    (λ c. search needs)
+    (λ c. search needs)
+    (λ c. search needs)
     returns-3
-    mul-evaluate-set
-    add-evaluate-set
-    mul-evaluate-set-2
-    element-copy-out-evaluate-set
+    (λ c. search needs)
+    (λ c. search needs)
+    (λ c. search needs)
+    (λ c. search needs)
     evaluate-set-requires
     returns-4)

@@ -12,15 +12,6 @@ use Rattle.parse_scan.proofs.target_of.Statement.{statement}
 use Rattle.parse_scan.proofs.target_of.Tie as tie
 use Rattle.model.specs.Laws.Signed.{not-negative}
 
-enum-known-x : tie.Need-enum-known-x
-enum-known-x c = search needs
-
-enum-told : tie.Need-enum-told
-enum-told c = search needs
-
-returns : tie.Need-returns
-returns c = search needs
-
 returns-2 : tie.Need-returns-2
 returns-2 c = let f : SFits w32 (c .before .before .x .given .0 .0) = record { sfits = c .before .known-told .given .0 .1 } in target-negative (c .before .before .x .given .0 .0) (rw (toZ-ofZ f) at (c .if1 .taken)) ∙ sym (ap (λ y. place (numberOf y)) (c .before .before .x .given .1))
 
@@ -61,9 +52,9 @@ pub target-of-spec : {M : Type 1} → statement M
 target-of-spec =
     tie.close
     (tie.spec
-    enum-known-x
-    enum-told
-    returns
+    (λ c. search needs)
+    (λ c. search needs)
+    (λ c. search needs)
     returns-2
     cast-n
     returns-3

@@ -10,25 +10,10 @@ use Rattle.parse_scan.proofs.update_slot.Statement.{statement}
 use Rattle.parse_scan.proofs.update_slot.Tie as tie
 use Rattle.model.specs.Laws.Signed.{not-negative}
 
-sizes-requires : tie.Need-sizes-requires
-sizes-requires c κs = search needs
-
-enum-known-count : tie.Need-enum-known-count
-enum-known-count c = search needs
-
-enum-told : tie.Need-enum-told
-enum-told c = search needs
-
 returns : tie.Need-returns
 returns c = let s = c .before .before .before .before .before .before .before in
     let a = s .args in
     done-none (a .items .now) (a .limits .now) (a .codes .now) (a .lens .now) (a .known) (a .i) (s .pre .0) (s .pre .1) _ _ _ _ (ap shortIs (c .enum-told .given .1))
-
-enum-known-item : tie.Need-enum-known-item
-enum-known-item c = search needs
-
-enum-told-2 : tie.Need-enum-told-2
-enum-told-2 c = search needs
 
 hide-slot-requires : tie.Need-hide-slot-requires
 hide-slot-requires c κs = let s = c .before .before .before .before .before .before .before .before .before .before .before .before in
@@ -59,9 +44,6 @@ cast-t26 c = let k = c .before .before .before .before .item .given .0 .0 in
     let f : SFits w16 (c .before .before .before .before .item .given .0 .0) = record { sfits = c .before .before .before .known-told2 .given .0 .1 } in
     rw (toZ-ofZ f) (not-negative k (rw (toZ-ofZ f) at (c .before .before .if1 .left)), fits-natAbs {w = w16} tt f)
 
-fill-slot-requires : tie.Need-fill-slot-requires
-fill-slot-requires c κs = search needs
-
 returns-4 : tie.Need-returns-4
 returns-4 c = let s = c .before .before .before .before .before .before .before .before .before .before .before .before .before .before .before in
     let a = s .args in
@@ -75,16 +57,16 @@ pub update-slot-spec : {M : Type 1} → statement M
 update-slot-spec =
     tie.close
     (tie.spec
-    sizes-requires
-    enum-known-count
-    enum-told
+    (λ c κs. search needs)
+    (λ c. search needs)
+    (λ c. search needs)
     returns
-    enum-known-item
-    enum-told-2
+    (λ c. search needs)
+    (λ c. search needs)
     hide-slot-requires
     returns-2
     hide-slot-requires-2
     returns-3
     cast-t26
-    fill-slot-requires
+    (λ c κs. search needs)
     returns-4)

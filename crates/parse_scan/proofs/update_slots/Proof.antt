@@ -59,17 +59,8 @@ good-there c =
     let s = c .before .before .before .before .before .before .before in
     subst GoodSlot (sym (up-to c .rest i (omega arith)) ∙ slot-in _ i beyond (c .if1 .left)) (s .pre .each i (c .if1 .left))
 
-size-requires : tie.Need-size-requires Inv-loop μ-loop
-size-requires c κs = search needs
-
-size-requires-2 : tie.Need-size-requires-2 Inv-loop μ-loop
-size-requires-2 c κs = search needs
-
 loop-holds : tie.Need-loop-holds Inv-loop μ-loop
 loop-holds c = let s = c .before .before .before in half-start (first s) (s .args .known) (ms s) (ns s) (Stands (s .args .more .now) (s .args .n)) (s .pre) (slots-long _)
-
-next-touched-requires : tie.Need-next-touched-requires Inv-loop μ-loop
-next-touched-requires c κs = search needs
 
 returns : tie.Need-returns Inv-loop μ-loop
 returns c = let l = c .before .before .before in
@@ -78,12 +69,6 @@ returns c = let l = c .before .before .before in
     record {
       by = half-done (first s) (s .args .known) (ms s) (ns s) (Stands (s .args .more .now) (s .args .n)) (s .pre) (slots-long _) (table-long _ _ (l .before .before .before .size .ensures)) (table-long _ _ (l .before .before .size2 .ensures)) (turn l) slotCount (omega arith) (to l slotCount (l .loop .inv .low) (omega arith) (omega (arith, c .if1 .taken)));
     }
-
-value-at-requires : tie.Need-value-at-requires Inv-loop μ-loop
-value-at-requires c κs = search needs
-
-value-at-requires-2 : tie.Need-value-at-requires-2 Inv-loop μ-loop
-value-at-requires-2 c κs = search needs
 
 update-slot-requires : tie.Need-update-slot-requires Inv-loop μ-loop
 update-slot-requires c κs = let e = c .before .before .before .before .before .before in (e .if1 .left, good-there e)
@@ -94,9 +79,6 @@ returns-2 c = let e = c .before .before .before .before .before .before .before 
     let i = e .before .next-touched .result in
     let u = c .before .update-slot .ensures in
     record { by = half-refused (first s) (s .args .known) (ms s) (ns s) (Stands (s .args .more .now) (s .args .n)) (s .pre) (slots-long _) (turn (e .before .before .before)) i (up-to e) (e .if1 .left) _ _ _ _ _ (c .before .before .before .before .before .before .before .value-at .ensures) (c .before .before .before .before .before .before .value-at2 .ensures) (sym (slot-in _ i beyond (e .if1 .left))) (u .became) (table-long _ _ (c .before .before .before .before .before .before .before .before .before .before .before .before .before .before .size .ensures)) (table-long _ _ (c .before .before .before .before .before .before .before .before .before .before .before .before .before .size2 .ensures)) _ (not-true _ (c .if2 .taken)) }
-
-add-at : tie.Need-add-at Inv-loop μ-loop
-add-at c = search needs
 
 loop-less : tie.Need-loop-less Inv-loop μ-loop
 loop-less c = let e = c .before .before .before .before .before .before .before .before in
@@ -122,16 +104,16 @@ update-slots-spec =
     (tie.spec
     Inv-loop
     μ-loop
-    size-requires
-    size-requires-2
+    (λ c κs. search needs)
+    (λ c κs. search needs)
     loop-holds
-    next-touched-requires
+    (λ c κs. search needs)
     returns
-    value-at-requires
-    value-at-requires-2
+    (λ c κs. search needs)
+    (λ c κs. search needs)
     update-slot-requires
     returns-2
-    add-at
+    (λ c. search needs)
     loop-less
     loop-again
     returns-3)

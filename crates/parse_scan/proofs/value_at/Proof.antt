@@ -11,21 +11,6 @@ use borrow.Author.Needs.{needs}
 use Rattle.parse_scan.proofs.value_at.Statement.{statement}
 use Rattle.parse_scan.proofs.value_at.Tie as tie
 
-size-requires : tie.Need-size-requires
-size-requires c κs = search needs
-
-cast-if1 : tie.Need-cast-if1
-cast-if1 c = search needs
-
-shr-if1 : tie.Need-shr-if1
-shr-if1 c = search needs
-
-mul-t9 : tie.Need-mul-t9
-mul-t9 c = search needs
-
-element-copy-out-t12 : tie.Need-element-copy-out-t12
-element-copy-out-t12 c = search needs
-
 returns : tie.Need-returns
 returns c = let s = c .before .before .before in
     let a = s .args in
@@ -40,4 +25,4 @@ returns-2 c = let s = c .before .before in
 pub value-at-spec : {M : Type 1} → statement M
 value-at-spec =
     tie.close
-    (tie.spec size-requires cast-if1 shr-if1 mul-t9 element-copy-out-t12 returns returns-2)
+    (tie.spec (λ c κs. search needs) (λ c. search needs) (λ c. search needs) (λ c. search needs) (λ c. search needs) returns returns-2)

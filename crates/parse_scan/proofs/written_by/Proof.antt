@@ -10,69 +10,6 @@ use borrow.Author.Needs.{needs}
 use Rattle.parse_scan.proofs.written_by.Statement.{statement}
 use Rattle.parse_scan.proofs.written_by.Tie as tie
 
-mul-kind-of : tie.Need-mul-kind-of
-mul-kind-of c = search needs
-
-mul-kind-of-2 : tie.Need-mul-kind-of-2
-mul-kind-of-2 c = search needs
-
-element-copy-out-kind-of : tie.Need-element-copy-out-kind-of
-element-copy-out-kind-of c = search needs
-
-kind-of-requires : tie.Need-kind-of-requires
-kind-of-requires c κs = search needs
-
-enum-told : tie.Need-enum-told
-enum-told c = search needs
-
-enum-known-k : tie.Need-enum-known-k
-enum-known-k c = search needs
-
-mul-number-below : tie.Need-mul-number-below
-mul-number-below c = search needs
-
-add-number-below : tie.Need-add-number-below
-add-number-below c = search needs
-
-mul-number-below-2 : tie.Need-mul-number-below-2
-mul-number-below-2 c = search needs
-
-element-copy-out-number-below : tie.Need-element-copy-out-number-below
-element-copy-out-number-below c = search needs
-
-number-below-requires : tie.Need-number-below-requires
-number-below-requires c κs = search needs
-
-first-of-requires : tie.Need-first-of-requires
-first-of-requires c κs = search needs
-
-enum-told-2 : tie.Need-enum-told-2
-enum-told-2 c = search needs
-
-mul-cut : tie.Need-mul-cut
-mul-cut c = search needs
-
-element-copy-out-cut : tie.Need-element-copy-out-cut
-element-copy-out-cut c = search needs
-
-cut-requires : tie.Need-cut-requires
-cut-requires c κs = search needs
-
-enum-told-3 : tie.Need-enum-told-3
-enum-told-3 c = search needs
-
-mul-cut-2 : tie.Need-mul-cut-2
-mul-cut-2 c = search needs
-
-element-copy-out-cut-2 : tie.Need-element-copy-out-cut-2
-element-copy-out-cut-2 c = search needs
-
-cut-requires-2 : tie.Need-cut-requires-2
-cut-requires-2 c κs = search needs
-
-enum-told-4 : tie.Need-enum-told-4
-enum-told-4 c = search needs
-
 returns : tie.Need-returns
 returns c = λ n.
     let a = c .before .before .before .before .args in
@@ -110,27 +47,27 @@ pub written-by-spec : {M : Type 1} → statement M
 written-by-spec =
     tie.close
     (tie.spec
-    mul-kind-of
-    mul-kind-of-2
-    element-copy-out-kind-of
-    kind-of-requires
-    enum-told
-    enum-known-k
-    mul-number-below
-    add-number-below
-    mul-number-below-2
-    element-copy-out-number-below
-    number-below-requires
-    first-of-requires
-    enum-told-2
-    mul-cut
-    element-copy-out-cut
-    cut-requires
-    enum-told-3
-    mul-cut-2
-    element-copy-out-cut-2
-    cut-requires-2
-    enum-told-4
+    (λ c. search needs)
+    (λ c. search needs)
+    (λ c. search needs)
+    (λ c κs. search needs)
+    (λ c. search needs)
+    (λ c. search needs)
+    (λ c. search needs)
+    (λ c. search needs)
+    (λ c. search needs)
+    (λ c. search needs)
+    (λ c κs. search needs)
+    (λ c κs. search needs)
+    (λ c. search needs)
+    (λ c. search needs)
+    (λ c. search needs)
+    (λ c κs. search needs)
+    (λ c. search needs)
+    (λ c. search needs)
+    (λ c. search needs)
+    (λ c κs. search needs)
+    (λ c. search needs)
     returns
     returns-2
     returns-3

@@ -6,26 +6,11 @@ use borrow.Author.Needs.{needs}
 use Rattle.parse_visit.proofs.go_on.Statement.{statement}
 use Rattle.parse_visit.proofs.go_on.Tie as tie
 
-block-word-requires : tie.Need-block-word-requires
-block-word-requires c κs = search needs
-
-block-word-requires-2 : tie.Need-block-word-requires-2
-block-word-requires-2 c κs = search needs
-
-reads-on-requires : tie.Need-reads-on-requires
-reads-on-requires c κs = search needs
-
 returns : tie.Need-returns
 returns c = ((λ seen alive f hold low. left-unread _ _ _ _ _ _ f hold (c .before .before .before .before .before .before .before .before .before .pre .1 .0) _ _ (c .before .reads-on .ensures .no (not-true _ (c .if1 .taken)))), (c .before .before .before .block-word .ensures, c .before .before .block-word2 .ensures))
 
 sub-index-of : tie.Need-sub-index-of
 sub-index-of c = let d = c .before .before .before .before .before .before .reads-on .ensures .yes (not-false _ (c .before .before .before .before .before .if1 .left)) .1 .0 in omega arith
-
-index-of-requires : tie.Need-index-of-requires
-index-of-requires c κs = search needs
-
-join-requires : tie.Need-join-requires
-join-requires c κs = search needs
 
 mul-t18 : tie.Need-mul-t18
 mul-t18 c = omega (arith, c .before .before .before .before .before .before .before .before .before .before .before .before .before .before .before .before .before .before .before .before .before .before .before .before .before .before .before .pre .0 .1 .0)
@@ -38,21 +23,6 @@ mul-t36 c = omega (arith, c .before .before .before .before .before .before .bef
 
 add-t37 : tie.Need-add-t37
 add-t37 c = omega (arith, c .before .before .before .before .before .before .before .before .before .before .before .before .before .before .before .before .before .before .before .before .before .before .before .before .before .before .before .before .pre .0 .1 .0)
-
-same-length : tie.Need-same-length
-same-length c = search needs
-
-same-length-2 : tie.Need-same-length-2
-same-length-2 c = search needs
-
-same-length-3 : tie.Need-same-length-3
-same-length-3 c = search needs
-
-same-length-4 : tie.Need-same-length-4
-same-length-4 c = search needs
-
-same-length-5 : tie.Need-same-length-5
-same-length-5 c = search needs
 
 returns-2 : tie.Need-returns-2
 returns-2 c =
@@ -72,20 +42,20 @@ pub go-on-spec : {M : Type 1} → statement M
 go-on-spec =
     tie.close
     (tie.spec
-    block-word-requires
-    block-word-requires-2
-    reads-on-requires
+    (λ c κs. search needs)
+    (λ c κs. search needs)
+    (λ c κs. search needs)
     returns
     sub-index-of
-    index-of-requires
-    join-requires
+    (λ c κs. search needs)
+    (λ c κs. search needs)
     mul-t18
     add-t34
     mul-t36
     add-t37
-    same-length
-    same-length-2
-    same-length-3
-    same-length-4
-    same-length-5
+    (λ c. search needs)
+    (λ c. search needs)
+    (λ c. search needs)
+    (λ c. search needs)
+    (λ c. search needs)
     returns-2)

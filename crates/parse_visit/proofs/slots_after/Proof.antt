@@ -10,9 +10,6 @@ use borrow.Author.Needs.{needs}
 use Rattle.parse_visit.proofs.slots_after.Statement.{statement}
 use Rattle.parse_visit.proofs.slots_after.Tie as tie
 
-size-requires : tie.Need-size-requires
-size-requires c κs = search needs
-
 returns : tie.Need-returns
 returns c =
     let c1 = c .before .before in
@@ -27,21 +24,6 @@ returns c =
           (tableOf (s .s .«count_mask») (s .counts .now)) (a .1) (slots-long _) (ap (λ m. tableOf m (s .counts .now)) (c .if1 .taken) ∙ table-none (s .counts .now) (c1 .size .ensures))
           h rs);
     }
-
-hidden-under-requires : tie.Need-hidden-under-requires
-hidden-under-requires c κs = search needs
-
-update-slots-requires : tie.Need-update-slots-requires
-update-slots-requires c κs = search needs
-
-refusal-requires : tie.Need-refusal-requires
-refusal-requires c κs = search needs
-
-same-length : tie.Need-same-length
-same-length c = search needs
-
-same-length-2 : tie.Need-same-length-2
-same-length-2 c = search needs
 
 returns-2 : tie.Need-returns-2
 returns-2 c =
@@ -63,11 +45,11 @@ pub slots-after-spec : {M : Type 1} → statement M
 slots-after-spec =
     tie.close
     (tie.spec
-    size-requires
+    (λ c κs. search needs)
     returns
-    hidden-under-requires
-    update-slots-requires
-    refusal-requires
-    same-length
-    same-length-2
+    (λ c κs. search needs)
+    (λ c κs. search needs)
+    (λ c κs. search needs)
+    (λ c. search needs)
+    (λ c. search needs)
     returns-2)

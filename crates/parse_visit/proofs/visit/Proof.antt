@@ -17,17 +17,11 @@ block-word-requires c κs = (open-block (c .before .before .before .before .befo
 block-word-requires-2 : tie.Need-block-word-requires-2
 block-word-requires-2 c κs = (open-block (c .before .before .before .before .before .before .before .before .pre .1), omega arith)
 
-cast-marks : tie.Need-cast-marks
-cast-marks c = search needs
-
 element-write-marks : tie.Need-element-write-marks
 element-write-marks c = let l = open-block (c .before .before .before .before .before .before .before .before .before .before .pre .1) in omega arith
 
 scan-block-requires : tie.Need-scan-block-requires
 scan-block-requires c κs = open-ready (c .before .before .before .before .before .before .before .before .before .before .before .before .before .pre .1) _ _ (c .before .before .before .before .block-word2 .ensures) (c .before .before .before .before .before .block-word .ensures)
-
-index-of-requires : tie.Need-index-of-requires
-index-of-requires c κs = search needs
 
 slots-after-requires : tie.Need-slots-after-requires
 slots-after-requires c κs =
@@ -35,12 +29,6 @@ slots-after-requires c κs =
     let o = c1 .pre .1 in
     let q = c1 .pre .0 .holding in
     ((rw (c .index-of .ensures) (bounds _ _ _ _ q _ (o .low) (open-cells o)), q .marked), o .good)
-
-index-of-requires-2 : tie.Need-index-of-requires-2
-index-of-requires-2 c κs = search needs
-
-scanned-requires : tie.Need-scanned-requires
-scanned-requires c κs = search needs
 
 go-on-requires : tie.Need-go-on-requires
 go-on-requires c κs =
@@ -62,26 +50,11 @@ go-on-requires c κs =
       ),
     )
 
-same-length : tie.Need-same-length
-same-length c = search needs
-
-same-length-2 : tie.Need-same-length-2
-same-length-2 c = search needs
-
-same-length-3 : tie.Need-same-length-3
-same-length-3 c = search needs
-
-same-length-4 : tie.Need-same-length-4
-same-length-4 c = search needs
-
 same-length-5 : tie.Need-same-length-5
 same-length-5 c = c .before .before .before .before .before .before .before .before .before .before .before .before .before .before .before .before .before .before .before .before .before .seen .given
 
 same-length-6 : tie.Need-same-length-6
 same-length-6 c = c .before .before .before .before .before .before .before .before .before .before .before .before .before .before .before .before .before .before .before .alive .given
-
-same-length-7 : tie.Need-same-length-7
-same-length-7 c = search needs
 
 returns : tie.Need-returns
 returns c =
@@ -110,19 +83,19 @@ visit-spec =
     (tie.spec
     block-word-requires
     block-word-requires-2
-    cast-marks
+    (λ c. search needs)
     element-write-marks
     scan-block-requires
-    index-of-requires
+    (λ c κs. search needs)
     slots-after-requires
-    index-of-requires-2
-    scanned-requires
+    (λ c κs. search needs)
+    (λ c κs. search needs)
     go-on-requires
-    same-length
-    same-length-2
-    same-length-3
-    same-length-4
+    (λ c. search needs)
+    (λ c. search needs)
+    (λ c. search needs)
+    (λ c. search needs)
     same-length-5
     same-length-6
-    same-length-7
+    (λ c. search needs)
     returns)

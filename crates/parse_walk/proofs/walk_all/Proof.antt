@@ -26,9 +26,6 @@ Inv-loop ws val cw bw keys₀ kids₀ companions₀ list₀ seen₀ alive₀ cel
 abbrev μ-loop : tie.MeasureT-loop
 μ-loop ws val cw bw keys₀ kids₀ companions₀ list₀ seen₀ alive₀ cells₀ stack₀ marks₀ items₀ limits₀ codes₀ lens₀ k known ids₀ counts₀ w₀ depth₀ keys kids companions list seen alive cells stack marks items limits codes lens ids counts w depth = unmarked (take (k .blocks) marks)
 
-start-requires : tie.Need-start-requires Inv-loop μ-loop
-start-requires c κs = search needs
-
 loop-holds : tie.Need-loop-holds Inv-loop μ-loop
 loop-holds c = let a = c .before .before .before .before .before .before .before .before .before .pre in (turning-start _ 4096 (few-blocks _ (a .1 .0)) _ (a .0 .1 .1 .1) _ (a .1 .1) _ (c .start .ensures) _ _ _ _ (a .0 .1 .0) (a .1 .0) (a .0 .1 .1 .0) refl (a .0 .0), record { keys = refl; kids = refl; companions = refl; list = refl; seen = refl; alive = refl; cells = refl; entries = refl })
 
@@ -62,9 +59,6 @@ same-length-8 c = c .before .before .before .before .before .loop .inv .1 .entri
 returns : tie.Need-returns Inv-loop μ-loop
 returns c = ends-none (c .before .before .before .before .before .loop .inv .0) (sym (c .before .top-unmarked .ensures) ∙ c .if1 .taken)
 
-sub-d : tie.Need-sub-d Inv-loop μ-loop
-sub-d c = search needs
-
 mul-t32 : tie.Need-mul-t32 Inv-loop μ-loop
 mul-t32 c = omega (arith, top-few (c .before .before .before .before .before .loop .inv .0 .ready) (c .before .top-unmarked .ensures))
 
@@ -79,9 +73,6 @@ cast-t36 c = omega (arith, c .slice-known9 .given (2 * (c .before .before .top-u
 
 is-code-requires : tie.Need-is-code-requires Inv-loop μ-loop
 is-code-requires c κs = few-blocks _ (c .before .before .before .before .before .before .loop .inv .0 .ready .accepted)
-
-answered-requires : tie.Need-answered-requires Inv-loop μ-loop
-answered-requires c κs = search needs
 
 same-length-9 : tie.Need-same-length-9 Inv-loop μ-loop
 same-length-9 c = c .before .before .before .before .before .before .before .before .before .loop .inv .1 .keys
@@ -115,9 +106,6 @@ mul-if3 c = omega (arith, top-few (c .before .before .before .before .before .be
 
 add-if3 : tie.Need-add-if3 Inv-loop μ-loop
 add-if3 c = omega (arith, top-few (c .before .before .before .before .before .before .before .before .loop .inv .0 .ready) (c .before .before .before .before .top-unmarked .ensures))
-
-answered-requires-2 : tie.Need-answered-requires-2 Inv-loop μ-loop
-answered-requires-2 c κs = search needs
 
 same-length-17 : tie.Need-same-length-17 Inv-loop μ-loop
 same-length-17 c = c .before .before .before .before .before .before .before .before .before .before .loop .inv .1 .keys
@@ -326,7 +314,7 @@ walk-all-spec =
     (tie.spec
     Inv-loop
     μ-loop
-    start-requires
+    (λ c κs. search needs)
     loop-holds
     top-unmarked-requires
     same-length
@@ -338,13 +326,13 @@ walk-all-spec =
     same-length-7
     same-length-8
     returns
-    sub-d
+    (λ c. search needs)
     mul-t32
     mul-t33
     slice-read-t35
     cast-t36
     is-code-requires
-    answered-requires
+    (λ c κs. search needs)
     same-length-9
     same-length-10
     same-length-11
@@ -356,7 +344,7 @@ walk-all-spec =
     returns-2
     mul-if3
     add-if3
-    answered-requires-2
+    (λ c κs. search needs)
     same-length-17
     same-length-18
     same-length-19

@@ -10,33 +10,6 @@ use Rattle.parse_walk.proofs.walk_many.Tie as tie
 cast-stack : tie.Need-cast-stack
 cast-stack c = record { fits = omega (arith, few-blocks _ (c .before .pre .0 .0), c .before .pre .1) }
 
-array-write-stack : tie.Need-array-write-stack
-array-write-stack c = search needs
-
-slice-aggregate-walk-all : tie.Need-slice-aggregate-walk-all
-slice-aggregate-walk-all c = search needs
-
-slice-aggregate-walk-all-2 : tie.Need-slice-aggregate-walk-all-2
-slice-aggregate-walk-all-2 c = search needs
-
-slice-aggregate-walk-all-3 : tie.Need-slice-aggregate-walk-all-3
-slice-aggregate-walk-all-3 c = search needs
-
-slice-aggregate-walk-all-4 : tie.Need-slice-aggregate-walk-all-4
-slice-aggregate-walk-all-4 c = search needs
-
-slice-aggregate-walk-all-5 : tie.Need-slice-aggregate-walk-all-5
-slice-aggregate-walk-all-5 c = search needs
-
-slice-aggregate-walk-all-6 : tie.Need-slice-aggregate-walk-all-6
-slice-aggregate-walk-all-6 c = search needs
-
-slice-aggregate-walk-all-7 : tie.Need-slice-aggregate-walk-all-7
-slice-aggregate-walk-all-7 c = search needs
-
-slice-aggregate-walk-all-8 : tie.Need-slice-aggregate-walk-all-8
-slice-aggregate-walk-all-8 c = search needs
-
 walk-all-requires : tie.Need-walk-all-requires
 walk-all-requires c κs =
     let c1 = c .before .before .before .before .before .before .before .before .before .before .before .before .before .before in
@@ -65,14 +38,14 @@ walk-many-spec =
     tie.close
     (tie.spec
     cast-stack
-    array-write-stack
-    slice-aggregate-walk-all
-    slice-aggregate-walk-all-2
-    slice-aggregate-walk-all-3
-    slice-aggregate-walk-all-4
-    slice-aggregate-walk-all-5
-    slice-aggregate-walk-all-6
-    slice-aggregate-walk-all-7
-    slice-aggregate-walk-all-8
+    (λ c. search needs)
+    (λ c. search needs)
+    (λ c. search needs)
+    (λ c. search needs)
+    (λ c. search needs)
+    (λ c. search needs)
+    (λ c. search needs)
+    (λ c. search needs)
+    (λ c. search needs)
     walk-all-requires
     returns)

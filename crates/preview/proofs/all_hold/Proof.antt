@@ -42,12 +42,6 @@ entry c = entry-is (c .before .before .before .before .before .args .len) (c .be
 loop-holds : tie.Need-loop-holds Inv-loop μ-loop
 loop-holds c = λ t v. start _ _
 
-entry-at-requires : tie.Need-entry-at-requires Inv-loop μ-loop
-entry-at-requires c κs = search needs
-
-holds-requires : tie.Need-holds-requires Inv-loop μ-loop
-holds-requires c κs = search needs
-
 returns : tie.Need-returns Inv-loop μ-loop
 returns c = λ t v.
     let s = c .before .before .before .before .before .before .before .before in
@@ -56,12 +50,6 @@ returns c = λ t v.
     stop p (listed s) i (c .before .before .before .before .loop .inv t v) 0 (inside (c .before .before .before))
     (ap p (entry (c .before .before .before)) ∙ sym (ap p (c .before .before .entry-at .ensures)) ∙ sym (c .before .holds .ensures t v) ∙ not-true _ (c .if1 .taken))
     ∙ all-held (saveOf (s .args .items .now) (s .args .atcs .now) (s .args .flags .now) t v) (listed s)
-
-add-i : tie.Need-add-i Inv-loop μ-loop
-add-i c = search needs
-
-loop-less : tie.Need-loop-less Inv-loop μ-loop
-loop-less c = omega arith
 
 loop-again : tie.Need-loop-again Inv-loop μ-loop
 loop-again c = λ t v.
@@ -84,10 +72,10 @@ all-hold-spec =
     Inv-loop
     μ-loop
     loop-holds
-    entry-at-requires
-    holds-requires
+    (λ c κs. search needs)
+    (λ c κs. search needs)
     returns
-    add-i
-    loop-less
+    (λ c. search needs)
+    (λ c. omega arith)
     loop-again
     returns-2)

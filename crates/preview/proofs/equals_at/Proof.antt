@@ -8,14 +8,8 @@ use borrow.Author.Needs.{needs}
 use Rattle.preview.proofs.equals_at.Statement.{statement}
 use Rattle.preview.proofs.equals_at.Tie as tie
 
-short-at-requires : tie.Need-short-at-requires
-short-at-requires c κs = search needs
-
-cast-result : tie.Need-cast-result
-cast-result c = search needs
-
 returns : tie.Need-returns
 returns c = same-bits (c .short-at .result) (c .before .args .x) (record { sfits = c .short-at .ok }) (omega arith) ∙ ap (λ (z : ℤ). eqZ z (pos (c .before .args .x))) (c .short-at .ensures)
 
 pub equals-at-spec : {M : Type 1} → statement M
-equals-at-spec = tie.close (tie.spec short-at-requires cast-result returns)
+equals-at-spec = tie.close (tie.spec (λ c κs. search needs) (λ c. search needs) returns)

@@ -17,11 +17,8 @@ returns c = let s = c .before .before in sym (ap (λ (z : ℤ). not (isZero z)) 
 cast-bit-at : tie.Need-cast-bit-at
 cast-bit-at c = let s = c .before .before in rw (toZ-ofZ (s .fits .number)) (not-negative (s .args .number) (rw (toZ-ofZ (s .fits .number)) at (c .if1 .left)), fits-natAbs {w = w32} tt (s .fits .number))
 
-bit-at-requires : tie.Need-bit-at-requires
-bit-at-requires c κs = search needs
-
 returns-2 : tie.Need-returns-2
 returns-2 c = let s = c .before .before .before in (rw (toZ-ofZ (s .fits .number)) at (c .bit-at .ensures)) ∙ sym (ap (λ (z : ℤ). not (isZero z)) (one-at (s .args .flags .now) (s .args .number) (rw (toZ-ofZ (s .fits .number)) at (c .before .if1 .left))))
 
 pub flag-at-spec : {M : Type 1} → statement M
-flag-at-spec = tie.close (tie.spec returns cast-bit-at bit-at-requires returns-2)
+flag-at-spec = tie.close (tie.spec returns cast-bit-at (λ c κs. search needs) returns-2)

@@ -6,12 +6,6 @@ use borrow.Author.Needs.{needs}
 use Rattle.preview.proofs.holds.Statement.{statement}
 use Rattle.preview.proofs.holds.Tie as tie
 
-is-there-requires : tie.Need-is-there-requires
-is-there-requires c κs = search needs
-
-is-missing-requires : tie.Need-is-missing-requires
-is-missing-requires c κs = search needs
-
 returns : tie.Need-returns
 returns c = λ t v.
     let s = c .before .before .before .before .before in
@@ -23,4 +17,4 @@ returns-2 c = λ t v.
     sym (holds-by (saveOf (s .args .items .now) (s .args .atcs .now) (s .args .flags .now) t v) _ ∙ rw (← c .before .is-missing .ensures, c .if1 .left, ← c .before .before .is-there .ensures t v))
 
 pub holds-spec : {M : Type 1} → statement M
-holds-spec = tie.close (tie.spec is-there-requires is-missing-requires returns returns-2)
+holds-spec = tie.close (tie.spec (λ c κs. search needs) (λ c κs. search needs) returns returns-2)

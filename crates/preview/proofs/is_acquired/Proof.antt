@@ -7,20 +7,11 @@ use borrow.Author.Needs.{needs}
 use Rattle.preview.proofs.is_acquired.Statement.{statement}
 use Rattle.preview.proofs.is_acquired.Tie as tie
 
-is-owned-requires : tie.Need-is-owned-requires
-is-owned-requires c κs = search needs
-
 returns : tie.Need-returns
 returns c = λ f v.
     let s = c .before .before .before .before in
     let o = sym (c .before .is-owned .ensures (s .args .sheet) f (s .args .times .now) v) ∙ c .if1 .taken in
     sym (acquired-by (sheetOf (s .args .attached .now) (s .args .sheet)) (saveOf (s .args .items .now) (s .args .atcs .now) f (s .args .times .now) v) (s .args .item .0) ∙ rw o)
-
-timer-of-requires : tie.Need-timer-of-requires
-timer-of-requires c κs = search needs
-
-is-rated-requires : tie.Need-is-rated-requires
-is-rated-requires c κs = search needs
 
 returns-2 : tie.Need-returns-2
 returns-2 c = λ f v.
@@ -31,4 +22,4 @@ returns-2 c = λ f v.
 
 pub is-acquired-spec : {M : Type 1} → statement M
 is-acquired-spec =
-    tie.close (tie.spec is-owned-requires returns timer-of-requires is-rated-requires returns-2)
+    tie.close (tie.spec (λ c κs. search needs) returns (λ c κs. search needs) (λ c κs. search needs) returns-2)

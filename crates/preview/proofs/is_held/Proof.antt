@@ -5,14 +5,8 @@ use borrow.Author.Needs.{needs}
 use Rattle.preview.proofs.is_held.Statement.{statement}
 use Rattle.preview.proofs.is_held.Tie as tie
 
-cast-short-at : tie.Need-cast-short-at
-cast-short-at c = search needs
-
-short-at-requires : tie.Need-short-at-requires
-short-at-requires c κs = search needs
-
 returns : tie.Need-returns
 returns c = rw (toZ-ofZ {w = w16} (record { sfits = c .short-at .ok }), c .short-at .ensures)
 
 pub is-held-spec : {M : Type 1} → statement M
-is-held-spec = tie.close (tie.spec cast-short-at short-at-requires returns)
+is-held-spec = tie.close (tie.spec (λ c. search needs) (λ c κs. search needs) returns)

@@ -9,27 +9,6 @@ use borrow.Author.Needs.{needs}
 use Rattle.preview.proofs.is_owned.Statement.{statement}
 use Rattle.preview.proofs.is_owned.Tie as tie
 
-atc-for-requires : tie.Need-atc-for-requires
-atc-for-requires c κs = search needs
-
-enum-told : tie.Need-enum-told
-enum-told c = search needs
-
-cast-equals-at : tie.Need-cast-equals-at
-cast-equals-at c = search needs
-
-equals-at-requires : tie.Need-equals-at-requires
-equals-at-requires c κs = search needs
-
-enum-known-atc : tie.Need-enum-known-atc
-enum-known-atc c = search needs
-
-cast-bit-at : tie.Need-cast-bit-at
-cast-bit-at c = search needs
-
-bit-at-requires : tie.Need-bit-at-requires
-bit-at-requires c κs = search needs
-
 returns : tie.Need-returns
 unfolding holds
 returns c = λ h f t v.
@@ -48,12 +27,12 @@ pub is-owned-spec : {M : Type 1} → statement M
 is-owned-spec =
     tie.close
     (tie.spec
-    atc-for-requires
-    enum-told
-    cast-equals-at
-    equals-at-requires
-    enum-known-atc
-    cast-bit-at
-    bit-at-requires
+    (λ c κs. search needs)
+    (λ c. search needs)
+    (λ c. search needs)
+    (λ c κs. search needs)
+    (λ c. search needs)
+    (λ c. search needs)
+    (λ c κs. search needs)
     returns
     returns-2)

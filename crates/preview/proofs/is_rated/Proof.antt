@@ -6,17 +6,11 @@ use borrow.Author.Needs.{needs}
 use Rattle.preview.proofs.is_rated.Statement.{statement}
 use Rattle.preview.proofs.is_rated.Tie as tie
 
-rate-of-requires : tie.Need-rate-of-requires
-rate-of-requires c κs = search needs
-
 returns : tie.Need-returns
 returns c = rate-none (timerIs (c .before .before .args .timer)) _ (sym (c .before .rate-of .ensures) ∙ c .if1 .taken)
-
-equals-at-requires : tie.Need-equals-at-requires
-equals-at-requires c κs = search needs
 
 returns-2 : tie.Need-returns-2
 returns-2 c = (rw (c .before .before .rate-of .ensures) at (c .equals-at .ensures)) ∙ rate-some (timerIs (c .before .before .before .args .timer)) _ (λ e. c .before .if1 .left (c .before .before .rate-of .ensures ∙ e))
 
 pub is-rated-spec : {M : Type 1} → statement M
-is-rated-spec = tie.close (tie.spec rate-of-requires returns equals-at-requires returns-2)
+is-rated-spec = tie.close (tie.spec (λ c κs. search needs) returns (λ c κs. search needs) returns-2)

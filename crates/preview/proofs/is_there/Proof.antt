@@ -14,33 +14,6 @@ use borrow.Author.Needs.{needs}
 use Rattle.preview.proofs.is_there.Statement.{statement}
 use Rattle.preview.proofs.is_there.Tie as tie
 
-subject-of-requires : tie.Need-subject-of-requires
-subject-of-requires c κs = search needs
-
-enum-known-about : tie.Need-enum-known-about
-enum-known-about c = search needs
-
-cast-equals-at : tie.Need-cast-equals-at
-cast-equals-at c = search needs
-
-equals-at-requires : tie.Need-equals-at-requires
-equals-at-requires c κs = search needs
-
-enum-known-about-2 : tie.Need-enum-known-about-2
-enum-known-about-2 c = search needs
-
-cast-bit-at : tie.Need-cast-bit-at
-cast-bit-at c = search needs
-
-bit-at-requires : tie.Need-bit-at-requires
-bit-at-requires c κs = search needs
-
-enum-known-about-3 : tie.Need-enum-known-about-3
-enum-known-about-3 c = search needs
-
-flag-at-requires : tie.Need-flag-at-requires
-flag-at-requires c κs = search needs
-
 returns : tie.Need-returns
 returns c = λ t v. ap not (c .equals-at .ensures) ∙ (let s = c .before .before .before .before .before .before .before in there-by (saveOf (s .args .items .now) (s .args .atcs .now) (s .args .flags .now) t v) (s .args .code) _ _ (c .before .before .before .before .subject-of .ensures) (ap subjectIs (c .before .before .about .given .1)))
 
@@ -54,15 +27,15 @@ pub is-there-spec : {M : Type 1} → statement M
 is-there-spec =
     tie.close
     (tie.spec
-    subject-of-requires
-    enum-known-about
-    cast-equals-at
-    equals-at-requires
-    enum-known-about-2
-    cast-bit-at
-    bit-at-requires
-    enum-known-about-3
-    flag-at-requires
+    (λ c κs. search needs)
+    (λ c. search needs)
+    (λ c. search needs)
+    (λ c κs. search needs)
+    (λ c. search needs)
+    (λ c. search needs)
+    (λ c κs. search needs)
+    (λ c. search needs)
+    (λ c κs. search needs)
     returns
     returns-2
     returns-3)

@@ -11,33 +11,12 @@ use borrow.Author.Needs.{needs}
 use Rattle.preview.proofs.meaning_of.Statement.{statement}
 use Rattle.preview.proofs.meaning_of.Tie as tie
 
-enum-told : tie.Need-enum-told
-enum-told c = search needs
-
-hidden-requires : tie.Need-hidden-requires
-hidden-requires c κs = search needs
-
-enum-known-item : tie.Need-enum-known-item
-enum-known-item c = search needs
-
-all-hold-requires : tie.Need-all-hold-requires
-all-hold-requires c κs = search needs
-
-limit-of-requires : tie.Need-limit-of-requires
-limit-of-requires c κs = search needs
-
-unique-meaning-requires : tie.Need-unique-meaning-requires
-unique-meaning-requires c κs = search needs
-
 returns : tie.Need-returns
 unfolding slotOf
 returns c = λ v.
     let s = c .before .before .before .before .before .before .before .before .before .before .before in
     c .unique-meaning .ensures (s .args .flags .now) v
     ∙ meaning-unique (sheetOf (s .args .attached .now) (s .args .sheet)) (saveOf (s .args .items .now) (s .args .atcs .now) (s .args .flags .now) (s .args .times .now) v) (partsOf (s .args .item) (s .args .limit) (s .args .row .now) (s .args .len)) _ (c .before .before .before .before .before .item .given .1) _ (c .before .before .before .all-hold .ensures (s .args .times .now) v) _ (rw (toZ-ofZ {w = w16} {z = s .args .limit} (s .fits .limit)) at (c .before .before .limit-of .ensures)) (c .before .if1 .taken)
-
-limit-meaning-requires : tie.Need-limit-meaning-requires
-limit-meaning-requires c κs = search needs
 
 returns-2 : tie.Need-returns-2
 unfolding meaningOf slotOf
@@ -54,13 +33,13 @@ pub meaning-of-spec : {M : Type 1} → statement M
 meaning-of-spec =
     tie.close
     (tie.spec
-    enum-told
-    hidden-requires
-    enum-known-item
-    all-hold-requires
-    limit-of-requires
-    unique-meaning-requires
+    (λ c. search needs)
+    (λ c κs. search needs)
+    (λ c. search needs)
+    (λ c κs. search needs)
+    (λ c κs. search needs)
+    (λ c κs. search needs)
     returns
-    limit-meaning-requires
+    (λ c κs. search needs)
     returns-2
     returns-3)

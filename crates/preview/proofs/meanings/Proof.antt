@@ -25,35 +25,8 @@ abbrev μ-loop : tie.MeasureT-loop
 abbrev arrays : tie.Start Inv-loop μ-loop → Arrays
 arrays s = arraysIn (s .args .sold .now) (s .args .limits .now) (s .args .codes .now) (s .args .lens .now)
 
-blank-requires : tie.Need-blank-requires Inv-loop μ-loop
-blank-requires c κs = search needs
-
 loop-holds : tie.Need-loop-holds Inv-loop μ-loop
 loop-holds c = let s = c .before .before .before .before in shown-start (sheetOf (s .args .attached .now) (s .args .sheet)) (saveOf (s .args .items .now) (s .args .atcs .now) (s .args .flags .now) (s .args .times .now) (s .args .vars .now)) (shopFrom (arrays s) .slots) _ (c .blank .ensures)
-
-meaning-at-requires : tie.Need-meaning-at-requires Inv-loop μ-loop
-meaning-at-requires c κs = search needs
-
-mul-item : tie.Need-mul-item Inv-loop μ-loop
-mul-item c = search needs
-
-element-set-from-item : tie.Need-element-set-from-item Inv-loop μ-loop
-element-set-from-item c = search needs
-
-mul-count : tie.Need-mul-count Inv-loop μ-loop
-mul-count c = search needs
-
-element-set-from-count : tie.Need-element-set-from-count Inv-loop μ-loop
-element-set-from-count c = search needs
-
-temp-after-requires : tie.Need-temp-after-requires Inv-loop μ-loop
-temp-after-requires c κs = search needs
-
-add-i : tie.Need-add-i Inv-loop μ-loop
-add-i c = omega arith
-
-loop-less : tie.Need-loop-less Inv-loop μ-loop
-loop-less c = omega arith
 
 loop-again : tie.Need-loop-again Inv-loop μ-loop
 loop-again c =
@@ -85,15 +58,15 @@ meanings-spec =
     (tie.spec
     Inv-loop
     μ-loop
-    blank-requires
+    (λ c κs. search needs)
     loop-holds
-    meaning-at-requires
-    mul-item
-    element-set-from-item
-    mul-count
-    element-set-from-count
-    temp-after-requires
-    add-i
-    loop-less
+    (λ c κs. search needs)
+    (λ c. search needs)
+    (λ c. search needs)
+    (λ c. search needs)
+    (λ c. search needs)
+    (λ c κs. search needs)
+    (λ c. omega arith)
+    (λ c. omega arith)
     loop-again
     returns)

@@ -21,12 +21,6 @@ shop s = shopFrom (arraysIn (s .args .sold .now) (s .args .limits .now) (s .args
 size : (s : tie.Start) → length (shop s .slots) ≡ slotCount
 size s = slots-long (arraysIn (s .args .sold .now) (s .args .limits .now) (s .args .codes .now) (s .args .lens .now))
 
-check-sheet-requires : tie.Need-check-sheet-requires
-check-sheet-requires c κs = search needs
-
-blank-requires : tie.Need-blank-requires
-blank-requires c κs = search needs
-
 returns : tie.Need-returns
 unfolding previewedOf
 returns c =
@@ -34,12 +28,6 @@ returns c =
     answered (sheetOf (s .args .attached .now) (s .args .sheet)) (saveOf (s .args .items .now) (s .args .atcs .now) (s .args .flags .now) (s .args .times .now) (s .args .vars .now)) (shop s) (size s) _ false _ _ _
     (sym (c .before .before .check-sheet .ensures) ∙ not-true _ (c .before .if1 .taken))
     refl refl refl (c .blank .ensures)
-
-check-arrays-requires : tie.Need-check-arrays-requires
-check-arrays-requires c κs = search needs
-
-blank-requires-2 : tie.Need-blank-requires-2
-blank-requires-2 c κs = search needs
 
 returns-2 : tie.Need-returns-2
 unfolding previewedOf
@@ -49,12 +37,6 @@ returns-2 c =
     (sym (c .before .before .before .before .check-sheet .ensures) ∙ not-false _ (c .before .before .before .if1 .left))
     (sym (c .before .before .check-arrays .ensures (s .args .limits .now)) ∙ not-true _ (c .before .if2 .taken))
     refl refl (c .blank2 .ensures)
-
-check-save-requires : tie.Need-check-save-requires
-check-save-requires c κs = search needs
-
-blank-requires-3 : tie.Need-blank-requires-3
-blank-requires-3 c κs = search needs
 
 returns-3 : tie.Need-returns-3
 unfolding previewedOf
@@ -66,12 +48,6 @@ returns-3 c =
     (sym (c .before .before .check-save .ensures) ∙ not-true _ (c .before .if3 .taken))
     refl (c .blank3 .ensures)
 
-flags-inside-requires : tie.Need-flags-inside-requires
-flags-inside-requires c κs = search needs
-
-blank-requires-4 : tie.Need-blank-requires-4
-blank-requires-4 c κs = search needs
-
 returns-4 : tie.Need-returns-4
 unfolding previewedOf
 returns-4 c =
@@ -82,9 +58,6 @@ returns-4 c =
     (sym (c .before .before .before .before .check-save .ensures) ∙ not-false _ (c .before .before .before .if3 .left))
     (sym (c .before .before .flags-inside .ensures) ∙ not-true _ (c .before .if4 .taken))
     (c .blank4 .ensures)
-
-meanings-requires : tie.Need-meanings-requires
-meanings-requires c κs = search needs
 
 returns-5 : tie.Need-returns-5
 returns-5 c =
@@ -100,17 +73,17 @@ pub preview-arrays-spec : {M : Type 1} → statement M
 preview-arrays-spec =
     tie.close
     (tie.spec
-    check-sheet-requires
-    blank-requires
+    (λ c κs. search needs)
+    (λ c κs. search needs)
     returns
-    check-arrays-requires
-    blank-requires-2
+    (λ c κs. search needs)
+    (λ c κs. search needs)
     returns-2
-    check-save-requires
-    blank-requires-3
+    (λ c κs. search needs)
+    (λ c κs. search needs)
     returns-3
-    flags-inside-requires
-    blank-requires-4
+    (λ c κs. search needs)
+    (λ c κs. search needs)
     returns-4
-    meanings-requires
+    (λ c κs. search needs)
     returns-5)

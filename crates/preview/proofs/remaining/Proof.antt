@@ -7,14 +7,8 @@ use borrow.Author.Needs.{needs}
 use Rattle.preview.proofs.remaining.Statement.{statement}
 use Rattle.preview.proofs.remaining.Tie as tie
 
-cast-remaining : tie.Need-cast-remaining
-cast-remaining c = search needs
-
-remaining-requires : tie.Need-remaining-requires
-remaining-requires c κs = search needs
-
 returns : tie.Need-returns
 returns c = toZ-ofZ {w = w32} (record { sfits = c .remaining .ok }) ∙ (rw (toZ-ofZ (c .before .fits .held), toZ-pos w16 {n = c .before .args .limit} (omega arith)) at (c .remaining .ensures))
 
 pub remaining-spec : {M : Type 1} → statement M
-remaining-spec = tie.close (tie.spec cast-remaining remaining-requires returns)
+remaining-spec = tie.close (tie.spec (λ c. search needs) (λ c κs. search needs) returns)

@@ -8,21 +8,9 @@ use Rattle.reach.proofs.is_code.Tie as tie
 returns : tie.Need-returns
 returns c = code-past (now (c .before .args .bw)) _ _ (c .if1 .taken)
 
-cast-i : tie.Need-cast-i
-cast-i c = search needs
-
-mul-result : tie.Need-mul-result
-mul-result c = search needs
-
-mul-result-2 : tie.Need-mul-result-2
-mul-result-2 c = search needs
-
-element-copy-out-result : tie.Need-element-copy-out-result
-element-copy-out-result c = search needs
-
 returns-2 : tie.Need-returns-2
 returns-2 c = code-read (now (c .before .before .args .bw)) _ _ (c .before .if1 .left)
 
 pub is-code-spec : {M : Type 1} → statement M
 is-code-spec =
-    tie.close (tie.spec returns cast-i mul-result mul-result-2 element-copy-out-result returns-2)
+    tie.close (tie.spec returns (λ c. search needs) (λ c. search needs) (λ c. search needs) (λ c. search needs) returns-2)

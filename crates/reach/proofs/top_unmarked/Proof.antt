@@ -19,29 +19,8 @@ abbrev μ-loop : tie.MeasureT-loop
 loop-holds : tie.Need-loop-holds Inv-loop μ-loop
 loop-holds c = (c .before .pre .1, refl)
 
-sub-is-marked : tie.Need-sub-is-marked Inv-loop μ-loop
-sub-is-marked c = search needs
-
-mul-is-marked : tie.Need-mul-is-marked Inv-loop μ-loop
-mul-is-marked c = omega arith
-
-mul-is-marked-2 : tie.Need-mul-is-marked-2 Inv-loop μ-loop
-mul-is-marked-2 c = omega arith
-
-shared-slice-read-is-marked : tie.Need-shared-slice-read-is-marked Inv-loop μ-loop
-shared-slice-read-is-marked c = omega arith
-
-is-marked-requires : tie.Need-is-marked-requires Inv-loop μ-loop
-is-marked-requires c κs = search needs
-
 returns : tie.Need-returns Inv-loop μ-loop
 returns c = let a = c .before .before .before .before .loop in sym (a .inv .1 ∙ top-here _ _ (a .d) _ (c .before .before .before .loop-test .taken) (c .before .is-marked .ensures) (not-true _ (c .if1 .taken)))
-
-sub-d : tie.Need-sub-d Inv-loop μ-loop
-sub-d c = search needs
-
-loop-less : tie.Need-loop-less Inv-loop μ-loop
-loop-less c = omega arith
 
 loop-again : tie.Need-loop-again Inv-loop μ-loop
 loop-again c = let a = c .before .before .before .before .loop in (omega arith, a .inv .1 ∙ top-skip _ _ (a .d) _ (c .before .before .before .loop-test .taken) (c .before .is-marked .ensures) (not-false _ (c .if1 .left)))
@@ -57,13 +36,13 @@ top-unmarked-spec =
     Inv-loop
     μ-loop
     loop-holds
-    sub-is-marked
-    mul-is-marked
-    mul-is-marked-2
-    shared-slice-read-is-marked
-    is-marked-requires
+    (λ c. search needs)
+    (λ c. omega arith)
+    (λ c. omega arith)
+    (λ c. omega arith)
+    (λ c κs. search needs)
     returns
-    sub-d
-    loop-less
+    (λ c. search needs)
+    (λ c. omega arith)
     loop-again
     returns-2)

@@ -21,9 +21,6 @@ pack-marked-requires c κs =
     let s = c .before .before .before .before .before .before .before .before .before .before .before .before .before .before in
     kept-low (s .args .ws .now) (s .args .val .now) (s .args .cw .now) (s .args .bw .now) (s .args .counts) (s .pre .0)
 
-slice-aggregate-through-image : tie.Need-slice-aggregate-through-image
-slice-aggregate-through-image c = search needs
-
 through-image-requires : tie.Need-through-image-requires
 through-image-requires c κs =
     let s = c .before .before .before .before .before .before .before .before .before .before .before .before .before .before .before .before .before .before .before .before .before .before in
@@ -40,6 +37,6 @@ keep-survivors-spec =
     (tie.spec
     reach-roots-requires
     pack-marked-requires
-    slice-aggregate-through-image
+    (λ c. search needs)
     through-image-requires
     returns)

@@ -4,22 +4,10 @@ use borrow.Author.Needs.{needs}
 use Rattle.reclaim.proofs.pack_marked.Statement.{statement}
 use Rattle.reclaim.proofs.pack_marked.Tie as tie
 
-known-requires : tie.Need-known-requires
-known-requires c κs = search needs
-
-number-requires : tie.Need-number-requires
-number-requires c κs = search needs
-
 tell-moved-requires : tie.Need-tell-moved-requires
 tell-moved-requires c κs =
     let s = c .before .before .before .before .before .before .before .before in
     (s .pre .0, tell-asks _ (s .args .counts) _ _ _ (s .pre .0) (s .pre .1) (c .before .before .before .before .known .ensures) _ (c .before .before .number .ensures .0))
-
-pack-births-requires : tie.Need-pack-births-requires
-pack-births-requires c κs = search needs
-
-follow-requires : tie.Need-follow-requires
-follow-requires c κs = search needs
 
 pack-requires : tie.Need-pack-requires
 pack-requires c κs =
@@ -36,10 +24,10 @@ pub pack-marked-spec : {M : Type 1} → statement M
 pack-marked-spec =
     tie.close
     (tie.spec
-    known-requires
-    number-requires
+    (λ c κs. search needs)
+    (λ c κs. search needs)
     tell-moved-requires
-    pack-births-requires
-    follow-requires
+    (λ c κs. search needs)
+    (λ c κs. search needs)
     pack-requires
     returns)

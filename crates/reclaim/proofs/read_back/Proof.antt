@@ -4,15 +4,6 @@ use borrow.Author.Needs.{needs}
 use Rattle.reclaim.proofs.read_back.Statement.{statement}
 use Rattle.reclaim.proofs.read_back.Tie as tie
 
-read-script-requires : tie.Need-read-script-requires
-read-script-requires c κs = search needs
-
-enum-known-r : tie.Need-enum-known-r
-enum-known-r c = search needs
-
-enum-told : tie.Need-enum-told
-enum-told c = search needs
-
 returns : tie.Need-returns
 returns c = λ bs e. read-is _ _ _ _ _ _ _ (c .before .before .before .read-script .ensures) bs _ e _ (c .before .r .given .1)
 
@@ -20,4 +11,4 @@ returns-2 : tie.Need-returns-2
 returns-2 c = λ bs e. absurd (read-never _ _ _ _ _ _ _ (c .before .before .read-script .ensures) bs _ e _ (c .enum-told .given .1))
 
 pub read-back-spec : {M : Type 1} → statement M
-read-back-spec = tie.close (tie.spec read-script-requires enum-known-r enum-told returns returns-2)
+read-back-spec = tie.close (tie.spec (λ c κs. search needs) (λ c. search needs) (λ c. search needs) returns returns-2)

@@ -7,14 +7,8 @@ use borrow.Author.Needs.{needs}
 use Rattle.reclaim.proofs.reclaim.Statement.{statement}
 use Rattle.reclaim.proofs.reclaim.Tie as tie
 
-roots-ok-requires : tie.Need-roots-ok-requires
-roots-ok-requires c κs = search needs
-
 returns : tie.Need-returns
 returns c = λ n. answer-roots _ _ _ (sym (c .before .roots-ok .ensures) ∙ not-true _ (c .if1 .taken))
-
-check-record-requires : tie.Need-check-record-requires
-check-record-requires c κs = search needs
 
 returns-2 : tie.Need-returns-2
 returns-2 c = λ n. answer-judged _ _ _ (sym (c .before .before .before .before .before .before .before .roots-ok .ensures) ∙ not-false _ (c .before .before .before .before .before .before .if1 .left)) _ (c .before .check-record .ensures) (c .if2 .taken)
@@ -32,9 +26,9 @@ pub reclaim-spec : {M : Type 1} → statement M
 reclaim-spec =
     tie.close
     (tie.spec
-    roots-ok-requires
+    (λ c κs. search needs)
     returns
-    check-record-requires
+    (λ c κs. search needs)
     returns-2
     keep-survivors-requires
     returns-3)

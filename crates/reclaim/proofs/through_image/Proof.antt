@@ -6,20 +6,11 @@ use borrow.Author.Needs.{needs}
 use Rattle.reclaim.proofs.through_image.Statement.{statement}
 use Rattle.reclaim.proofs.through_image.Tie as tie
 
-write-script-requires : tie.Need-write-script-requires
-write-script-requires c κs = search needs
-
 slice-reshare-prefix-read-back : tie.Need-slice-reshare-prefix-read-back
 slice-reshare-prefix-read-back c = bytes-fit _ (c .before .before .before .before .before .before .before .pre .0) _ (c .before .before .before .before .before .before .before .pre .1) _ _ _ (c .before .before .write-script .ensures)
 
 slice-aggregate-read-back : tie.Need-slice-aggregate-read-back
 slice-aggregate-read-back c = sym (length-take-le _ _ (bytes-fit _ (c .before .before .before .before .before .before .before .before .pre .0) _ (c .before .before .before .before .before .before .before .before .pre .1) _ _ _ (c .before .before .before .write-script .ensures)))
-
-read-back-requires : tie.Need-read-back-requires
-read-back-requires c κs = search needs
-
-same-length : tie.Need-same-length
-same-length c = search needs
 
 returns : tie.Need-returns
 returns c = c .read-back .ensures _ (bytes-read _ (c .before .before .before .before .before .before .before .before .before .before .before .before .before .pre .0) _ (c .before .before .before .before .before .before .before .before .before .before .before .before .before .pre .1) _ _ _ (c .before .before .before .before .before .before .before .before .write-script .ensures))
@@ -28,9 +19,9 @@ pub through-image-spec : {M : Type 1} → statement M
 through-image-spec =
     tie.close
     (tie.spec
-    write-script-requires
+    (λ c κs. search needs)
     slice-reshare-prefix-read-back
     slice-aggregate-read-back
-    read-back-requires
-    same-length
+    (λ c κs. search needs)
+    (λ c. search needs)
     returns)

@@ -18,20 +18,11 @@ abbrev μ-loop : tie.MeasureT-loop
 loop-holds : tie.Need-loop-holds Inv-loop μ-loop
 loop-holds c = record { is = refl; queued = c .before .pre .0; low = c .before .pre .1 }
 
-mul-root-no : tie.Need-mul-root-no Inv-loop μ-loop
-mul-root-no c = search needs
-
-shared-slice-read-root-no : tie.Need-shared-slice-read-root-no Inv-loop μ-loop
-shared-slice-read-root-no c = search needs
-
 root-no-requires : tie.Need-root-no-requires Inv-loop μ-loop
 root-no-requires c κs = roots-ask (c .before .before .before .before .before .before .args .roots .now) _ _ (c .before .before .before .before .loop .at) (c .before .before .before .before .loop .inv) (c .before .before .before .loop-test .taken)
 
 mark-requires : tie.Need-mark-requires Inv-loop μ-loop
 mark-requires c κs = (c .before .before .before .before .before .loop .inv .queued, (let h = roots-ask (c .before .before .before .before .before .before .before .args .roots .now) _ _ (c .before .before .before .before .before .loop .at) (c .before .before .before .before .before .loop .inv) (c .before .before .before .before .loop-test .taken) in omega (arith, c .root-no .ensures)))
-
-add-at : tie.Need-add-at Inv-loop μ-loop
-add-at c = search needs
 
 loop-less : tie.Need-loop-less Inv-loop μ-loop
 loop-less c = omega (arith, c .before .before .before .before .before .loop-test .taken)
@@ -49,11 +40,11 @@ mark-roots-spec =
     Inv-loop
     μ-loop
     loop-holds
-    mul-root-no
-    shared-slice-read-root-no
+    (λ c. search needs)
+    (λ c. search needs)
     root-no-requires
     mark-requires
-    add-at
+    (λ c. search needs)
     loop-less
     loop-again
     returns)

@@ -5,34 +5,10 @@ use borrow.Author.Needs.{needs}
 use Rattle.reclaim_reach.proofs.mark_target.Statement.{statement}
 use Rattle.reclaim_reach.proofs.mark_target.Tie as tie
 
-mul-names-block : tie.Need-mul-names-block
-mul-names-block c = search needs
-
-mul-names-block-2 : tie.Need-mul-names-block-2
-mul-names-block-2 c = search needs
-
-element-copy-out-names-block : tie.Need-element-copy-out-names-block
-element-copy-out-names-block c = search needs
-
-names-block-requires : tie.Need-names-block-requires
-names-block-requires c κs = search needs
-
 returns : tie.Need-returns
 returns c =
     let s = c .before .before .before in
     target-none (s .args .cw .now) (s .args .i) _ (c .before .names-block .ensures) _ (s .pre .0) (not-true _ (c .if1 .taken))
-
-mul-mark : tie.Need-mul-mark
-mul-mark c = search needs
-
-add-mark : tie.Need-add-mark
-add-mark c = search needs
-
-mul-mark-2 : tie.Need-mul-mark-2
-mul-mark-2 c = search needs
-
-element-copy-out-mark : tie.Need-element-copy-out-mark
-element-copy-out-mark c = search needs
 
 mark-requires : tie.Need-mark-requires
 mark-requires c κs =
@@ -48,14 +24,14 @@ pub mark-target-spec : {M : Type 1} → statement M
 mark-target-spec =
     tie.close
     (tie.spec
-    mul-names-block
-    mul-names-block-2
-    element-copy-out-names-block
-    names-block-requires
+    (λ c. search needs)
+    (λ c. search needs)
+    (λ c. search needs)
+    (λ c κs. search needs)
     returns
-    mul-mark
-    add-mark
-    mul-mark-2
-    element-copy-out-mark
+    (λ c. search needs)
+    (λ c. search needs)
+    (λ c. search needs)
+    (λ c. search needs)
     mark-requires
     returns-2)

@@ -13,12 +13,6 @@ Inv-loop cw first held live₀ todo₀ n f count end₀ i₀ live todo end i = T
 abbrev μ-loop : tie.MeasureT-loop
 μ-loop cw first held live₀ todo₀ n f count end₀ i₀ live todo end i = count - i
 
-index-of-requires : tie.Need-index-of-requires Inv-loop μ-loop
-index-of-requires c κs = search needs
-
-index-of-requires-2 : tie.Need-index-of-requires-2 Inv-loop μ-loop
-index-of-requires-2 c κs = search needs
-
 loop-holds : tie.Need-loop-holds Inv-loop μ-loop
 loop-holds c = targets-start _ _ _ _ _ _ (c .before .before .pre .1) (c .before .before .pre .2) (c .before .before .pre .0) (c .before .index-of .ensures) (c .index-of2 .ensures)
 
@@ -27,12 +21,6 @@ add-mark-target c = let h = targets-room _ _ _ _ _ _ _ _ (c .before .loop .inv) 
 
 mark-target-requires : tie.Need-mark-target-requires Inv-loop μ-loop
 mark-target-requires c κs = (c .before .before .before .loop .inv .going .queued, targets-room _ _ _ _ _ _ _ _ (c .before .before .before .loop .inv) (c .before .before .loop-test .taken), targets-ask _ _ _ _ _ _ _ _ (c .before .before .before .loop .inv) (c .before .before .loop-test .taken))
-
-add-i : tie.Need-add-i Inv-loop μ-loop
-add-i c = search needs
-
-loop-less : tie.Need-loop-less Inv-loop μ-loop
-loop-less c = omega arith
 
 loop-again : tie.Need-loop-again Inv-loop μ-loop
 loop-again c = targets-step _ _ _ _ _ _ _ _ (c .before .before .before .before .loop .inv) (c .before .before .before .loop-test .taken) _ (c .mark-target .ensures)
@@ -46,12 +34,12 @@ mark-targets-spec =
     (tie.spec
     Inv-loop
     μ-loop
-    index-of-requires
-    index-of-requires-2
+    (λ c κs. search needs)
+    (λ c κs. search needs)
     loop-holds
     add-mark-target
     mark-target-requires
-    add-i
-    loop-less
+    (λ c. search needs)
+    (λ c. omega arith)
     loop-again
     returns)

@@ -16,9 +16,6 @@ Inv-loop cw bw blocks roots live₀ todo₀ -all end₀ done₀ live todo end do
 abbrev μ-loop : tie.MeasureT-loop
 μ-loop cw bw blocks roots live₀ todo₀ -all end₀ done₀ live todo end done = blockLimit - done
 
-known-requires : tie.Need-known-requires Inv-loop μ-loop
-known-requires c κs = search needs
-
 mark-roots-requires : tie.Need-mark-roots-requires Inv-loop μ-loop
 mark-roots-requires c κs =
     let s = c .before .before .before .before .before in
@@ -29,14 +26,8 @@ loop-holds c =
     let s = c .before .before .before .before .before .before in
     reach-start _ _ _ (s .pre .0) _ _ _ _ (s .pre .1) (s .pre .2) (c .before .before .before .known .ensures) (c .mark-roots .ensures)
 
-mul-index-of : tie.Need-mul-index-of Inv-loop μ-loop
-mul-index-of c = search needs
-
 element-copy-out-index-of : tie.Need-element-copy-out-index-of Inv-loop μ-loop
 element-copy-out-index-of c = omega (arith, c .before .loop .inv .queued .room, c .loop-test .taken)
-
-index-of-requires : tie.Need-index-of-requires Inv-loop μ-loop
-index-of-requires c κs = search needs
 
 mark-links-requires : tie.Need-mark-links-requires Inv-loop μ-loop
 mark-links-requires c κs = reach-asks _ _ _ (c .before .before .before .before .before .before .before .before .before .before .before .before .pre .0) _ _ _ (c .before .before .before .before .before .loop .inv) (c .before .before .before .before .loop-test .taken) _ (c .before .before .index-of .ensures)
@@ -59,12 +50,12 @@ reach-roots-spec =
     (tie.spec
     Inv-loop
     μ-loop
-    known-requires
+    (λ c κs. search needs)
     mark-roots-requires
     loop-holds
-    mul-index-of
+    (λ c. search needs)
     element-copy-out-index-of
-    index-of-requires
+    (λ c κs. search needs)
     mark-links-requires
     add-done
     loop-less

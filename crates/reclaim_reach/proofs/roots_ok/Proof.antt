@@ -16,23 +16,11 @@ abbrev μ-loop : tie.MeasureT-loop
 returns : tie.Need-returns Inv-loop μ-loop
 returns c = too-many (c .before .before .args .blocks) (c .before .before .args .roots .now) (c .if1 .taken)
 
-wide-requires : tie.Need-wide-requires Inv-loop μ-loop
-wide-requires c κs = search needs
-
 loop-holds : tie.Need-loop-holds Inv-loop μ-loop
 loop-holds c = test-start _ _ (c .before .if1 .left)
 
-mul-if2 : tie.Need-mul-if2 Inv-loop μ-loop
-mul-if2 c = search needs
-
-shared-slice-read-if2 : tie.Need-shared-slice-read-if2 Inv-loop μ-loop
-shared-slice-read-if2 c = search needs
-
 returns-2 : tie.Need-returns-2 Inv-loop μ-loop
 returns-2 c = test-stop (c .before .before .before .before .before .before .before .args .blocks) (c .before .before .before .before .before .before .before .args .roots .now) _ (c .before .before .before .loop .inv) (c .before .before .loop-test .taken) (let w = c .before .before .before .before .wide .ensures in let u = c .if2 .taken in omega arith)
-
-add-i : tie.Need-add-i Inv-loop μ-loop
-add-i c = search needs
 
 loop-less : tie.Need-loop-less Inv-loop μ-loop
 loop-less c = omega (arith, c .before .before .loop-test .taken)
@@ -50,12 +38,12 @@ roots-ok-spec =
     Inv-loop
     μ-loop
     returns
-    wide-requires
+    (λ c κs. search needs)
     loop-holds
-    mul-if2
-    shared-slice-read-if2
+    (λ c. search needs)
+    (λ c. search needs)
     returns-2
-    add-i
+    (λ c. search needs)
     loop-less
     loop-again
     returns-3)

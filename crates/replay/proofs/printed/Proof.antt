@@ -15,27 +15,18 @@ size c = ap length (c .slots .ensures .wrote .is) ∙ simp length-sets (search n
 inside : (c : tie.After-slots) → c .slots .result ≤ length (c .slots .last .1 .0)
 inside c = omega (arith, size c, c .slots .ensures .fits)
 
-slots-requires : tie.Need-slots-requires
-slots-requires c κs = search needs
-
 array-share-prefix-out : tie.Need-array-share-prefix-out
 array-share-prefix-out c = inside c
 
 slice-aggregate-same : tie.Need-slice-aggregate-same
 slice-aggregate-same c = sym (length-take-le _ _ (inside (c .before)))
 
-same-requires : tie.Need-same-requires
-same-requires c κs = search needs
-
-returns : tie.Need-returns
-returns c = search needs
-
 pub printed-spec : {M : Type 1} → statement M
 printed-spec =
     tie.close
     (tie.spec
-    slots-requires
+    (λ c κs. search needs)
     array-share-prefix-out
     slice-aggregate-same
-    same-requires
-    returns)
+    (λ c κs. search needs)
+    (λ c. search needs))

@@ -16,23 +16,11 @@ step t k m first at f e s = record { all = refl; some = omega (arith, f .some, s
 adds : (n : ℕ) {b : Bool} (d : Bool) → b ≡ d → n + one d ≡ n + one b
 adds n d h = ap (λ e. n + one e) (sym h)
 
-add-cases : tie.Need-add-cases
-add-cases c = search needs
-
-add-compiles : tie.Need-add-compiles
-add-compiles c = search needs
-
-add-t6 : tie.Need-add-t6
-add-t6 c = search needs
-
 returns : tie.Need-returns
 returns c =
     let s = c .before .before .before .before .before in
     let t = s .args .t in
     (step t (s .args .case .compiles) (t .same + 1) (t .first) (s .args .case .at) (s .pre .1) (s .pre .2) (omega arith), adds (t .same) true (c .before .if1 .taken))
-
-first-of-requires : tie.Need-first-of-requires
-first-of-requires c κs = search needs
 
 returns-2 : tie.Need-returns-2
 returns-2 c =
@@ -44,9 +32,9 @@ pub tallied-spec : {M : Type 1} → statement M
 tallied-spec =
     tie.close
     (tie.spec
-    add-cases
-    add-compiles
-    add-t6
+    (λ c. search needs)
+    (λ c. search needs)
+    (λ c. search needs)
     returns
-    first-of-requires
+    (λ c κs. search needs)
     returns-2)

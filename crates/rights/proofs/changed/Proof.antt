@@ -6,15 +6,6 @@ use borrow.Author.Needs.{needs}
 use Rattle.rights.proofs.changed.Statement.{statement}
 use Rattle.rights.proofs.changed.Tie as tie
 
-enum-told : tie.Need-enum-told
-enum-told c = search needs
-
-enum-told-2 : tie.Need-enum-told-2
-enum-told-2 c = search needs
-
-enum-told-3 : tie.Need-enum-told-3
-enum-told-3 c = search needs
-
 returns : tie.Need-returns
 returns c =
     let s = c .before .before .before .before in
@@ -31,4 +22,4 @@ returns-3 c =
     requirements-put (s .args .field) (s .args .content) (s .args .old) _ (c .before .before .enum-told3 .given .1) (toZ-ofZ {w = w16} {z = s .args .old .limit} (record { sfits = c .struct-told3 .given .1 .0 .1 }))
 
 pub changed-spec : {M : Type 1} → statement M
-changed-spec = tie.close (tie.spec enum-told enum-told-2 enum-told-3 returns returns-2 returns-3)
+changed-spec = tie.close (tie.spec (λ c. search needs) (λ c. search needs) (λ c. search needs) returns returns-2 returns-3)

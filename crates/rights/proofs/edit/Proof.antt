@@ -34,25 +34,13 @@ refusal s = editRefusal (tableOf (s .args .rights .now)) (sheetOf (s .args .atta
 inside : (s : tie.Start) → refusal s ≡ 0 → s .args .slot < slotCount
 inside s e = allowed (tableOf (s .args .rights .now)) (sheetOf (s .args .attached .now) (s .args .sheet)) (editOf (s .args .user) (s .args .slot) (s .args .field) (s .args .content)) e .slot
 
-refusal-of-requires : tie.Need-refusal-of-requires
-refusal-of-requires c κs = search needs
-
 returns : tie.Need-returns
 returns c =
     let s = c .before .before .before in
     edited-not (tableOf (s .args .rights .now)) (sheetOf (s .args .attached .now) (s .args .sheet)) (s .args .t4) (s .args .user) (s .args .slot) (s .args .field) (s .args .content) _ (c .before .refusal-of .ensures) (c .if1 .taken)
 
-mul-changed : tie.Need-mul-changed
-mul-changed c = search needs
-
 element-copy-out-changed : tie.Need-element-copy-out-changed
 element-copy-out-changed c = let s = c .before .before .before in inside s (sym (c .before .refusal-of .ensures) ∙ c .if1 .left)
-
-changed-requires : tie.Need-changed-requires
-changed-requires c κs = search needs
-
-with-slot-requires : tie.Need-with-slot-requires
-with-slot-requires c κs = search needs
 
 returns-2 : tie.Need-returns-2
 returns-2 c =
@@ -67,10 +55,10 @@ pub edit-spec : {M : Type 1} → statement M
 edit-spec =
     tie.close
     (tie.spec
-    refusal-of-requires
+    (λ c κs. search needs)
     returns
-    mul-changed
+    (λ c. search needs)
     element-copy-out-changed
-    changed-requires
-    with-slot-requires
+    (λ c κs. search needs)
+    (λ c κs. search needs)
     returns-2)

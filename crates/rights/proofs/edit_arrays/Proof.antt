@@ -16,25 +16,10 @@ arrays s = arraysIn (s .args .items .now) (s .args .limits .now) (s .args .codes
 abbrev given : tie.Start → Contents
 given s = contents (s .args .item) (s .args .limit) (s .args .entries .now) (s .args .len)
 
-place-for-requires : tie.Need-place-for-requires
-place-for-requires c κs = search needs
-
-slot-by-requires : tie.Need-slot-by-requires
-slot-by-requires c κs = search needs
-
-field-from-requires : tie.Need-field-from-requires
-field-from-requires c κs = search needs
-
-refusal-of-requires : tie.Need-refusal-of-requires
-refusal-of-requires c κs = search needs
-
 returns : tie.Need-returns
 returns c =
     let s = c .before .before .before .before .before .before in
     arrays-not (tableOf (s .args .rights .now)) (sheetOf (s .args .attached .now) (s .args .sheet)) (arrays s) (s .args .user) (s .args .slot) (s .args .field) (given s) _ _ _ _ (c .before .before .before .before .place-for .ensures) (c .before .before .field-from .ensures) (rw (toZ-ofZ {w = w32} {z = s .args .item} (s .fits .item), toZ-ofZ {w = w16} {z = s .args .limit} (s .fits .limit)) at (c .before .before .before .slot-by .ensures)) (c .before .refusal-of .ensures) (c .if1 .taken)
-
-cast-put-field : tie.Need-cast-put-field
-cast-put-field c = search needs
 
 put-field-requires : tie.Need-put-field-requires
 put-field-requires c κs =
@@ -51,11 +36,11 @@ pub edit-arrays-spec : {M : Type 1} → statement M
 edit-arrays-spec =
     tie.close
     (tie.spec
-    place-for-requires
-    slot-by-requires
-    field-from-requires
-    refusal-of-requires
+    (λ c κs. search needs)
+    (λ c κs. search needs)
+    (λ c κs. search needs)
+    (λ c κs. search needs)
     returns
-    cast-put-field
+    (λ c. search needs)
     put-field-requires
     returns-2)

@@ -9,24 +9,6 @@ use borrow.Author.Needs.{needs}
 use Rattle.rights.proofs.empty_at.Statement.{statement}
 use Rattle.rights.proofs.empty_at.Tie as tie
 
-mul-items : tie.Need-mul-items
-mul-items c = search needs
-
-element-set-of-items : tie.Need-element-set-of-items
-element-set-of-items c = search needs
-
-mul-limits : tie.Need-mul-limits
-mul-limits c = search needs
-
-element-set-of-limits : tie.Need-element-set-of-limits
-element-set-of-limits c = search needs
-
-put-entries-requires : tie.Need-put-entries-requires
-put-entries-requires c κs = search needs
-
-element-write-lens : tie.Need-element-write-lens
-element-write-lens c = search needs
-
 returns : tie.Need-returns
 returns c =
     let s = c .before .before .before in
@@ -36,10 +18,10 @@ pub empty-at-spec : {M : Type 1} → statement M
 empty-at-spec =
     tie.close
     (tie.spec
-    mul-items
-    element-set-of-items
-    mul-limits
-    element-set-of-limits
-    put-entries-requires
-    element-write-lens
+    (λ c. search needs)
+    (λ c. search needs)
+    (λ c. search needs)
+    (λ c. search needs)
+    (λ c κs. search needs)
+    (λ c. search needs)
     returns)

@@ -10,14 +10,8 @@ use Rattle.rights.proofs.hide_slot.Tie as tie
 abbrev arrays : tie.Start → Arrays
 arrays s = arraysIn (s .args .items .now) (s .args .limits .now) (s .args .codes .now) (s .args .lens .now)
 
-has-right-requires : tie.Need-has-right-requires
-has-right-requires c κs = search needs
-
 returns : tie.Need-returns
 returns c = let s = c .before .before in ap (λ (b : Bool). cond b (arrays s) (emptied (s .args .slot) (arrays s))) (sym (sym (c .before .has-right .ensures) ∙ c .if1 .taken))
-
-empty-at-requires : tie.Need-empty-at-requires
-empty-at-requires c κs = search needs
 
 returns-2 : tie.Need-returns-2
 returns-2 c =
@@ -25,4 +19,4 @@ returns-2 c =
     c .empty-at .ensures ∙ ap (λ (b : Bool). cond b (arrays s) (emptied (s .args .slot) (arrays s))) (sym (sym (c .before .before .before .before .before .before .has-right .ensures) ∙ c .before .before .before .before .before .if1 .left))
 
 pub hide-slot-spec : {M : Type 1} → statement M
-hide-slot-spec = tie.close (tie.spec has-right-requires returns empty-at-requires returns-2)
+hide-slot-spec = tie.close (tie.spec (λ c κs. search needs) returns (λ c κs. search needs) returns-2)

@@ -10,15 +10,9 @@ and-true : (b : Bool) → b && true ≡ b
 and-true true = refl
 and-true false = refl
 
-slice-aggregate-check-parts : tie.Need-slice-aggregate-check-parts
-slice-aggregate-check-parts c = search needs
-
-check-parts-requires : tie.Need-check-parts-requires
-check-parts-requires c κs = search needs
-
 returns : tie.Need-returns
 unfolding entries
 returns c = c .check-parts .ensures ∙ and-true _
 
 pub item-known-spec : {M : Type 1} → statement M
-item-known-spec = tie.close (tie.spec slice-aggregate-check-parts check-parts-requires returns)
+item-known-spec = tie.close (tie.spec (λ c. search needs) (λ c κs. search needs) returns)

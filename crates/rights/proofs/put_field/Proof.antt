@@ -14,29 +14,11 @@ arrays s = arraysIn (s .args .items .now) (s .args .limits .now) (s .args .codes
 abbrev given : tie.Start → Contents
 given s = contents (s .args .item) (s .args .limit) (s .args .entries .now) (s .args .len)
 
-mul-item : tie.Need-mul-item
-mul-item c = search needs
-
-element-set-from-item : tie.Need-element-set-from-item
-element-set-from-item c = search needs
-
 returns : tie.Need-returns
 returns c = let s = c .before in item-written (s .args .field) (given s) (s .args .i) (arrays s) _ (c .if1 .taken) (toZ-ofZ {w = w32} {z = s .args .item} (s .fits .item))
 
-mul-limit : tie.Need-mul-limit
-mul-limit c = search needs
-
-element-set-from-limit : tie.Need-element-set-from-limit
-element-set-from-limit c = search needs
-
 returns-2 : tie.Need-returns-2
 returns-2 c = let s = c .before .before in limit-written (s .args .field) (given s) (s .args .i) (arrays s) _ (c .if2 .taken) (toZ-ofZ {w = w16} {z = s .args .limit} (s .fits .limit))
-
-put-entries-requires : tie.Need-put-entries-requires
-put-entries-requires c κs = search needs
-
-element-write-lens : tie.Need-element-write-lens
-element-write-lens c = search needs
 
 returns-3 : tie.Need-returns-3
 returns-3 c = let s = c .before .before .before .before in rest-written (s .args .field) (given s) (s .args .i) (arrays s) _ (c .before .before .before .if1 .left) (c .before .before .if2 .left) (c .put-entries .ensures)
@@ -45,12 +27,12 @@ pub put-field-spec : {M : Type 1} → statement M
 put-field-spec =
     tie.close
     (tie.spec
-    mul-item
-    element-set-from-item
+    (λ c. search needs)
+    (λ c. search needs)
     returns
-    mul-limit
-    element-set-from-limit
+    (λ c. search needs)
+    (λ c. search needs)
     returns-2
-    put-entries-requires
-    element-write-lens
+    (λ c κs. search needs)
+    (λ c. search needs)
     returns-3)

@@ -22,9 +22,6 @@ by : (s : tie.Start) (a b c d f : Bool) → sheetOk (sheetOf (s .args .attached 
     → firstOf (check a badSheet ∷ check b noUser ∷ check (c && d) noRight ∷ check f badShop ∷ []) ≡ editRefusal (tableOf (s .args .rights .now)) (sheetOf (s .args .attached .now) (s .args .sheet)) (editOf (s .args .user) (s .args .slot) (s .args .field) (s .args .content))
 by s = checked-by (tableOf (s .args .rights .now)) (sheetOf (s .args .attached .now) (s .args .sheet)) (editOf (s .args .user) (s .args .slot) (s .args .field) (s .args .content))
 
-check-sheet-requires : tie.Need-check-sheet-requires
-check-sheet-requires c κs = search needs
-
 returns : tie.Need-returns
 returns c =
     let s = c .before .before .before in
@@ -45,9 +42,6 @@ returns-3 c =
     (sym (c .before .before .before .check-sheet .ensures) ∙ not-false _ (c .before .before .if1 .left))
     (lt-ltb _ _ (c .before .if2 .left)) (le-ltb _ _ (c .if3 .taken)) refl refl
 
-right-for-requires : tie.Need-right-for-requires
-right-for-requires c κs = search needs
-
 has-right-requires : tie.Need-has-right-requires
 has-right-requires c κs = let s = c .before .before .before .before .before .before in (omega arith, omega arith, omega (arith, c .right-for .ensures, weight-some (fieldIs (s .args .field))))
 
@@ -58,9 +52,6 @@ returns-4 c =
     (sym (c .before .before .before .before .before .before .check-sheet .ensures) ∙ not-false _ (c .before .before .before .before .before .if1 .left))
     (lt-ltb _ _ (c .before .before .before .before .if2 .left)) (lt-ltb _ _ (c .before .before .before .if3 .left))
     (may-bit (s .args .rights .now) (s .args .user) (s .args .slot) (s .args .field) (s .args .content) _ (c .before .before .right-for .ensures) ∙ sym (c .before .has-right .ensures) ∙ not-true _ (c .if4 .taken)) refl
-
-content-ok-requires : tie.Need-content-ok-requires
-content-ok-requires c κs = search needs
 
 returns-5 : tie.Need-returns-5
 returns-5 c =
@@ -84,13 +75,13 @@ pub refusal-of-spec : {M : Type 1} → statement M
 refusal-of-spec =
     tie.close
     (tie.spec
-    check-sheet-requires
+    (λ c κs. search needs)
     returns
     returns-2
     returns-3
-    right-for-requires
+    (λ c κs. search needs)
     has-right-requires
     returns-4
-    content-ok-requires
+    (λ c κs. search needs)
     returns-5
     returns-6)

@@ -20,9 +20,6 @@ abbrev μ-loop : tie.MeasureT-loop
 size : (s : tie.Start Inv-loop μ-loop) → length (s .args .shop .slots) ≡ slotCount
 size s = search (length-mapped, needs)
 
-empty-shop-requires : tie.Need-empty-shop-requires Inv-loop μ-loop
-empty-shop-requires c κs = search needs
-
 returns : tie.Need-returns Inv-loop μ-loop
 returns c =
     let s = c .before .before in
@@ -30,15 +27,6 @@ returns c =
 
 loop-holds : tie.Need-loop-holds Inv-loop μ-loop
 loop-holds c = let s = c .before in shown-start (tableOf (s .args .rights .now)) (s .args .user) (s .args .shop)
-
-show-slot-requires : tie.Need-show-slot-requires Inv-loop μ-loop
-show-slot-requires c κs = search needs
-
-add-i : tie.Need-add-i Inv-loop μ-loop
-add-i c = omega arith
-
-loop-less : tie.Need-loop-less Inv-loop μ-loop
-loop-less c = omega arith
 
 loop-again : tie.Need-loop-again Inv-loop μ-loop
 loop-again c =
@@ -58,11 +46,11 @@ show-spec =
     (tie.spec
     Inv-loop
     μ-loop
-    empty-shop-requires
+    (λ c κs. search needs)
     returns
     loop-holds
-    show-slot-requires
-    add-i
-    loop-less
+    (λ c κs. search needs)
+    (λ c. omega arith)
+    (λ c. omega arith)
     loop-again
     returns-2)

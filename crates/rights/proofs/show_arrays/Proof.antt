@@ -18,9 +18,6 @@ abbrev μ-loop : tie.MeasureT-loop
 abbrev arrays : tie.Start Inv-loop μ-loop → Arrays
 arrays s = arraysIn (s .args .items .now) (s .args .limits .now) (s .args .codes .now) (s .args .lens .now)
 
-clear-arrays-requires : tie.Need-clear-arrays-requires Inv-loop μ-loop
-clear-arrays-requires c κs = search needs
-
 returns : tie.Need-returns Inv-loop μ-loop
 returns c =
     let s = c .before .before .before .before .before .before in
@@ -28,15 +25,6 @@ returns c =
 
 loop-holds : tie.Need-loop-holds Inv-loop μ-loop
 loop-holds c = let s = c .before in shown-start (tableOf (s .args .rights .now)) (s .args .user) (arrays s)
-
-hide-slot-requires : tie.Need-hide-slot-requires Inv-loop μ-loop
-hide-slot-requires c κs = search needs
-
-add-i : tie.Need-add-i Inv-loop μ-loop
-add-i c = search needs
-
-loop-less : tie.Need-loop-less Inv-loop μ-loop
-loop-less c = omega arith
 
 loop-again : tie.Need-loop-again Inv-loop μ-loop
 loop-again c =
@@ -56,11 +44,11 @@ show-arrays-spec =
     (tie.spec
     Inv-loop
     μ-loop
-    clear-arrays-requires
+    (λ c κs. search needs)
     returns
     loop-holds
-    hide-slot-requires
-    add-i
-    loop-less
+    (λ c κs. search needs)
+    (λ c. search needs)
+    (λ c. omega arith)
     loop-again
     returns-2)

@@ -7,54 +7,6 @@ use borrow.Author.Needs.{needs}
 use Rattle.runner.proofs.command.Statement.{statement}
 use Rattle.runner.proofs.command.Tie as tie
 
-mul-kind : tie.Need-mul-kind
-mul-kind c = search needs
-
-mul-kind-2 : tie.Need-mul-kind-2
-mul-kind-2 c = search needs
-
-element-copy-out-kind : tie.Need-element-copy-out-kind
-element-copy-out-kind c = search needs
-
-mul-first : tie.Need-mul-first
-mul-first c = search needs
-
-add-first : tie.Need-add-first
-add-first c = search needs
-
-mul-first-2 : tie.Need-mul-first-2
-mul-first-2 c = search needs
-
-element-copy-out-first : tie.Need-element-copy-out-first
-element-copy-out-first c = search needs
-
-mul-second : tie.Need-mul-second
-mul-second c = search needs
-
-add-second : tie.Need-add-second
-add-second c = search needs
-
-mul-second-2 : tie.Need-mul-second-2
-mul-second-2 c = search needs
-
-element-copy-out-second : tie.Need-element-copy-out-second
-element-copy-out-second c = search needs
-
-mul-block : tie.Need-mul-block
-mul-block c = search needs
-
-add-block : tie.Need-add-block
-add-block c = search needs
-
-mul-block-2 : tie.Need-mul-block-2
-mul-block-2 c = search needs
-
-element-copy-out-block : tie.Need-element-copy-out-block
-element-copy-out-block c = search needs
-
-block-no-requires : tie.Need-block-no-requires
-block-no-requires c κs = search needs
-
 returns : tie.Need-returns
 returns c =
     let s = c .before .before .before .before .before .before .before .before .before in
@@ -98,22 +50,22 @@ pub command-spec : {M : Type 1} → statement M
 command-spec =
     tie.close
     (tie.spec
-    mul-kind
-    mul-kind-2
-    element-copy-out-kind
-    mul-first
-    add-first
-    mul-first-2
-    element-copy-out-first
-    mul-second
-    add-second
-    mul-second-2
-    element-copy-out-second
-    mul-block
-    add-block
-    mul-block-2
-    element-copy-out-block
-    block-no-requires
+    (λ c. search needs)
+    (λ c. search needs)
+    (λ c. search needs)
+    (λ c. search needs)
+    (λ c. search needs)
+    (λ c. search needs)
+    (λ c. search needs)
+    (λ c. search needs)
+    (λ c. search needs)
+    (λ c. search needs)
+    (λ c. search needs)
+    (λ c. search needs)
+    (λ c. search needs)
+    (λ c. search needs)
+    (λ c. search needs)
+    (λ c κs. search needs)
     returns
     set-variable-requires
     if-else-requires

@@ -18,23 +18,8 @@ abbrev μ-loop : tie.MeasureT-loop
 loop-holds : tie.Need-loop-holds Inv-loop μ-loop
 loop-holds c = none-copied _ _
 
-mul-to : tie.Need-mul-to Inv-loop μ-loop
-mul-to c = search needs
-
-shared-slice-copy-out-to : tie.Need-shared-slice-copy-out-to Inv-loop μ-loop
-shared-slice-copy-out-to c = search needs
-
-mul-t8 : tie.Need-mul-t8 Inv-loop μ-loop
-mul-t8 c = search needs
-
 slice-set-from-to : tie.Need-slice-set-from-to Inv-loop μ-loop
 slice-set-from-to c = omega (arith, copied-length (c .before .before .before .pre) (c .before .before .loop .inv), c .before .before .before .pre)
-
-add-i : tie.Need-add-i Inv-loop μ-loop
-add-i c = search needs
-
-loop-less : tie.Need-loop-less Inv-loop μ-loop
-loop-less c = omega arith
 
 loop-again : tie.Need-loop-again Inv-loop μ-loop
 loop-again c = one-copied (c .before .before .before .pre) (c .before .before .loop .inv) _ (c .before .loop-test .taken) (toZ-ofZ {w = w32} (record { sfits = c .to .given }))
@@ -52,12 +37,12 @@ copy-numbers-spec =
     Inv-loop
     μ-loop
     loop-holds
-    mul-to
-    shared-slice-copy-out-to
-    mul-t8
+    (λ c. search needs)
+    (λ c. search needs)
+    (λ c. search needs)
     slice-set-from-to
-    add-i
-    loop-less
+    (λ c. search needs)
+    (λ c. omega arith)
     loop-again
     same-length
     returns)

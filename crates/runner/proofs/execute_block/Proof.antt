@@ -23,15 +23,6 @@ add-command c = omega (arith, (c .before .before .before .before .pre (c .before
 command-requires : tie.Need-command-requires Inv-loop μ-loop
 command-requires c κs = c .before .before .before .before .before .pre (c .before .before .before .before .before .args .first + c .before .before .loop .i) (omega arith) (omega arith)
 
-enum-told : tie.Need-enum-told Inv-loop μ-loop
-enum-told c = search needs
-
-add-i : tie.Need-add-i Inv-loop μ-loop
-add-i c = search needs
-
-loop-less : tie.Need-loop-less Inv-loop μ-loop
-loop-less c = omega arith
-
 loop-again : tie.Need-loop-again Inv-loop μ-loop
 loop-again c =
     let a = c .before .before in
@@ -39,14 +30,8 @@ loop-again c =
     let d = b .before in
     one-passed _ _ _ _ _ _ _ _ (d .loop .inv) (b .loop-test .taken) (a .command .ensures) (c .enum-told .given .1)
 
-enum-known-f : tie.Need-enum-known-f Inv-loop μ-loop
-enum-known-f c = search needs
-
 returns : tie.Need-returns Inv-loop μ-loop
 returns c = out-passed _ _ _ _ _ _ _ _ (c .before .before .before .before .before .before .loop .inv) (c .before .before .before .before .before .loop-test .taken) (c .before .before .before .command .ensures) (c .before .f .given .1)
-
-follow-link-requires : tie.Need-follow-link-requires Inv-loop μ-loop
-follow-link-requires c κs = search needs
 
 returns-2 : tie.Need-returns-2 Inv-loop μ-loop
 returns-2 c = all-passed _ _ _ _ _ _ _ _ (c .before .before .loop .inv) (c .follow-link .result) (c .before .loop-test .left) (c .follow-link .ensures)
@@ -60,11 +45,11 @@ execute-block-spec =
     loop-holds
     add-command
     command-requires
-    enum-told
-    add-i
-    loop-less
+    (λ c. search needs)
+    (λ c. search needs)
+    (λ c. omega arith)
     loop-again
-    enum-known-f
+    (λ c. search needs)
     returns
-    follow-link-requires
+    (λ c κs. search needs)
     returns-2)

@@ -7,14 +7,8 @@ use Rattle.runner.proofs.follow_link.Tie as tie
 returns : tie.Need-returns
 returns c = link-none (c .before .args .link .0) (c .if1 .taken)
 
-sub-block-no : tie.Need-sub-block-no
-sub-block-no c = search needs
-
-block-no-requires : tie.Need-block-no-requires
-block-no-requires c κs = search needs
-
 returns-2 : tie.Need-returns-2
 returns-2 c = link-some (c .before .before .args .link .0) (c .block-no .result) (c .before .if1 .left) (c .block-no .ensures)
 
 pub follow-link-spec : {M : Type 1} → statement M
-follow-link-spec = tie.close (tie.spec returns sub-block-no block-no-requires returns-2)
+follow-link-spec = tie.close (tie.spec returns (λ c. search needs) (λ c κs. search needs) returns-2)

@@ -8,17 +8,8 @@ use borrow.Author.Needs.{needs}
 use Rattle.runner.proofs.run.Statement.{statement}
 use Rattle.runner.proofs.run.Tie as tie
 
-check-call-requires : tie.Need-check-call-requires
-check-call-requires c κs = search needs
-
 returns : tie.Need-returns
 returns c = run-refused _ _ _ _ _ _ (c .before .check-call .ensures) (c .if1 .taken)
-
-check-save-requires : tie.Need-check-save-requires
-check-save-requires c κs = search needs
-
-same-length : tie.Need-same-length
-same-length c = search needs
 
 returns-2 : tie.Need-returns-2
 returns-2 c = run-bad-save _ _ _ _ _ _ (c .before .before .before .before .check-call .ensures) (c .before .before .before .if1 .left) (sym (c .before .check-save .ensures) ∙ not-true _ (c .if2 .taken))
@@ -28,9 +19,6 @@ run-copied-requires c κs =
     let s = c .before .before .before .before .before .before .before .before .before in
     (call-ready (memoryIn (s .args .ws .now) (s .args .val .now) (s .args .cw .now) (s .args .bw .now) (s .args .counts .nodes) (s .args .counts .commands) (s .args .counts .blocks)) (sheetOf (s .args .attached .now) (s .args .sheet)) (s .args .start .0) (sym (c .before .before .before .before .before .check-call .ensures) ∙ c .before .before .before .before .if1 .left), save-room _ _ (sym (c .before .before .check-save .ensures) ∙ not-false _ (c .before .if2 .left)))
 
-same-length-2 : tie.Need-same-length-2
-same-length-2 c = search needs
-
 returns-3 : tie.Need-returns-3
 returns-3 c = run-checked _ _ _ _ _ _ (c .before .before .before .before .before .before .before .check-call .ensures) (c .before .before .before .before .before .before .if1 .left) _ (sym (c .before .before .before .before .check-save .ensures) ∙ not-false _ (c .before .before .before .if2 .left)) (c .before .run-copied .ensures)
 
@@ -38,11 +26,11 @@ pub run-spec : {M : Type 1} → statement M
 run-spec =
     tie.close
     (tie.spec
-    check-call-requires
+    (λ c κs. search needs)
     returns
-    check-save-requires
-    same-length
+    (λ c κs. search needs)
+    (λ c. search needs)
     returns-2
     run-copied-requires
-    same-length-2
+    (λ c. search needs)
     returns-3)

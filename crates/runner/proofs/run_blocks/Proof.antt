@@ -18,18 +18,6 @@ abbrev μ-loop : tie.MeasureT-loop
 loop-holds : tie.Need-loop-holds Inv-loop μ-loop
 loop-holds c = none-entered _ _ _ _ _
 
-step-block-requires : tie.Need-step-block-requires Inv-loop μ-loop
-step-block-requires c κs = search needs
-
-add-entered : tie.Need-add-entered Inv-loop μ-loop
-add-entered c = search needs
-
-enum-known-s : tie.Need-enum-known-s Inv-loop μ-loop
-enum-known-s c = search needs
-
-loop-less : tie.Need-loop-less Inv-loop μ-loop
-loop-less c = omega arith
-
 loop-again : tie.Need-loop-again Inv-loop μ-loop
 loop-again c =
     let a = c .before .before .before in
@@ -37,18 +25,12 @@ loop-again c =
     let d = b .before in
     one-entered _ _ _ _ _ (d .loop .inv) (b .loop-test .taken) (a .step-block .result) _ _ (c .before .s .given .1) (a .step-block .ensures)
 
-enum-told : tie.Need-enum-told Inv-loop μ-loop
-enum-told c = search needs
-
 returns : tie.Need-returns Inv-loop μ-loop
 returns c =
     let a = c .before .before in
     let b = a .before .before in
     let d = b .before in
     done-entered _ _ _ _ _ (d .loop .inv) (b .loop-test .taken) (a .step-block .result) _ (c .enum-told .given .1) (a .step-block .ensures)
-
-enum-known-s-2 : tie.Need-enum-known-s-2 Inv-loop μ-loop
-enum-known-s-2 c = search needs
 
 returns-2 : tie.Need-returns-2 Inv-loop μ-loop
 returns-2 c =
@@ -67,13 +49,13 @@ run-blocks-spec =
     Inv-loop
     μ-loop
     loop-holds
-    step-block-requires
-    add-entered
-    enum-known-s
-    loop-less
+    (λ c κs. search needs)
+    (λ c. search needs)
+    (λ c. search needs)
+    (λ c. omega arith)
     loop-again
-    enum-told
+    (λ c. search needs)
     returns
-    enum-known-s-2
+    (λ c. search needs)
     returns-2
     returns-3)

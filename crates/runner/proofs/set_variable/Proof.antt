@@ -6,21 +6,6 @@ use borrow.Author.Needs.{needs}
 use Rattle.runner.proofs.set_variable.Statement.{statement}
 use Rattle.runner.proofs.set_variable.Tie as tie
 
-add-evaluate : tie.Need-add-evaluate
-add-evaluate c = search needs
-
-evaluate-requires : tie.Need-evaluate-requires
-evaluate-requires c κs = search needs
-
-add-evaluate-2 : tie.Need-add-evaluate-2
-add-evaluate-2 c = search needs
-
-evaluate-requires-2 : tie.Need-evaluate-requires-2
-evaluate-requires-2 c κs = search needs
-
-store-value-requires : tie.Need-store-value-requires
-store-value-requires c κs = search needs
-
 returns : tie.Need-returns
 returns c =
     let s = c .before .before .before .before .before .before .before .before in
@@ -30,9 +15,9 @@ pub set-variable-spec : {M : Type 1} → statement M
 set-variable-spec =
     tie.close
     (tie.spec
-    add-evaluate
-    evaluate-requires
-    add-evaluate-2
-    evaluate-requires-2
-    store-value-requires
+    (λ c. search needs)
+    (λ c κs. search needs)
+    (λ c. search needs)
+    (λ c κs. search needs)
+    (λ c κs. search needs)
     returns)

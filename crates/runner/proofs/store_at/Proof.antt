@@ -13,15 +13,6 @@ returns c = store-negative (c .before .args .vars .now) (c .before .args .k) (c 
 cast-i : tie.Need-cast-i
 cast-i c = rw (toZ-ofZ (c .before .fits .k)) (not-negative (c .before .args .k) (rw (toZ-ofZ (c .before .fits .k)) at (c .if1 .left)), fits-natAbs {w = w32} tt (c .before .fits .k))
 
-mul-x : tie.Need-mul-x
-mul-x c = search needs
-
-slice-set-from-x : tie.Need-slice-set-from-x
-slice-set-from-x c = search needs
-
-same-length : tie.Need-same-length
-same-length c = search needs
-
 returns-2 : tie.Need-returns-2
 returns-2 c = let s = c .before .before in rw (toZ-ofZ (s .fits .k), toZ-ofZ (s .fits .x)) (store-in (s .args .vars .now) (s .args .k) (s .args .x) (rw (toZ-ofZ (s .fits .k)) at (c .before .if1 .left)))
 
@@ -30,4 +21,4 @@ returns-3 c = let s = c .before .before in store-out (s .args .vars .now) (s .ar
 
 pub store-at-spec : {M : Type 1} → statement M
 store-at-spec =
-    tie.close (tie.spec returns cast-i mul-x slice-set-from-x same-length returns-2 returns-3)
+    tie.close (tie.spec returns cast-i (λ c. search needs) (λ c. search needs) (λ c. search needs) returns-2 returns-3)

@@ -8,21 +8,6 @@ use borrow.Author.Needs.{needs}
 use Rattle.runner.proofs.store_value.Statement.{statement}
 use Rattle.runner.proofs.store_value.Tie as tie
 
-enum-known-t : tie.Need-enum-known-t
-enum-known-t c = search needs
-
-enum-known-e : tie.Need-enum-known-e
-enum-known-e c = search needs
-
-store-at-requires : tie.Need-store-at-requires
-store-at-requires c κs = search needs
-
-enum-known-e-2 : tie.Need-enum-known-e-2
-enum-known-e-2 c = search needs
-
-enum-known-t-2 : tie.Need-enum-known-t-2
-enum-known-t-2 c = search needs
-
 returns : tie.Need-returns
 returns c =
     let f : SFits w32 (c .before .before .before .before .before .before .t .given .0 .0) = record { sfits = c .before .before .before .before .before .known-told .given .0 .1 } in
@@ -39,11 +24,11 @@ pub store-value-spec : {M : Type 1} → statement M
 store-value-spec =
     tie.close
     (tie.spec
-    enum-known-t
-    enum-known-e
-    store-at-requires
-    enum-known-e-2
-    enum-known-t-2
+    (λ c. search needs)
+    (λ c. search needs)
+    (λ c κs. search needs)
+    (λ c. search needs)
+    (λ c. search needs)
     returns
     returns-2
     returns-3)

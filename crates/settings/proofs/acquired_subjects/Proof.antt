@@ -11,12 +11,6 @@ use Rattle.settings.proofs.acquired_subjects.Tie as tie
 returns : tie.Need-returns
 returns c = let s = c .before in (λ ks. acquired-none (sheetOf ks (s .args .sheet)) (s .args .item .0) (s .args .one) (not-true _ (c .if1 .taken)), omega arith)
 
-timer-of-requires : tie.Need-timer-of-requires
-timer-of-requires c κs = search needs
-
-rate-of-requires : tie.Need-rate-of-requires
-rate-of-requires c κs = search needs
-
 returns-2 : tie.Need-returns-2
 returns-2 c =
     let s = c .before .before .before .before in
@@ -28,4 +22,4 @@ returns-3 c =
     (λ ks. acquired-timer (sheetOf ks (s .args .sheet)) (s .args .item .0) (s .args .one) (not-false _ (c .before .before .before .if1 .left)) _ (c .before .before .timer-of .ensures ks) (λ z. c .if2 .left (c .before .rate-of .ensures ∙ z)), omega arith)
 
 pub acquired-subjects-spec : {M : Type 1} → statement M
-acquired-subjects-spec = tie.close (tie.spec returns timer-of-requires rate-of-requires returns-2 returns-3)
+acquired-subjects-spec = tie.close (tie.spec returns (λ c κs. search needs) (λ c κs. search needs) returns-2 returns-3)

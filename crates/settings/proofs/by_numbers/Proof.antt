@@ -6,15 +6,6 @@ use borrow.Author.Needs.{needs}
 use Rattle.settings.proofs.by_numbers.Statement.{statement}
 use Rattle.settings.proofs.by_numbers.Tie as tie
 
-add-s : tie.Need-add-s
-add-s c = search needs
-
-unmet-requires : tie.Need-unmet-requires
-unmet-requires c κs = search needs
-
-power-requires : tie.Need-power-requires
-power-requires c κs = search needs
-
 sub-t7 : tie.Need-sub-t7
 sub-t7 c = let s = c .before .before in omega (arith, c .power .ensures, c .before .unmet .ensures, less-power (s .args .k) (s .args .f) (bit (s .args .met)))
 
@@ -22,4 +13,4 @@ returns : tie.Need-returns
 returns c = let s = c .before .before in numbers-made (s .args .k) (s .args .f) (bit (s .args .met)) _ _ (c .power .ensures) (c .before .unmet .ensures)
 
 pub by-numbers-spec : {M : Type 1} → statement M
-by-numbers-spec = tie.close (tie.spec add-s unmet-requires power-requires sub-t7 returns)
+by-numbers-spec = tie.close (tie.spec (λ c. search needs) (λ c κs. search needs) (λ c κs. search needs) sub-t7 returns)

@@ -9,19 +9,10 @@ use borrow.Author.Needs.{needs}
 use Rattle.settings.proofs.check_slot.Statement.{statement}
 use Rattle.settings.proofs.check_slot.Tie as tie
 
-check-sheet-requires : tie.Need-check-sheet-requires
-check-sheet-requires c κs = search needs
-
 returns : tie.Need-returns
 returns c =
     let s = c .before .before .before in
     checked-by (sheetOf (s .args .attached .now) (s .args .sheet)) (slotOf (s .args .slot)) false _ (sym (c .before .check-sheet .ensures) ∙ not-true _ (c .if1 .taken)) refl
-
-slice-aggregate-check-parts : tie.Need-slice-aggregate-check-parts
-slice-aggregate-check-parts c = search needs
-
-check-parts-requires : tie.Need-check-parts-requires
-check-parts-requires c κs = search needs
 
 returns-2 : tie.Need-returns-2
 returns-2 c =
@@ -41,9 +32,9 @@ pub check-slot-spec : {M : Type 1} → statement M
 check-slot-spec =
     tie.close
     (tie.spec
-    check-sheet-requires
+    (λ c κs. search needs)
     returns
-    slice-aggregate-check-parts
-    check-parts-requires
+    (λ c. search needs)
+    (λ c κs. search needs)
     returns-2
     returns-3)

@@ -20,23 +20,11 @@ sheet s = sheetOf (s .args .attached .now) (s .args .sheet)
 long : (s : tie.Start) → length (s .args .slot .requirements) ≡ entryLimit
 long s = search needs
 
-limit-of-requires : tie.Need-limit-of-requires
-limit-of-requires c κs = search needs
-
-own-code-requires : tie.Need-own-code-requires
-own-code-requires c κs = search needs
-
-acquired-subjects-requires : tie.Need-acquired-subjects-requires
-acquired-subjects-requires c κs = search needs
-
 count-subjects-requires : tie.Need-count-subjects-requires
 count-subjects-requires c κs = let s = c .before .before .before .before .before .before .before in slot-few (sheet s) (s .pre .0) (s .args .slot) (s .pre .1)
 
 is-faithful-requires : tie.Need-is-faithful-requires
 is-faithful-requires c κs = let s = c .before .before .before .before .before .before .before .before .before in slot-few (sheet s) (s .pre .0) (s .args .slot) (s .pre .1)
-
-by-numbers-requires : tie.Need-by-numbers-requires
-by-numbers-requires c κs = search needs
 
 returns : tie.Need-returns
 returns c =
@@ -50,10 +38,10 @@ pub count-settings-spec : {M : Type 1} → statement M
 count-settings-spec =
     tie.close
     (tie.spec
-    limit-of-requires
-    own-code-requires
-    acquired-subjects-requires
+    (λ c κs. search needs)
+    (λ c κs. search needs)
+    (λ c κs. search needs)
     count-subjects-requires
     is-faithful-requires
-    by-numbers-requires
+    (λ c κs. search needs)
     returns)

@@ -21,29 +21,11 @@ abbrev μ-loop : tie.MeasureT-loop
 size : (c : tie.After-capacity Inv-loop μ-loop) → length (take (c .before .args .len) (c .before .args .row .now)) ≡ c .before .args .len
 size c = length-take-le (c .before .args .len) (c .before .args .row .now) (omega (arith, c .capacity .ensures .0, c .before .pre))
 
-capacity-requires : tie.Need-capacity-requires Inv-loop μ-loop
-capacity-requires c κs = search needs
-
 loop-holds : tie.Need-loop-holds Inv-loop μ-loop
 loop-holds c = start _ _ _
 
-cast-at : tie.Need-cast-at Inv-loop μ-loop
-cast-at c = search needs
-
-mul-one-more : tie.Need-mul-one-more Inv-loop μ-loop
-mul-one-more c = omega arith
-
-element-copy-out-one-more : tie.Need-element-copy-out-one-more Inv-loop μ-loop
-element-copy-out-one-more c = omega arith
-
 one-more-requires : tie.Need-one-more-requires Inv-loop μ-loop
 one-more-requires c κs = (omega arith, omega arith)
-
-add-i : tie.Need-add-i Inv-loop μ-loop
-add-i c = omega arith
-
-loop-less : tie.Need-loop-less Inv-loop μ-loop
-loop-less c = omega arith
 
 loop-again : tie.Need-loop-again Inv-loop μ-loop
 loop-again c =
@@ -69,13 +51,13 @@ count-subjects-spec =
     (tie.spec
     Inv-loop
     μ-loop
-    capacity-requires
+    (λ c κs. search needs)
     loop-holds
-    cast-at
-    mul-one-more
-    element-copy-out-one-more
+    (λ c. search needs)
+    (λ c. omega arith)
+    (λ c. omega arith)
     one-more-requires
-    add-i
-    loop-less
+    (λ c. omega arith)
+    (λ c. omega arith)
     loop-again
     returns)

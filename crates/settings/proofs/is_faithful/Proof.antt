@@ -8,9 +8,6 @@ use borrow.Author.Needs.{needs}
 use Rattle.settings.proofs.is_faithful.Statement.{statement}
 use Rattle.settings.proofs.is_faithful.Tie as tie
 
-no-pair-requires : tie.Need-no-pair-requires
-no-pair-requires c κs = search needs
-
 returns : tie.Need-returns
 returns c =
     let s = c .before .before in
@@ -21,13 +18,10 @@ returns-2 c =
     let s = c .before .before .before in
     faithful-by (s .args .one) (s .args .own) (take (s .args .n) (s .args .row .now)) true false _ (sym (c .before .before .no-pair .ensures) ∙ not-false _ (c .before .if1 .left)) (not-true _ (c .if2 .taken)) refl
 
-lacks-requires : tie.Need-lacks-requires
-lacks-requires c κs = search needs
-
 returns-3 : tie.Need-returns-3
 returns-3 c =
     let s = c .before .before .before .before in
     faithful-by (s .args .one) (s .args .own) (take (s .args .n) (s .args .row .now)) true true (c .lacks .result) (sym (c .before .before .before .no-pair .ensures) ∙ not-false _ (c .before .before .if1 .left)) (not-false _ (c .before .if2 .left)) (sym (c .lacks .ensures))
 
 pub is-faithful-spec : {M : Type 1} → statement M
-is-faithful-spec = tie.close (tie.spec no-pair-requires returns returns-2 lacks-requires returns-3)
+is-faithful-spec = tie.close (tie.spec (λ c κs. search needs) returns returns-2 (λ c κs. search needs) returns-3)

@@ -7,25 +7,13 @@ use borrow.Author.Needs.{needs}
 use Rattle.settings.proofs.is_new.Statement.{statement}
 use Rattle.settings.proofs.is_new.Tie as tie
 
-is-own-requires : tie.Need-is-own-requires
-is-own-requires c κs = search needs
-
 returns : tie.Need-returns
 returns c = let s = c .before .before in new-own (s .args .one) (s .args .own) (s .args .c) (take (s .args .i) (s .args .row .now)) (sym (c .before .is-own .ensures) ∙ c .if1 .taken)
-
-lacks-requires : tie.Need-lacks-requires
-lacks-requires c κs = search needs
 
 returns-2 : tie.Need-returns-2
 returns-2 c =
     let s = c .before .before .before .before in
     new-there (s .args .one) (s .args .own) (s .args .c) (take (s .args .i) (s .args .row .now)) (sym (c .before .before .before .is-own .ensures) ∙ c .before .before .if1 .left) (sym (c .before .lacks .ensures) ∙ not-true _ (c .if2 .taken))
-
-negated-requires : tie.Need-negated-requires
-negated-requires c κs = search needs
-
-lacks-requires-2 : tie.Need-lacks-requires-2
-lacks-requires-2 c κs = search needs
 
 returns-3 : tie.Need-returns-3
 returns-3 c =
@@ -37,10 +25,10 @@ pub is-new-spec : {M : Type 1} → statement M
 is-new-spec =
     tie.close
     (tie.spec
-    is-own-requires
+    (λ c κs. search needs)
     returns
-    lacks-requires
+    (λ c κs. search needs)
     returns-2
-    negated-requires
-    lacks-requires-2
+    (λ c κs. search needs)
+    (λ c κs. search needs)
     returns-3)

@@ -27,17 +27,8 @@ abbrev μ-loop : tie.MeasureT-loop
 size : (c : tie.After-capacity Inv-loop μ-loop) → length (take (c .before .args .n) (c .before .args .row .now)) ≡ c .before .args .n
 size c = length-take-le (c .before .args .n) (c .before .args .row .now) (omega (arith, c .capacity .ensures .0, c .before .pre))
 
-capacity-requires : tie.Need-capacity-requires Inv-loop μ-loop
-capacity-requires c κs = search needs
-
 loop-holds : tie.Need-loop-holds Inv-loop μ-loop
 loop-holds c = start _ _
-
-mul-if1 : tie.Need-mul-if1 Inv-loop μ-loop
-mul-if1 c = omega arith
-
-element-copy-out-if1 : tie.Need-element-copy-out-if1 Inv-loop μ-loop
-element-copy-out-if1 c = omega arith
 
 returns : tie.Need-returns Inv-loop μ-loop
 unfolding lacksCode
@@ -46,12 +37,6 @@ returns c =
     let l = c .before .before .before .loop in
     let e = getD-take (s .args .n) (s .args .row .now) (l .i) 0 (c .before .before .loop-test .taken) in
     stop (other (s .args .x)) (take (s .args .n) (s .args .row .now)) (l .i) (l .inv) 0 (omega (arith, size (c .before .before .before .before), c .before .before .loop-test .taken)) (ap (other (s .args .x)) e ∙ ap not (eq-eqb _ _ (sym (c .if1 .taken))))
-
-add-i : tie.Need-add-i Inv-loop μ-loop
-add-i c = omega arith
-
-loop-less : tie.Need-loop-less Inv-loop μ-loop
-loop-less c = omega arith
 
 loop-again : tie.Need-loop-again Inv-loop μ-loop
 loop-again c =
@@ -72,12 +57,12 @@ lacks-spec =
     (tie.spec
     Inv-loop
     μ-loop
-    capacity-requires
+    (λ c κs. search needs)
     loop-holds
-    mul-if1
-    element-copy-out-if1
+    (λ c. omega arith)
+    (λ c. omega arith)
     returns
-    add-i
-    loop-less
+    (λ c. omega arith)
+    (λ c. omega arith)
     loop-again
     returns-2)

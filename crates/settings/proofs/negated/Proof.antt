@@ -5,17 +5,11 @@ use borrow.Author.Needs.{needs}
 use Rattle.settings.proofs.negated.Statement.{statement}
 use Rattle.settings.proofs.negated.Tie as tie
 
-add-result : tie.Need-add-result
-add-result c = search needs
-
 returns : tie.Need-returns
 returns c = rw (eq-eqb (c .before .args .code / 4294967296 % 2) 0 (c .if1 .taken))
-
-sub-result : tie.Need-sub-result
-sub-result c = search needs
 
 returns-2 : tie.Need-returns-2
 returns-2 c = rw (ne-eqb (c .before .args .code / 4294967296 % 2) 0 (c .if1 .left))
 
 pub negated-spec : {M : Type 1} → statement M
-negated-spec = tie.close (tie.spec add-result returns sub-result returns-2)
+negated-spec = tie.close (tie.spec (λ c. search needs) returns (λ c. search needs) returns-2)

@@ -26,23 +26,8 @@ abbrev μ-loop : tie.MeasureT-loop
 size : (c : tie.After-capacity Inv-loop μ-loop) → length (take (c .before .args .n) (c .before .args .row .now)) ≡ c .before .args .n
 size c = length-take-le (c .before .args .n) (c .before .args .row .now) (omega (arith, c .capacity .ensures .0, c .before .pre))
 
-capacity-requires : tie.Need-capacity-requires Inv-loop μ-loop
-capacity-requires c κs = search needs
-
 loop-holds : tie.Need-loop-holds Inv-loop μ-loop
 loop-holds c = start _ _
-
-mul-negated : tie.Need-mul-negated Inv-loop μ-loop
-mul-negated c = omega arith
-
-element-copy-out-negated : tie.Need-element-copy-out-negated Inv-loop μ-loop
-element-copy-out-negated c = omega arith
-
-negated-requires : tie.Need-negated-requires Inv-loop μ-loop
-negated-requires c κs = search needs
-
-lacks-requires : tie.Need-lacks-requires Inv-loop μ-loop
-lacks-requires c κs = search needs
 
 returns : tie.Need-returns Inv-loop μ-loop
 unfolding noPairCode
@@ -53,12 +38,6 @@ returns c =
     let e = getD-take (s .args .n) (s .args .row .now) (l .i) 0 (c .before .before .before .before .loop-test .taken) in
     stop (alone cs) cs (l .i) (l .inv) 0 (omega (arith, size (c .before .before .before .before .before .before), c .before .before .before .before .loop-test .taken))
     (ap (alone cs) e ∙ sym (ap (λ (x : ℕ). lacksCode x cs) (c .before .before .negated .ensures)) ∙ sym (c .before .lacks .ensures) ∙ not-true _ (c .if1 .taken))
-
-add-i : tie.Need-add-i Inv-loop μ-loop
-add-i c = omega arith
-
-loop-less : tie.Need-loop-less Inv-loop μ-loop
-loop-less c = omega arith
 
 loop-again : tie.Need-loop-again Inv-loop μ-loop
 loop-again c =
@@ -82,14 +61,14 @@ no-pair-spec =
     (tie.spec
     Inv-loop
     μ-loop
-    capacity-requires
+    (λ c κs. search needs)
     loop-holds
-    mul-negated
-    element-copy-out-negated
-    negated-requires
-    lacks-requires
+    (λ c. omega arith)
+    (λ c. omega arith)
+    (λ c κs. search needs)
+    (λ c κs. search needs)
     returns
-    add-i
-    loop-less
+    (λ c. omega arith)
+    (λ c. omega arith)
     loop-again
     returns-2)

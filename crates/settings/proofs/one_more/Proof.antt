@@ -8,12 +8,6 @@ use borrow.Author.Needs.{needs}
 use Rattle.settings.proofs.one_more.Statement.{statement}
 use Rattle.settings.proofs.one_more.Tie as tie
 
-is-new-requires : tie.Need-is-new-requires
-is-new-requires c κs = search needs
-
-add-result : tie.Need-add-result
-add-result c = search needs
-
 returns : tie.Need-returns
 returns c = let s = c .before .before in ap (λ (b : Bool). s .args .n + bit b) (sym (sym (c .before .is-new .ensures) ∙ c .if1 .taken))
 
@@ -24,4 +18,4 @@ returns-2 : tie.Need-returns-2
 returns-2 c = let s = c .before .before in zero-more (s .args .n) ∙ ap (λ (b : Bool). s .args .n + bit b) (sym (sym (c .before .is-new .ensures) ∙ c .if1 .left))
 
 pub one-more-spec : {M : Type 1} → statement M
-one-more-spec = tie.close (tie.spec is-new-requires add-result returns returns-2)
+one-more-spec = tie.close (tie.spec (λ c κs. search needs) (λ c. search needs) returns returns-2)

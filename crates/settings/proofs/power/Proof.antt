@@ -8,11 +8,8 @@ use borrow.Author.Needs.{needs}
 use Rattle.settings.proofs.power.Statement.{statement}
 use Rattle.settings.proofs.power.Tie as tie
 
-shl-result : tie.Need-shl-result
-shl-result c = search needs
-
 returns : tie.Need-returns
 returns c = ap (λ (n : ℕ). n % 2 ^ 32) (one-mul (2 ^ c .args .n)) ∙ mod-eq-of-lt (pow-lt {j = 32} (omega arith))
 
 pub power-spec : {M : Type 1} → statement M
-power-spec = tie.close (tie.spec shl-result returns)
+power-spec = tie.close (tie.spec (λ c. search needs) returns)

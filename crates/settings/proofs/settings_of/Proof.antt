@@ -10,17 +10,8 @@ use Rattle.settings.proofs.settings_of.Tie as tie
 abbrev sheet : tie.Start → Model.Sheet
 sheet s = sheetOf (s .args .attached .now) (s .args .sheet)
 
-check-slot-requires : tie.Need-check-slot-requires
-check-slot-requires c κs = search needs
-
 returns : tie.Need-returns
 returns c = let s = c .before .before .before in refused-as (sheet s) (slotOf (s .args .slot)) _ (c .before .check-slot .ensures) (c .if1 .taken)
-
-enum-told : tie.Need-enum-told
-enum-told c = search needs
-
-enum-known-item : tie.Need-enum-known-item
-enum-known-item c = search needs
 
 count-settings-requires : tie.Need-count-settings-requires
 count-settings-requires c κs =
@@ -31,17 +22,14 @@ count-settings-requires c κs =
 returns-2 : tie.Need-returns-2
 returns-2 c = let s = c .before .before .before .before .before in none-is (sheet s) (s .args .slot) (sym (c .before .before .before .check-slot .ensures) ∙ c .before .before .if1 .left) (c .enum-told .given .1)
 
-returns-3 : tie.Need-returns-3
-returns-3 c = search needs
-
 pub settings-of-spec : {M : Type 1} → statement M
 settings-of-spec =
     tie.close
     (tie.spec
-    check-slot-requires
+    (λ c κs. search needs)
     returns
-    enum-told
-    enum-known-item
+    (λ c. search needs)
+    (λ c. search needs)
     count-settings-requires
     returns-2
-    returns-3)
+    (λ c. search needs))

@@ -9,9 +9,6 @@ use borrow.Author.Needs.{needs}
 use Rattle.settings.proofs.unmet.Statement.{statement}
 use Rattle.settings.proofs.unmet.Tie as tie
 
-power-requires : tie.Need-power-requires
-power-requires c κs = search needs
-
 sub-result : tie.Need-sub-result
 sub-result c = omega (arith, c .before .power .ensures, some-power (c .before .before .args .f))
 
@@ -22,4 +19,4 @@ returns-2 : tie.Need-returns-2
 returns-2 c = let s = c .before .before in c .before .power .ensures ∙ all-less (2 ^ s .args .f) (s .args .met) (c .if1 .left)
 
 pub unmet-spec : {M : Type 1} → statement M
-unmet-spec = tie.close (tie.spec power-requires sub-result returns returns-2)
+unmet-spec = tie.close (tie.spec (λ c κs. search needs) sub-result returns returns-2)

@@ -12,12 +12,6 @@ use borrow.Author.Needs.{needs}
 use Rattle.shop_codes.proofs.flag_in.Statement.{statement}
 use Rattle.shop_codes.proofs.flag_in.Tie as tie
 
-sub-below : tie.Need-sub-below
-sub-below c = search needs
-
-cast-result : tie.Need-cast-result
-cast-result c = search needs
-
 sub-result : tie.Need-sub-result
 sub-result c = rw (turned (2147483647 - c .before .args .m) (omega arith)) (record { sfits = omega arith })
 
@@ -26,11 +20,8 @@ returns c =
     toZ-ofZ {w = w32} (sub-result c) ∙ turned (2147483647 - c .before .args .m) (omega arith)
     ∙ ap negsuc (omega arith) ∙ sym (unshift-low (c .before .args .m) (omega arith))
 
-cast-result-2 : tie.Need-cast-result-2
-cast-result-2 c = search needs
-
 returns-2 : tie.Need-returns-2
 returns-2 c = toZ-pos w32 (omega arith) ∙ sym (unshift-high (c .before .args .m) (omega arith))
 
 pub flag-in-spec : {M : Type 1} → statement M
-flag-in-spec = tie.close (tie.spec sub-below cast-result sub-result returns cast-result-2 returns-2)
+flag-in-spec = tie.close (tie.spec (λ c. search needs) (λ c. search needs) sub-result returns (λ c. search needs) returns-2)

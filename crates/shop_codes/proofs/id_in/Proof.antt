@@ -9,11 +9,8 @@ use Rattle.shop_codes.proofs.id_in.Tie as tie
 returns : tie.Need-returns
 returns c = sym (ap idOf (unshift-low (c .before .args .m) (c .if1 .taken)))
 
-cast-result : tie.Need-cast-result
-cast-result c = omega arith
-
 returns-2 : tie.Need-returns-2
 returns-2 c = sym (ap idOf (unshift-high (c .before .args .m) (c .if1 .left)))
 
 pub id-in-spec : {M : Type 1} → statement M
-id-in-spec = tie.close (tie.spec returns cast-result returns-2)
+id-in-spec = tie.close (tie.spec returns (λ c. omega arith) returns-2)

@@ -8,23 +8,11 @@ use borrow.Author.Needs.{needs}
 use Rattle.shop_codes.proofs.number_of.Statement.{statement}
 use Rattle.shop_codes.proofs.number_of.Tie as tie
 
-subject-of-requires : tie.Need-subject-of-requires
-subject-of-requires c κs = search needs
-
-enum-known-about : tie.Need-enum-known-about
-enum-known-about c = search needs
-
 cast-result : tie.Need-cast-result
 cast-result c = record { sfits = subject-low (c .before .before .before .before .args .code) _ (sym (ap subjectIs (c .before .about .given .1)) ∙ c .before .before .before .subject-of .ensures) }
 
-enum-known-about-2 : tie.Need-enum-known-about-2
-enum-known-about-2 c = search needs
-
 cast-result-2 : tie.Need-cast-result-2
 cast-result-2 c = record { sfits = subject-low (c .before .before .before .before .args .code) _ (sym (ap subjectIs (c .before .about2 .given .1)) ∙ c .before .before .before .subject-of .ensures) }
-
-enum-known-about-3 : tie.Need-enum-known-about-3
-enum-known-about-3 c = search needs
 
 returns : tie.Need-returns
 returns c = toZ-pos w32 (subject-low (c .before .before .before .before .args .code) _ (sym (ap subjectIs (c .before .about .given .1)) ∙ c .before .before .before .subject-of .ensures)) ∙ ap number (sym (ap subjectIs (c .before .about .given .1)) ∙ c .before .before .before .subject-of .ensures) ∙ subject-number (requirementOf (c .before .before .before .before .args .code))
@@ -39,12 +27,12 @@ pub number-of-spec : {M : Type 1} → statement M
 number-of-spec =
     tie.close
     (tie.spec
-    subject-of-requires
-    enum-known-about
+    (λ c κs. search needs)
+    (λ c. search needs)
     cast-result
-    enum-known-about-2
+    (λ c. search needs)
     cast-result-2
-    enum-known-about-3
+    (λ c. search needs)
     returns
     returns-2
     returns-3)

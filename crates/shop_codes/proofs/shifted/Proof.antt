@@ -5,15 +5,6 @@ use Rattle.shop_codes.proofs.Numbers.{shift-low, shift-high}
 use Rattle.shop_codes.proofs.shifted.Statement.{statement}
 use Rattle.shop_codes.proofs.shifted.Tie as tie
 
-to-bits-requires : tie.Need-to-bits-requires
-to-bits-requires c κs = search needs
-
-cast-b : tie.Need-cast-b
-cast-b c = search needs
-
-add-result : tie.Need-add-result
-add-result c = search needs
-
 returns : tie.Need-returns
 returns c = shift-low (c .before .before .args .x) _ (c .before .before .fits .x) (rw (toZ-ofZ (c .before .before .fits .x)) at (c .before .to-bits .ensures)) (c .if1 .taken)
 
@@ -21,4 +12,4 @@ returns-2 : tie.Need-returns-2
 returns-2 c = shift-high (c .before .before .args .x) _ (c .before .before .fits .x) (rw (toZ-ofZ (c .before .before .fits .x)) at (c .before .to-bits .ensures)) (c .if1 .left)
 
 pub shifted-spec : {M : Type 1} → statement M
-shifted-spec = tie.close (tie.spec to-bits-requires cast-b add-result returns returns-2)
+shifted-spec = tie.close (tie.spec (λ c κs. search needs) (λ c. search needs) (λ c. search needs) returns returns-2)

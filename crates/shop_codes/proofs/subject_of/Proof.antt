@@ -6,20 +6,11 @@ use borrow.Author.Needs.{needs}
 use Rattle.shop_codes.proofs.subject_of.Statement.{statement}
 use Rattle.shop_codes.proofs.subject_of.Tie as tie
 
-id-in-requires : tie.Need-id-in-requires
-id-in-requires c κs = search needs
-
 returns : tie.Need-returns
 returns c = subject-item (c .before .before .args .code) (c .id-in .result) (c .id-in .ensures) (c .before .if1 .taken)
 
-id-in-requires-2 : tie.Need-id-in-requires-2
-id-in-requires-2 c κs = search needs
-
 returns-2 : tie.Need-returns-2
 returns-2 c = subject-atc (c .before .before .before .args .code) (c .id-in2 .result) (c .id-in2 .ensures) (c .before .before .if1 .left) (c .before .if2 .taken)
-
-flag-in-requires : tie.Need-flag-in-requires
-flag-in-requires c κs = search needs
 
 returns-3 : tie.Need-returns-3
 returns-3 c = subject-flag (c .before .before .before .before .args .code) _ (toZ-ofZ {w = w32} (record { sfits = c .flag-in .ok }) ∙ c .flag-in .ensures) (c .before .before .if2 .left) (c .before .if3 .taken)
@@ -31,10 +22,10 @@ pub subject-of-spec : {M : Type 1} → statement M
 subject-of-spec =
     tie.close
     (tie.spec
-    id-in-requires
+    (λ c κs. search needs)
     returns
-    id-in-requires-2
+    (λ c κs. search needs)
     returns-2
-    flag-in-requires
+    (λ c κs. search needs)
     returns-3
     returns-4)

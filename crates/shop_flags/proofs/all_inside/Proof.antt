@@ -38,12 +38,6 @@ entry c = entry-is (c .before .before .before .args .len) (c .before .before .be
 loop-holds : tie.Need-loop-holds Inv-loop μ-loop
 loop-holds c = start _ _
 
-entry-at-requires : tie.Need-entry-at-requires Inv-loop μ-loop
-entry-at-requires c κs = search needs
-
-is-inside-requires : tie.Need-is-inside-requires Inv-loop μ-loop
-is-inside-requires c κs = search needs
-
 returns : tie.Need-returns Inv-loop μ-loop
 returns c =
     let s = c .before .before .before .before .before .before in
@@ -51,12 +45,6 @@ returns c =
     stop inside (listed s) (a .i) (a .inv) 0 (there (c .before .before .before))
     (ap inside (entry (c .before .before .before)) ∙ sym (ap inside (c .before .before .entry-at .ensures)) ∙ sym (c .before .is-inside .ensures) ∙ not-true _ (c .if1 .taken))
     ∙ sym (all-map reqInside requirementOf (listed s))
-
-add-i : tie.Need-add-i Inv-loop μ-loop
-add-i c = search needs
-
-loop-less : tie.Need-loop-less Inv-loop μ-loop
-loop-less c = omega arith
 
 loop-again : tie.Need-loop-again Inv-loop μ-loop
 loop-again c =
@@ -78,10 +66,10 @@ all-inside-spec =
     Inv-loop
     μ-loop
     loop-holds
-    entry-at-requires
-    is-inside-requires
+    (λ c κs. search needs)
+    (λ c κs. search needs)
     returns
-    add-i
-    loop-less
+    (λ c. search needs)
+    (λ c. omega arith)
     loop-again
     returns-2)

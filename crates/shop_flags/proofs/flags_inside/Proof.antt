@@ -30,9 +30,6 @@ arrays s = arraysIn (s .args .sold .now) (s .args .limits .now) (s .args .codes 
 loop-holds : tie.Need-loop-holds Inv-loop μ-loop
 loop-holds c = start _ _
 
-slot-inside-requires : tie.Need-slot-inside-requires Inv-loop μ-loop
-slot-inside-requires c κs = search needs
-
 returns : tie.Need-returns Inv-loop μ-loop
 unfolding slotsOf
 returns c =
@@ -41,12 +38,6 @@ returns c =
     let l = c .before .before .loop-test .taken in
     stop inside (shopFrom a .slots) i (c .before .before .before .loop .inv) noSlot (omega (arith, slots-long a, l)) (ap inside (slot-in a i noSlot l) ∙ sym (c .before .slot-inside .ensures) ∙ not-true _ (c .if1 .taken))
     ∙ sym (all-map slotInside slotOf (shopFrom a .slots))
-
-add-i : tie.Need-add-i Inv-loop μ-loop
-add-i c = search needs
-
-loop-less : tie.Need-loop-less Inv-loop μ-loop
-loop-less c = omega arith
 
 loop-again : tie.Need-loop-again Inv-loop μ-loop
 loop-again c =
@@ -68,9 +59,9 @@ flags-inside-spec =
     Inv-loop
     μ-loop
     loop-holds
-    slot-inside-requires
+    (λ c κs. search needs)
     returns
-    add-i
-    loop-less
+    (λ c. search needs)
+    (λ c. omega arith)
     loop-again
     returns-2)

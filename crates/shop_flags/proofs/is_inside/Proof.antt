@@ -24,21 +24,6 @@ inside-subject (missingFlag f) = refl
 inside-by : (c : ℕ) (q x : Requirement) → q ≡ subject (requirementOf c) → q ≡ x → reqInside x ≡ reqInside (requirementOf c)
 inside-by c q x e f = sym (inside-subject (requirementOf c) ∙ ap reqInside (sym e ∙ f))
 
-subject-of-requires : tie.Need-subject-of-requires
-subject-of-requires c κs = search needs
-
-enum-told : tie.Need-enum-told
-enum-told c = search needs
-
-enum-told-2 : tie.Need-enum-told-2
-enum-told-2 c = search needs
-
-enum-known-about : tie.Need-enum-known-about
-enum-known-about c = search needs
-
-is-flag-requires : tie.Need-is-flag-requires
-is-flag-requires c κs = search needs
-
 returns : tie.Need-returns
 returns c = inside-by (c .before .before .before .args .code) _ _ (c .before .before .subject-of .ensures) (ap subjectIs (c .enum-told .given .1))
 
@@ -55,11 +40,11 @@ pub is-inside-spec : {M : Type 1} → statement M
 is-inside-spec =
     tie.close
     (tie.spec
-    subject-of-requires
-    enum-told
-    enum-told-2
-    enum-known-about
-    is-flag-requires
+    (λ c κs. search needs)
+    (λ c. search needs)
+    (λ c. search needs)
+    (λ c. search needs)
+    (λ c κs. search needs)
     returns
     returns-2
     returns-3)

@@ -23,42 +23,6 @@ by-none o rs e = ap (λ (x : SlotItem). insideFor (itemOf x) rs) (sym e)
 by-item : (o : SlotItem) (w : ItemId) (rs : List Requirement) → o ≡ Of w → all reqInside rs ≡ insideFor (itemOf o) rs
 by-item o w rs e = ap (λ (x : SlotItem). insideFor (itemOf x) rs) (sym e)
 
-sizes-requires : tie.Need-sizes-requires
-sizes-requires c κs = search needs
-
-item-at-requires : tie.Need-item-at-requires
-item-at-requires c κs = search needs
-
-enum-told : tie.Need-enum-told
-enum-told c = search needs
-
-enum-told-2 : tie.Need-enum-told-2
-enum-told-2 c = search needs
-
-mul-start : tie.Need-mul-start
-mul-start c = search needs
-
-add-end : tie.Need-add-end
-add-end c = search needs
-
-mul-all-inside : tie.Need-mul-all-inside
-mul-all-inside c = search needs
-
-sub-all-inside : tie.Need-sub-all-inside
-sub-all-inside c = search needs
-
-part-all-inside-start : tie.Need-part-all-inside-start
-part-all-inside-start c = search needs
-
-part-all-inside-end : tie.Need-part-all-inside-end
-part-all-inside-end c = search needs
-
-element-copy-out-all-inside : tie.Need-element-copy-out-all-inside
-element-copy-out-all-inside c = search needs
-
-all-inside-requires : tie.Need-all-inside-requires
-all-inside-requires c κs = search needs
-
 returns : tie.Need-returns
 unfolding slotInside slotOf slotAt
 returns c = by-none _ _ (sym (c .before .before .item-at .ensures) ∙ c .enum-told .given .1)
@@ -74,17 +38,17 @@ pub slot-inside-spec : {M : Type 1} → statement M
 slot-inside-spec =
     tie.close
     (tie.spec
-    sizes-requires
-    item-at-requires
-    enum-told
-    enum-told-2
-    mul-start
-    add-end
-    mul-all-inside
-    sub-all-inside
-    part-all-inside-start
-    part-all-inside-end
-    element-copy-out-all-inside
-    all-inside-requires
+    (λ c κs. search needs)
+    (λ c κs. search needs)
+    (λ c. search needs)
+    (λ c. search needs)
+    (λ c. search needs)
+    (λ c. search needs)
+    (λ c. search needs)
+    (λ c. search needs)
+    (λ c. search needs)
+    (λ c. search needs)
+    (λ c. search needs)
+    (λ c κs. search needs)
     returns
     returns-2)

@@ -16,29 +16,8 @@ Inv-loop from n to₀ m i₀ to i = Put (pos 0) slotCount from to i × (i ≤ m)
 abbrev μ-loop : tie.MeasureT-loop
 μ-loop from n to₀ m i₀ to i = m - i
 
-least-requires : tie.Need-least-requires Inv-loop μ-loop
-least-requires c κs = search needs
-
 loop-holds : tie.Need-loop-holds Inv-loop μ-loop
 loop-holds c = (none-put (pos 0) slotCount _, omega arith)
-
-mul-to : tie.Need-mul-to Inv-loop μ-loop
-mul-to c = search needs
-
-shared-slice-copy-out-to : tie.Need-shared-slice-copy-out-to Inv-loop μ-loop
-shared-slice-copy-out-to c = search needs
-
-mul-t11 : tie.Need-mul-t11 Inv-loop μ-loop
-mul-t11 c = search needs
-
-element-set-from-to : tie.Need-element-set-from-to Inv-loop μ-loop
-element-set-from-to c = search needs
-
-add-i : tie.Need-add-i Inv-loop μ-loop
-add-i c = search needs
-
-loop-less : tie.Need-loop-less Inv-loop μ-loop
-loop-less c = omega arith
 
 loop-again : tie.Need-loop-again Inv-loop μ-loop
 loop-again c = (one-put (c .before .before .loop .inv .0) (pos 0) _ (omega arith) (omega arith) (toZ-ofZ {w = w16} (record { sfits = c .to2 .given })), omega arith)
@@ -52,13 +31,13 @@ put-limits-spec =
     (tie.spec
     Inv-loop
     μ-loop
-    least-requires
+    (λ c κs. search needs)
     loop-holds
-    mul-to
-    shared-slice-copy-out-to
-    mul-t11
-    element-set-from-to
-    add-i
-    loop-less
+    (λ c. search needs)
+    (λ c. search needs)
+    (λ c. search needs)
+    (λ c. search needs)
+    (λ c. search needs)
+    (λ c. omega arith)
     loop-again
     returns)

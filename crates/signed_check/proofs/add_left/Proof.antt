@@ -7,18 +7,6 @@ use borrow.Author.Needs.{needs}
 use Rattle.signed_check.proofs.add_left.Statement.{statement}
 use Rattle.signed_check.proofs.add_left.Tie as tie
 
-is-left-requires : tie.Need-is-left-requires
-is-left-requires c κs = search needs
-
-mul-out : tie.Need-mul-out
-mul-out c = search needs
-
-element-write-out : tie.Need-element-write-out
-element-write-out c = search needs
-
-add-result : tie.Need-add-result
-add-result c = search needs
-
 returns : tie.Need-returns
 returns c = let e = sym (c .before .is-left .ensures) ∙ c .if1 .taken in rw e (refl, refl)
 
@@ -27,4 +15,4 @@ returns-2 c = let e = sym (c .before .is-left .ensures) ∙ c .if1 .left in rw e
 
 pub add-left-spec : {M : Type 1} → statement M
 add-left-spec =
-    tie.close (tie.spec is-left-requires mul-out element-write-out add-result returns returns-2)
+    tie.close (tie.spec (λ c κs. search needs) (λ c. search needs) (λ c. search needs) (λ c. search needs) returns returns-2)

@@ -8,20 +8,8 @@ use borrow.Author.Needs.{needs}
 use Rattle.signed_check.proofs.check_shop.Statement.{statement}
 use Rattle.signed_check.proofs.check_shop.Tie as tie
 
-check-sheet-requires : tie.Need-check-sheet-requires
-check-sheet-requires c κs = search needs
-
-refused-requires : tie.Need-refused-requires
-refused-requires c κs = search needs
-
 returns : tie.Need-returns
 returns c = let s = c .before .before .before .before in c .refused .ensures ∙ refused-sheet (sheetOf (s .args .attached .now) (s .args .sheet)) (arraysIn (s .args .items .now) (s .args .limits .now) (s .args .codes .now) (s .args .lens .now)) (sym (c .before .before .check-sheet .ensures) ∙ not-true _ (c .before .if1 .taken))
-
-check-arrays-requires : tie.Need-check-arrays-requires
-check-arrays-requires c κs = search needs
-
-refused-requires-2 : tie.Need-refused-requires-2
-refused-requires-2 c κs = search needs
 
 returns-2 : tie.Need-returns-2
 returns-2 c = let s = c .before .before .before .before .before .before in c .refused2 .ensures ∙ refused-shop (sheetOf (s .args .attached .now) (s .args .sheet)) (arraysIn (s .args .items .now) (s .args .limits .now) (s .args .codes .now) (s .args .lens .now)) (sym (c .before .before .before .before .check-sheet .ensures) ∙ not-false _ (c .before .before .before .if1 .left)) (sym (c .before .before .check-arrays .ensures (s .args .limits .now)) ∙ not-true _ (c .before .if2 .taken))
@@ -29,18 +17,15 @@ returns-2 c = let s = c .before .before .before .before .before .before in c .re
 told-all-requires : tie.Need-told-all-requires
 told-all-requires c κs = let s = c .before .before .before .before .before in (sym (c .before .before .before .check-sheet .ensures) ∙ not-false _ (c .before .before .if1 .left), sym (c .before .check-arrays .ensures (s .args .limits .now)) ∙ not-false _ (c .if2 .left))
 
-returns-3 : tie.Need-returns-3
-returns-3 c = search needs
-
 pub check-shop-spec : {M : Type 1} → statement M
 check-shop-spec =
     tie.close
     (tie.spec
-    check-sheet-requires
-    refused-requires
+    (λ c κs. search needs)
+    (λ c κs. search needs)
     returns
-    check-arrays-requires
-    refused-requires-2
+    (λ c κs. search needs)
+    (λ c κs. search needs)
     returns-2
     told-all-requires
-    returns-3)
+    (λ c. search needs))

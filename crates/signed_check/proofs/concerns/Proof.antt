@@ -9,17 +9,8 @@ use borrow.Author.Needs.{needs}
 use Rattle.signed_check.proofs.concerns.Statement.{statement}
 use Rattle.signed_check.proofs.concerns.Tie as tie
 
-is-outside-requires : tie.Need-is-outside-requires
-is-outside-requires c κs = search needs
-
 returns : tie.Need-returns
 returns c = let s = c .before .before in c .is-outside .ensures ∙ concerns-outside (s .args .own) (take (s .args .n) (s .args .row .now)) (s .args .c) (s .args .verdict) (c .before .if1 .taken)
-
-negated-requires : tie.Need-negated-requires
-negated-requires c κs = search needs
-
-lacks-requires : tie.Need-lacks-requires
-lacks-requires c κs = search needs
 
 returns-2 : tie.Need-returns-2
 returns-2 c =
@@ -33,4 +24,4 @@ returns-3 c = let s = c .before .before in concerns-own (s .args .own) (take (s 
 pub concerns-spec : {M : Type 1} → statement M
 concerns-spec =
     tie.close
-    (tie.spec is-outside-requires returns negated-requires lacks-requires returns-2 returns-3)
+    (tie.spec (λ c κs. search needs) returns (λ c κs. search needs) (λ c κs. search needs) returns-2 returns-3)

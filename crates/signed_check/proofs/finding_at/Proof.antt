@@ -25,26 +25,17 @@ sheet s = sheetOf (s .args .attached .now) (s .args .sheet)
 abbrev slot : tie.Start → Slot
 slot s = slotAt (arraysIn (s .args .items .now) (s .args .limits .now) (s .args .codes .now) (s .args .lens .now)) (s .args .i)
 
-slot-at-requires : tie.Need-slot-at-requires
-slot-at-requires c κs = search needs
-
 sort-row-requires : tie.Need-sort-row-requires
 unfolding slotAt
 sort-row-requires c κs =
     let s = c .before .before .before in
     (s .pre .0, slot-few (sheet s) (s .pre .1) (slot s) (s .pre .2), refl)
 
-enum-told : tie.Need-enum-told
-enum-told c = search needs
-
 without-item-requires : tie.Need-without-item-requires
 without-item-requires c κs =
     let s = c .before .before .before .before .before .before in
     let e = c .before .before .sort-row .ensures (s .args .items .now) (s .args .limits .now) (slot-exact (sheet s) (s .pre .1) (slot s) (s .pre .2)) in
     (c .enum-told .given .1, set-long (slot s) _ _ e ∙ ap (λ (x : Slot). length (sorted (slotOf x .requirements))) (sym (c .before .before .before .before .slot-at .ensures)))
-
-enum-known-item : tie.Need-enum-known-item
-enum-known-item c = search needs
 
 with-item-requires : tie.Need-with-item-requires
 with-item-requires c κs =
@@ -62,11 +53,11 @@ pub finding-at-spec : {M : Type 1} → statement M
 finding-at-spec =
     tie.close
     (tie.spec
-    slot-at-requires
+    (λ c κs. search needs)
     sort-row-requires
-    enum-told
+    (λ c. search needs)
     without-item-requires
-    enum-known-item
+    (λ c. search needs)
     with-item-requires
     returns
     returns-2)

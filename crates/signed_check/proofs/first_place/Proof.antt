@@ -22,23 +22,8 @@ abbrev μ-loop : tie.MeasureT-loop
 size : (c : tie.After-capacity Inv-loop μ-loop) → length (take (c .before .args .n) (c .before .args .row .now)) ≡ c .before .args .n
 size c = length-take-le (c .before .args .n) (c .before .args .row .now) (omega (arith, c .capacity .ensures .0, c .before .pre))
 
-capacity-requires : tie.Need-capacity-requires Inv-loop μ-loop
-capacity-requires c κs = search needs
-
 loop-holds : tie.Need-loop-holds Inv-loop μ-loop
 loop-holds c = passed-start _ _
-
-cast-at : tie.Need-cast-at Inv-loop μ-loop
-cast-at c = search needs
-
-mul-concerns : tie.Need-mul-concerns Inv-loop μ-loop
-mul-concerns c = search needs
-
-element-copy-out-concerns : tie.Need-element-copy-out-concerns Inv-loop μ-loop
-element-copy-out-concerns c = search needs
-
-concerns-requires : tie.Need-concerns-requires Inv-loop μ-loop
-concerns-requires c κs = search needs
 
 returns : tie.Need-returns Inv-loop μ-loop
 unfolding placeCode
@@ -49,12 +34,6 @@ returns c =
     let p : ℕ → Bool = concernsCode (s .args .verdict) (s .args .own) cs in
     let e = getD-take (s .args .n) (s .args .row .now) (l .i) 0 (c .before .before .before .loop-test .taken) in
     passed-found p cs (s .args .n) (l .i) (l .inv) (omega (arith, size (c .before .before .before .before .before), c .before .before .before .loop-test .taken)) (ap p e ∙ sym (c .before .concerns .ensures) ∙ c .if1 .taken)
-
-add-i : tie.Need-add-i Inv-loop μ-loop
-add-i c = search needs
-
-loop-less : tie.Need-loop-less Inv-loop μ-loop
-loop-less c = omega arith
 
 loop-again : tie.Need-loop-again Inv-loop μ-loop
 loop-again c =
@@ -78,14 +57,14 @@ first-place-spec =
     (tie.spec
     Inv-loop
     μ-loop
-    capacity-requires
+    (λ c κs. search needs)
     loop-holds
-    cast-at
-    mul-concerns
-    element-copy-out-concerns
-    concerns-requires
+    (λ c. search needs)
+    (λ c. search needs)
+    (λ c. search needs)
+    (λ c κs. search needs)
     returns
-    add-i
-    loop-less
+    (λ c. search needs)
+    (λ c. omega arith)
     loop-again
     returns-2)

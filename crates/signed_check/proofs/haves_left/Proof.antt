@@ -21,26 +21,11 @@ abbrev μ-loop : tie.MeasureT-loop
 size : (c : tie.After-capacity Inv-loop μ-loop) → length (take (c .before .args .n) (c .before .args .row .now)) ≡ c .before .args .n
 size c = length-take-le (c .before .args .n) (c .before .args .row .now) (omega (arith, c .capacity .ensures .0, c .before .pre .0))
 
-capacity-requires : tie.Need-capacity-requires Inv-loop μ-loop
-capacity-requires c κs = search needs
-
 loop-holds : tie.Need-loop-holds Inv-loop μ-loop
 loop-holds c = let s = c .before in picked-none (leftCode (s .args .one) (s .args .own) (take (s .args .n) (s .args .row .now))) (take (s .args .n) (s .args .row .now)) _ (s .pre .1)
 
-mul-add-left : tie.Need-mul-add-left Inv-loop μ-loop
-mul-add-left c = search needs
-
-element-copy-out-add-left : tie.Need-element-copy-out-add-left Inv-loop μ-loop
-element-copy-out-add-left c = search needs
-
 add-left-requires : tie.Need-add-left-requires Inv-loop μ-loop
 add-left-requires c κs = let s = c .before .before .before .before .before in (s .pre .0, omega (arith, s .pre .0, c .before .before .before .loop .inv .few, c .before .before .loop-test .taken))
-
-add-i : tie.Need-add-i Inv-loop μ-loop
-add-i c = search needs
-
-loop-less : tie.Need-loop-less Inv-loop μ-loop
-loop-less c = omega arith
 
 loop-again : tie.Need-loop-again Inv-loop μ-loop
 loop-again c =
@@ -61,13 +46,13 @@ haves-left-spec =
     (tie.spec
     Inv-loop
     μ-loop
-    capacity-requires
+    (λ c κs. search needs)
     loop-holds
-    mul-add-left
-    element-copy-out-add-left
+    (λ c. search needs)
+    (λ c. search needs)
     add-left-requires
-    add-i
-    loop-less
+    (λ c. search needs)
+    (λ c. omega arith)
     loop-again
     cast-result
     returns)

@@ -9,23 +9,11 @@ use borrow.Author.Needs.{needs}
 use Rattle.signed_check.proofs.is_left.Statement.{statement}
 use Rattle.signed_check.proofs.is_left.Tie as tie
 
-is-missing-requires : tie.Need-is-missing-requires
-is-missing-requires c κs = search needs
-
 returns : tie.Need-returns
 returns c = let s = c .before .before in left-missing (s .args .one) (s .args .own) (s .args .c) (take (s .args .n) (s .args .row .now)) (sym (c .before .is-missing .ensures) ∙ c .if1 .taken)
 
-is-acquired-requires : tie.Need-is-acquired-requires
-is-acquired-requires c κs = search needs
-
 returns-2 : tie.Need-returns-2
 returns-2 c = let s = c .before .before .before .before in left-own (s .args .one) (s .args .own) (s .args .c) (take (s .args .n) (s .args .row .now)) (sym (c .before .before .before .is-missing .ensures) ∙ c .before .before .if1 .left) (sym (c .before .is-acquired .ensures) ∙ c .if2 .taken)
-
-negated-requires : tie.Need-negated-requires
-negated-requires c κs = search needs
-
-lacks-requires : tie.Need-lacks-requires
-lacks-requires c κs = search needs
 
 returns-3 : tie.Need-returns-3
 returns-3 c =
@@ -37,4 +25,4 @@ returns-3 c =
 pub is-left-spec : {M : Type 1} → statement M
 is-left-spec =
     tie.close
-    (tie.spec is-missing-requires returns is-acquired-requires returns-2 negated-requires lacks-requires returns-3)
+    (tie.spec (λ c κs. search needs) returns (λ c κs. search needs) returns-2 (λ c κs. search needs) (λ c κs. search needs) returns-3)

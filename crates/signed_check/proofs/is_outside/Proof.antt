@@ -13,14 +13,8 @@ use Rattle.signed_check.proofs.is_outside.Tie as tie
 returns : tie.Need-returns
 returns c = code-low (c .before .args .code) (c .if1 .taken)
 
-number-of-requires : tie.Need-number-of-requires
-number-of-requires c κs = search needs
-
-is-flag-requires : tie.Need-is-flag-requires
-is-flag-requires c κs = search needs
-
 returns-2 : tie.Need-returns-2
 returns-2 c = ap not ((rw (toZ-ofZ {w = w32} {z = c .before .number-of .result} (record { sfits = c .before .number-of .ok })) at (c .is-flag .ensures)) ∙ ap flagInside (c .before .number-of .ensures)) ∙ code-high (c .before .before .before .args .code) (omega (arith, c .before .before .if1 .left))
 
 pub is-outside-spec : {M : Type 1} → statement M
-is-outside-spec = tie.close (tie.spec returns number-of-requires is-flag-requires returns-2)
+is-outside-spec = tie.close (tie.spec returns (λ c κs. search needs) (λ c κs. search needs) returns-2)

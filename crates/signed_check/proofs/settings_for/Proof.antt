@@ -27,9 +27,6 @@ returns-2 c =
     let e : [] ≡ shownCode (s .args .verdict) (left s) = rw (ne-eqb (s .args .verdict) 0 (c .before .if1 .left), eq-eqb (s .args .verdict) 3 (c .if2 .taken)) in
     ap (λ (l : List ℕ). reqsIn l 0) (s .pre .1) ∙ ap reqsOf e
 
-haves-left-requires : tie.Need-haves-left-requires
-haves-left-requires c κs = search needs
-
 returns-3 : tie.Need-returns-3
 returns-3 c =
     let s = c .before .before .before .before in
@@ -37,4 +34,4 @@ returns-3 c =
     c .haves-left .ensures ∙ ap reqsOf e
 
 pub settings-for-spec : {M : Type 1} → statement M
-settings-for-spec = tie.close (tie.spec returns returns-2 haves-left-requires returns-3)
+settings-for-spec = tie.close (tie.spec returns returns-2 (λ c κs. search needs) returns-3)

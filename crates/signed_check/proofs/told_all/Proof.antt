@@ -26,26 +26,11 @@ sheet s = sheetOf (s .args .attached .now) (s .args .sheet)
 abbrev shop : tie.Start Inv-loop μ-loop → Arrays
 shop s = arraysIn (s .args .items .now) (s .args .limits .now) (s .args .codes .now) (s .args .lens .now)
 
-refused-requires : tie.Need-refused-requires Inv-loop μ-loop
-refused-requires c κs = search needs
-
 loop-holds : tie.Need-loop-holds Inv-loop μ-loop
 loop-holds c = filled-none _ _ (c .refused .ensures)
 
 finding-at-requires : tie.Need-finding-at-requires Inv-loop μ-loop
 finding-at-requires c κs = let s = c .before .before .before .before in (c .loop-test .taken, s .pre .0, slot-passed (sheet s) (shop s) (s .pre .1) (c .before .loop .i) (c .loop-test .taken))
-
-mul-f : tie.Need-mul-f Inv-loop μ-loop
-mul-f c = search needs
-
-element-set-from-f : tie.Need-element-set-from-f Inv-loop μ-loop
-element-set-from-f c = search needs
-
-add-i : tie.Need-add-i Inv-loop μ-loop
-add-i c = search needs
-
-loop-less : tie.Need-loop-less Inv-loop μ-loop
-loop-less c = omega arith
 
 loop-again : tie.Need-loop-again Inv-loop μ-loop
 loop-again c = let s = c .before .before .before .before .before in filled-more (toldAt (sheet s) (shop s)) (c .before .before .loop .out) (c .before .before .loop .i) (c .before .before .loop .inv) (c .before .loop-test .taken) _ (c .finding-at .ensures)
@@ -62,12 +47,12 @@ told-all-spec =
     (tie.spec
     Inv-loop
     μ-loop
-    refused-requires
+    (λ c κs. search needs)
     loop-holds
     finding-at-requires
-    mul-f
-    element-set-from-f
-    add-i
-    loop-less
+    (λ c. search needs)
+    (λ c. search needs)
+    (λ c. search needs)
+    (λ c. omega arith)
     loop-again
     returns)

@@ -14,23 +14,11 @@ use Rattle.signed_check.proofs.verdict_of.Tie as tie
 size : (c : tie.After-capacity) → length (take (c .before .args .n) (c .before .args .row .now)) ≡ c .before .args .n
 size c = length-take-le (c .before .args .n) (c .before .args .row .now) (omega (arith, c .capacity .ensures .0, c .before .pre))
 
-capacity-requires : tie.Need-capacity-requires
-capacity-requires c κs = search needs
-
-first-place-requires : tie.Need-first-place-requires
-first-place-requires c κs = search needs
-
 returns : tie.Need-returns
 returns c = let s = c .before .before .before in ap verdictOf (verdict-outside (s .args .one) (s .args .own) (take (s .args .n) (s .args .row .now)) (s .args .n) (size (c .before .before)) _ (c .before .first-place .ensures) (c .if1 .taken))
 
-first-place-requires-2 : tie.Need-first-place-requires-2
-first-place-requires-2 c κs = search needs
-
 returns-2 : tie.Need-returns-2
 returns-2 c = let s = c .before .before .before .before .before in ap verdictOf (verdict-pair (s .args .one) (s .args .own) (take (s .args .n) (s .args .row .now)) (s .args .n) (size (c .before .before .before .before)) _ (c .before .before .before .first-place .ensures) (c .before .before .if1 .left) _ (c .before .first-place2 .ensures) (c .if2 .taken))
-
-first-place-requires-3 : tie.Need-first-place-requires-3
-first-place-requires-3 c κs = search needs
 
 returns-3 : tie.Need-returns-3
 returns-3 c =
@@ -49,12 +37,12 @@ pub verdict-of-spec : {M : Type 1} → statement M
 verdict-of-spec =
     tie.close
     (tie.spec
-    capacity-requires
-    first-place-requires
+    (λ c κs. search needs)
+    (λ c κs. search needs)
     returns
-    first-place-requires-2
+    (λ c κs. search needs)
     returns-2
-    first-place-requires-3
+    (λ c κs. search needs)
     returns-3
     returns-4
     returns-5)

@@ -25,26 +25,14 @@ long s = search needs
 few : (s : tie.Start) → s .args .n ≤ s .args .slot .len
 few s = sorted-few (s .args .slot) (s .args .n) (set-long (s .args .slot) (s .args .row .now) (s .args .n) (s .pre .3))
 
-limit-of-requires : tie.Need-limit-of-requires
-limit-of-requires c κs = search needs
-
-own-code-requires : tie.Need-own-code-requires
-own-code-requires c κs = search needs
-
 verdict-of-requires : tie.Need-verdict-of-requires
 verdict-of-requires c κs = let s = c .before .before .before .before .before .before in slot-few (sheet s) (s .pre .0) (s .args .slot) (s .pre .1)
 
 settings-for-requires : tie.Need-settings-for-requires
 settings-for-requires c κs = let s = c .before .before .before .before .before .before .before .before in (omega (arith, few s, slot-few (sheet s) (s .pre .0) (s .args .slot) (s .pre .1)), refl)
 
-count-settings-requires : tie.Need-count-settings-requires
-count-settings-requires c κs = search needs
-
 sub-t17 : tie.Need-sub-t17
 sub-t17 c = let s = c .before .before .before .before .before .before .before .before .before .before .before in omega (arith, few s)
-
-listed-as-requires : tie.Need-listed-as-requires
-listed-as-requires c κs = search needs
 
 returns : tie.Need-returns
 returns c =
@@ -57,11 +45,11 @@ pub with-item-spec : {M : Type 1} → statement M
 with-item-spec =
     tie.close
     (tie.spec
-    limit-of-requires
-    own-code-requires
+    (λ c κs. search needs)
+    (λ c κs. search needs)
     verdict-of-requires
     settings-for-requires
-    count-settings-requires
+    (λ c κs. search needs)
     sub-t17
-    listed-as-requires
+    (λ c κs. search needs)
     returns)

@@ -18,17 +18,8 @@ abbrev μ-loop : tie.MeasureT-loop
 loop-holds : tie.Need-loop-holds Inv-loop μ-loop
 loop-holds c = (omega arith, go-start (entries-pieces (c .before .before .args .attached .now)) (length (c .before .before .args .attached .now)) 0 (c .before .before .pre))
 
-shared-slice-read-short : tie.Need-shared-slice-read-short Inv-loop μ-loop
-shared-slice-read-short c = search needs
-
-short-requires : tie.Need-short-requires Inv-loop μ-loop
-short-requires c κs = search needs
-
 write-short-requires : tie.Need-write-short-requires Inv-loop μ-loop
 write-short-requires c κs = rw (c .short .ensures) (go-room (entries-pieces (c .before .before .before .before .before .before .before .args .attached .now)) (length (c .before .before .before .before .before .before .before .args .attached .now)) 0 (c .before .before .before .before .loop .inv .1) (c .before .before .before .loop-test .taken) (omega arith))
-
-add-i : tie.Need-add-i Inv-loop μ-loop
-add-i c = search needs
 
 loop-less : tie.Need-loop-less Inv-loop μ-loop
 loop-less c = omega (arith, c .before .before .before .before .before .before .loop-test .taken)
@@ -43,4 +34,4 @@ returns : tie.Need-returns Inv-loop μ-loop
 returns c = go-end (entries-pieces (c .before .before .before .before .args .attached .now)) (length (c .before .before .before .before .args .attached .now)) 0 (c .before .loop .inv .1) (c .loop-test .left)
 
 pub write-atcs-spec : {M : Type 1} → statement M
-write-atcs-spec = tie.close (tie.spec Inv-loop μ-loop loop-holds shared-slice-read-short short-requires write-short-requires add-i loop-less loop-again same-length returns)
+write-atcs-spec = tie.close (tie.spec Inv-loop μ-loop loop-holds (λ c. search needs) (λ c κs. search needs) write-short-requires (λ c. search needs) loop-less loop-again same-length returns)

@@ -17,11 +17,8 @@ write-short-requires-2 c κs = room-first (entriesBytes (c .before .before .befo
 write-atcs-requires : tie.Need-write-atcs-requires
 write-atcs-requires c κs = room-next (c .before .before .before .write-short2 .ensures) (room-next (c .before .before .before .before .before .before .before .write-short .ensures) (c .before .before .before .before .before .before .before .before .before .before .before .pre))
 
-same-length : tie.Need-same-length
-same-length c = search needs
-
 returns : tie.Need-returns
 returns c = stored-on (c .before .before .before .before .before .before .before .before .before .before .write-short .ensures) (stored-on (c .before .before .before .before .before .before .write-short2 .ensures) (c .before .before .write-atcs .ensures))
 
 pub write-items-spec : {M : Type 1} → statement M
-write-items-spec = tie.close (tie.spec write-short-requires write-short-requires-2 write-atcs-requires same-length returns)
+write-items-spec = tie.close (tie.spec write-short-requires write-short-requires-2 write-atcs-requires (λ c. search needs) returns)

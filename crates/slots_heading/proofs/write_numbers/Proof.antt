@@ -11,11 +11,8 @@ write-items-requires c κs = room-first (timersBytes (c .before .before .before 
 write-timers-requires : tie.Need-write-timers-requires
 write-timers-requires c κs = room-next (c .before .before .before .write-items .ensures) (room-as (halves (c .before .before .before .before .before .before .before .args .attached .now) (c .before .before .before .before .before .before .before .args .sheet) (c .before .before .before .before .before .before .before .args .setup) (c .before .before .before .before .before .before .before .args .n) (c .before .before .before .before .before .before .before .pre .0)) (c .before .before .before .before .before .before .before .pre .1))
 
-same-length : tie.Need-same-length
-same-length c = search needs
-
 returns : tie.Need-returns
 returns c = stored-as (halves (c .before .before .before .before .before .before .before .before .before .before .args .attached .now) (c .before .before .before .before .before .before .before .before .before .before .args .sheet) (c .before .before .before .before .before .before .before .before .before .before .args .setup) (c .before .before .before .before .before .before .before .before .before .before .args .n) (c .before .before .before .before .before .before .before .before .before .before .pre .0)) (stored-on (c .before .before .before .before .before .before .write-items .ensures) (c .before .before .write-timers .ensures))
 
 pub write-numbers-spec : {M : Type 1} → statement M
-write-numbers-spec = tie.close (tie.spec write-items-requires write-timers-requires same-length returns)
+write-numbers-spec = tie.close (tie.spec write-items-requires write-timers-requires (λ c. search needs) returns)

@@ -18,11 +18,8 @@ write-short-requires-3 c κs = room-first (word (c .before .before .before .befo
 write-wide-requires : tie.Need-write-wide-requires
 write-wide-requires c κs = room-next (c .before .before .before .write-short3 .ensures) (room-next (c .before .before .before .before .before .before .before .write-short2 .ensures) (room-next (c .before .before .before .before .before .before .before .before .before .before .before .write-short .ensures) (c .before .before .before .before .before .before .before .before .before .before .before .before .before .before .pre)))
 
-same-length : tie.Need-same-length
-same-length c = search needs
-
 returns : tie.Need-returns
 returns c = stored-on (c .before .before .before .before .before .before .before .before .before .before .before .before .before .before .write-short .ensures) (stored-on (c .before .before .before .before .before .before .before .before .before .before .write-short2 .ensures) (stored-on (c .before .before .before .before .before .before .write-short3 .ensures) (c .before .before .write-wide .ensures)))
 
 pub write-timers-spec : {M : Type 1} → statement M
-write-timers-spec = tie.close (tie.spec write-short-requires write-short-requires-2 write-short-requires-3 write-wide-requires same-length returns)
+write-timers-spec = tie.close (tie.spec write-short-requires write-short-requires-2 write-short-requires-3 write-wide-requires (λ c. search needs) returns)

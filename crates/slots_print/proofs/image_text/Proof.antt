@@ -5,24 +5,6 @@ use borrow.Author.Needs.{needs}
 use Rattle.slots_print.proofs.image_text.Statement.{statement}
 use Rattle.slots_print.proofs.image_text.Tie as tie
 
-known-arrays-requires : tie.Need-known-arrays-requires
-known-arrays-requires c κs = search needs
-
-read-script-requires : tie.Need-read-script-requires
-read-script-requires c κs = search needs
-
-enum-known-k : tie.Need-enum-known-k
-enum-known-k c = search needs
-
-parsed-text-requires : tie.Need-parsed-text-requires
-parsed-text-requires c κs = search needs
-
-enum-known-k-2 : tie.Need-enum-known-k-2
-enum-known-k-2 c = search needs
-
-put-refused-requires : tie.Need-put-refused-requires
-put-refused-requires c κs = search needs
-
 returns : tie.Need-returns
 returns c =
     let k = c .before .before .before .before .before .before .before in
@@ -47,11 +29,11 @@ pub image-text-spec : {M : Type 1} → statement M
 image-text-spec =
     tie.close
     (tie.spec
-    known-arrays-requires
-    read-script-requires
-    enum-known-k
-    parsed-text-requires
-    enum-known-k-2
-    put-refused-requires
+    (λ c κs. search needs)
+    (λ c κs. search needs)
+    (λ c. search needs)
+    (λ c κs. search needs)
+    (λ c. search needs)
+    (λ c κs. search needs)
     returns
     returns-2)

@@ -8,17 +8,8 @@ use borrow.Author.Needs.{needs}
 use Rattle.slots_print.proofs.input_text.Statement.{statement}
 use Rattle.slots_print.proofs.input_text.Tie as tie
 
-put-refused-requires : tie.Need-put-refused-requires
-put-refused-requires c κs = search needs
-
 returns : tie.Need-returns
 returns c = printed-as (sym (slots-long (c .before .before .before .before .args .input .now) (omega arith))) (printed-refused 3 (c .put-refused .ensures))
-
-read-heading-requires : tie.Need-read-heading-requires
-read-heading-requires c κs = search needs
-
-put-refused-requires-2 : tie.Need-put-refused-requires-2
-put-refused-requires-2 c κs = search needs
 
 returns-2 : tie.Need-returns-2
 returns-2 c =
@@ -38,17 +29,14 @@ script-text-requires c κs =
       read = was-read (s .args .input .now) (s .args .attached .now) (a .read-heading .result) _ (a .read-heading .ensures .0) (c .before .before .if2 .left);
     }
 
-returns-3 : tie.Need-returns-3
-returns-3 c = search needs
-
 pub input-text-spec : {M : Type 1} → statement M
 input-text-spec =
     tie.close
     (tie.spec
-    put-refused-requires
+    (λ c κs. search needs)
     returns
-    read-heading-requires
-    put-refused-requires-2
+    (λ c κs. search needs)
+    (λ c κs. search needs)
     returns-2
     script-text-requires
-    returns-3)
+    (λ c. search needs))

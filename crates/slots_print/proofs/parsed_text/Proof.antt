@@ -24,17 +24,8 @@ parsed s =
 size : (c : tie.After-parse) → length (c .parse .result .shop .slots) ≡ 20
 size c = search (length-mapped, needs)
 
-cast-n : tie.Need-cast-n
-cast-n c = search needs
-
 slice-aggregate-parse : tie.Need-slice-aggregate-parse
 slice-aggregate-parse c = let s = c .before .before .before .before in sym (length-take-le (s .args .h .items) (s .args .attached .now) (s .pre))
-
-parse-requires : tie.Need-parse-requires
-parse-requires c κs = search needs
-
-put-refused-requires : tie.Need-put-refused-requires
-put-refused-requires c κs = search needs
 
 returns : tie.Need-returns
 returns c = let a = c .before .before .before .before in printed-as (text-refused {p = parsed (a .before .before .before .before .before)} (a .parse .ensures) (c .before .before .if1 .taken)) (printed-refused _ (c .put-refused .ensures))
@@ -51,10 +42,10 @@ pub parsed-text-spec : {M : Type 1} → statement M
 parsed-text-spec =
     tie.close
     (tie.spec
-    cast-n
+    (λ c. search needs)
     slice-aggregate-parse
-    parse-requires
-    put-refused-requires
+    (λ c κs. search needs)
+    (λ c κs. search needs)
     returns
     put-slots-requires
     returns-2)

@@ -7,29 +7,11 @@ use borrow.Author.Needs.{needs}
 use Rattle.slots_sheet.proofs.read_all.Statement.{statement}
 use Rattle.slots_sheet.proofs.read_all.Tie as tie
 
-read-items-requires : tie.Need-read-items-requires
-read-items-requires c κs = search needs
-
-no-heading-requires : tie.Need-no-heading-requires
-no-heading-requires c κs = search needs
-
 returns : tie.Need-returns
 returns c = told-no _ _ _ (c .before .if1 .taken) (head-no _ (c .before .before .before .before .before .before .args .attached .now) _ (rejected (c .before .if1 .taken) (c .before .before .before .read-items .ensures))) _ (c .no-heading .ensures) _
 
-read-timers-requires : tie.Need-read-timers-requires
-read-timers-requires c κs = search needs
-
-no-heading-requires-2 : tie.Need-no-heading-requires-2
-no-heading-requires-2 c κs = search needs
-
 returns-2 : tie.Need-returns-2
 returns-2 c = told-no _ _ _ (c .before .if2 .taken) (timers-no _ _ _ _ (accepted (c .before .before .before .before .if1 .left) (c .before .before .before .before .before .before .read-items .ensures)) _ (rejected (c .before .if2 .taken) (c .before .before .before .read-timers .ensures))) _ (c .no-heading2 .ensures) _
-
-read-setup-requires : tie.Need-read-setup-requires
-read-setup-requires c κs = search needs
-
-no-heading-requires-3 : tie.Need-no-heading-requires-3
-no-heading-requires-3 c κs = search needs
 
 returns-3 : tie.Need-returns-3
 returns-3 c =
@@ -47,13 +29,13 @@ pub read-all-spec : {M : Type 1} → statement M
 read-all-spec =
     tie.close
     (tie.spec
-    read-items-requires
-    no-heading-requires
+    (λ c κs. search needs)
+    (λ c κs. search needs)
     returns
-    read-timers-requires
-    no-heading-requires-2
+    (λ c κs. search needs)
+    (λ c κs. search needs)
     returns-2
-    read-setup-requires
-    no-heading-requires-3
+    (λ c κs. search needs)
+    (λ c κs. search needs)
     returns-3
     returns-4)

@@ -14,32 +14,14 @@ Inv-loop s at attached₀ n m p₀ i₀ attached p i = (i ≤ n) × AtcsPart s a
 abbrev μ-loop : tie.MeasureT-loop
 μ-loop s at attached₀ n m p₀ i₀ attached p i = n - i
 
-known-attached-requires : tie.Need-known-attached-requires Inv-loop μ-loop
-known-attached-requires c κs = search needs
-
 loop-holds : tie.Need-loop-holds Inv-loop μ-loop
 loop-holds c = (omega arith, atcs-start _ _ _ _ _ (c .before .before .before .pre .2) (c .known-attached .ensures))
-
-read-within-requires : tie.Need-read-within-requires Inv-loop μ-loop
-read-within-requires c κs = search needs
-
-no-entry-requires : tie.Need-no-entry-requires Inv-loop μ-loop
-no-entry-requires c κs = search needs
 
 returns : tie.Need-returns Inv-loop μ-loop
 returns c = rw (c .no-entry .ensures) (left (c .before .if1 .taken) (atcs-no _ _ _ _ _ _ _ _ (c .before .before .before .before .before .loop .inv .1) (c .before .before .before .before .loop-test .taken) _ (rejected (c .before .if1 .taken) (c .before .before .before .read-within .ensures))))
 
 cast-attached : tie.Need-cast-attached Inv-loop μ-loop
 cast-attached c = omega (arith, c .before .before .before .before .before .before .before .before .before .pre .1, within-most 0 (c .before .before .before .before .before .before .before .before .before .args .m) (c .before .before .before .read-within .result .value) (accepted (c .before .if1 .left) (c .before .before .before .read-within .ensures) .good))
-
-element-write-attached : tie.Need-element-write-attached Inv-loop μ-loop
-element-write-attached c = search needs
-
-add-i : tie.Need-add-i Inv-loop μ-loop
-add-i c = search needs
-
-loop-less : tie.Need-loop-less Inv-loop μ-loop
-loop-less c = omega arith
 
 loop-again : tie.Need-loop-again Inv-loop μ-loop
 loop-again c = (omega (arith, c .before .before .before .before .loop-test .taken), atcs-next _ _ _ _ _ _ _ _ (c .before .before .before .before .before .loop .inv .1) (c .before .before .before .before .loop-test .taken) (c .before .before .before .before .before .before .before .before .before .pre .0) _ _ (accepted (c .before .if1 .left) (c .before .before .before .read-within .ensures)))
@@ -53,14 +35,14 @@ read-atcs-spec =
     (tie.spec
     Inv-loop
     μ-loop
-    known-attached-requires
+    (λ c κs. search needs)
     loop-holds
-    read-within-requires
-    no-entry-requires
+    (λ c κs. search needs)
+    (λ c κs. search needs)
     returns
     cast-attached
-    element-write-attached
-    add-i
-    loop-less
+    (λ c. search needs)
+    (λ c. search needs)
+    (λ c. omega arith)
     loop-again
     returns-2)

@@ -4,9 +4,6 @@ use borrow.Author.Needs.{needs}
 use Rattle.slots_sheet.proofs.read_heading.Statement.{statement}
 use Rattle.slots_sheet.proofs.read_heading.Tie as tie
 
-read-all-requires : tie.Need-read-all-requires
-read-all-requires c κs = search needs
-
 returns : tie.Need-returns
 returns c = (outcome-nothing _ _ _ _ (c .before .before .before .read-all .ensures) (c .before .if1 .taken), nothing-within _ _ _ _ (c .before .before .before .read-all .ensures) (c .before .if1 .taken) _)
 
@@ -14,4 +11,4 @@ returns-2 : tie.Need-returns-2
 returns-2 c = (outcome-held _ _ _ _ (c .before .before .read-all .ensures) (c .if1 .left), held-within _ _ _ _ (c .before .before .read-all .ensures) (c .if1 .left))
 
 pub read-heading-spec : {M : Type 1} → statement M
-read-heading-spec = tie.close (tie.spec read-all-requires returns returns-2)
+read-heading-spec = tie.close (tie.spec (λ c κs. search needs) returns returns-2)

@@ -8,20 +8,8 @@ use borrow.Author.Needs.{needs}
 use Rattle.slots_sheet.proofs.read_items.Statement.{statement}
 use Rattle.slots_sheet.proofs.read_items.Tie as tie
 
-read-within-requires : tie.Need-read-within-requires
-read-within-requires c κs = search needs
-
-no-items-requires : tie.Need-no-items-requires
-no-items-requires c κs = search needs
-
 returns : tie.Need-returns
 returns c = rw (c .no-items .ensures) (left (c .before .if1 .taken) (items-no _ _ (rejected (c .before .if1 .taken) (c .before .before .before .read-within .ensures))))
-
-read-within-requires-2 : tie.Need-read-within-requires-2
-read-within-requires-2 c κs = search needs
-
-no-items-requires-2 : tie.Need-no-items-requires-2
-no-items-requires-2 c κs = search needs
 
 returns-2 : tie.Need-returns-2
 returns-2 c = rw (c .no-items2 .ensures) (left (c .before .if2 .taken) (atcs-count-no _ _ _ (accepted (c .before .before .before .before .if1 .left) (c .before .before .before .before .before .before .read-within .ensures)) _ (rejected (c .before .if2 .taken) (c .before .before .before .read-within2 .ensures))))
@@ -31,9 +19,6 @@ read-atcs-requires c κs =
     let x = accepted (c .before .before .before .before .if1 .left) (c .before .before .before .before .before .before .read-within .ensures) in
     let y = accepted (c .before .if2 .left) (c .before .before .before .read-within2 .ensures) in
     (within-most fewestItems mostItems (c .before .before .before .before .before .before .read-within .result .value) (x .good), within-most 0 mostAtcs (c .before .before .before .read-within2 .result .value) (y .good), y .place)
-
-no-items-requires-3 : tie.Need-no-items-requires-3
-no-items-requires-3 c κs = search needs
 
 returns-3 : tie.Need-returns-3
 returns-3 c =
@@ -51,13 +36,13 @@ pub read-items-spec : {M : Type 1} → statement M
 read-items-spec =
     tie.close
     (tie.spec
-    read-within-requires
-    no-items-requires
+    (λ c κs. search needs)
+    (λ c κs. search needs)
     returns
-    read-within-requires-2
-    no-items-requires-2
+    (λ c κs. search needs)
+    (λ c κs. search needs)
     returns-2
     read-atcs-requires
-    no-items-requires-3
+    (λ c κs. search needs)
     returns-3
     returns-4)

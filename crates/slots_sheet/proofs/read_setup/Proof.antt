@@ -4,17 +4,8 @@ use borrow.Author.Needs.{needs}
 use Rattle.slots_sheet.proofs.read_setup.Statement.{statement}
 use Rattle.slots_sheet.proofs.read_setup.Tie as tie
 
-read-number-requires : tie.Need-read-number-requires
-read-number-requires c κs = search needs
-
-enum-known-k : tie.Need-enum-known-k
-enum-known-k c = search needs
-
 cast-t7 : tie.Need-cast-t7
 cast-t7 c = record { fits = setup-low (c .before .before .before .before .before .args .s .now) (c .before .before .before .before .before .args .at) _ (c .before .before .before .read-number .ensures) _ _ (c .before .k .given .1) }
-
-enum-told : tie.Need-enum-told
-enum-told c = search needs
 
 returns : tie.Need-returns
 returns c = setup-got _ _ _ (c .before .before .before .read-number .ensures) _ _ (c .before .k .given .1)
@@ -24,4 +15,4 @@ returns-2 c = setup-bad _ _ _ (c .before .before .read-number .ensures) (c .enum
 
 pub read-setup-spec : {M : Type 1} → statement M
 read-setup-spec =
-    tie.close (tie.spec read-number-requires enum-known-k cast-t7 enum-told returns returns-2)
+    tie.close (tie.spec (λ c κs. search needs) (λ c. search needs) cast-t7 (λ c. search needs) returns returns-2)

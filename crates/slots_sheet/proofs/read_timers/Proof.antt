@@ -6,29 +6,11 @@ use borrow.Author.Needs.{needs}
 use Rattle.slots_sheet.proofs.read_timers.Statement.{statement}
 use Rattle.slots_sheet.proofs.read_timers.Tie as tie
 
-read-timer-requires : tie.Need-read-timer-requires
-read-timer-requires c κs = search needs
-
-no-timers-requires : tie.Need-no-timers-requires
-no-timers-requires c κs = search needs
-
 returns : tie.Need-returns
 returns c = rw (c .no-timers .ensures) (left (c .before .if1 .taken) (five-no (c .before .before .before .before .before .args .s .now) (c .before .before .before .before .before .args .at) (c .before .before .before .before .before .args .n) _ (rejected (c .before .if1 .taken) (c .before .before .before .read-timer .ensures))))
 
-read-timer-requires-2 : tie.Need-read-timer-requires-2
-read-timer-requires-2 c κs = search needs
-
-no-timers-requires-2 : tie.Need-no-timers-requires-2
-no-timers-requires-2 c κs = search needs
-
 returns-2 : tie.Need-returns-2
 returns-2 c = rw (c .no-timers2 .ensures) (left (c .before .if2 .taken) (ten-no _ _ _ _ _ (accepted (c .before .before .before .before .if1 .left) (c .before .before .before .before .before .before .read-timer .ensures)) _ (rejected (c .before .if2 .taken) (c .before .before .before .read-timer2 .ensures))))
-
-read-timer-requires-3 : tie.Need-read-timer-requires-3
-read-timer-requires-3 c κs = search needs
-
-no-timers-requires-3 : tie.Need-no-timers-requires-3
-no-timers-requires-3 c κs = search needs
 
 returns-3 : tie.Need-returns-3
 returns-3 c =
@@ -46,13 +28,13 @@ pub read-timers-spec : {M : Type 1} → statement M
 read-timers-spec =
     tie.close
     (tie.spec
-    read-timer-requires
-    no-timers-requires
+    (λ c κs. search needs)
+    (λ c κs. search needs)
     returns
-    read-timer-requires-2
-    no-timers-requires-2
+    (λ c κs. search needs)
+    (λ c κs. search needs)
     returns-2
-    read-timer-requires-3
-    no-timers-requires-3
+    (λ c κs. search needs)
+    (λ c κs. search needs)
     returns-3
     returns-4)

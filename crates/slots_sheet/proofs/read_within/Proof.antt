@@ -4,32 +4,11 @@ use borrow.Author.Needs.{needs}
 use Rattle.slots_sheet.proofs.read_within.Statement.{statement}
 use Rattle.slots_sheet.proofs.read_within.Tie as tie
 
-read-number-requires : tie.Need-read-number-requires
-read-number-requires c κs = search needs
-
-enum-known-k : tie.Need-enum-known-k
-enum-known-k c = search needs
-
-no-entry-requires : tie.Need-no-entry-requires
-no-entry-requires c κs = search needs
-
 returns : tie.Need-returns
 returns c = entry-no _ _ _ _ (c .before .before .before .before .before .read-number .ensures) _ _ (c .before .before .before .k .given .1) (within-low (c .before .before .before .before .before .before .before .args .least) (c .before .before .before .before .before .before .before .args .most) _ (c .before .if1 .taken)) _ (c .no-entry .ensures)
 
-no-entry-requires-2 : tie.Need-no-entry-requires-2
-no-entry-requires-2 c κs = search needs
-
 returns-2 : tie.Need-returns-2
 returns-2 c = entry-no _ _ _ _ (c .before .before .before .before .before .before .read-number .ensures) _ _ (c .before .before .before .before .k .given .1) (within-high (c .before .before .before .before .before .before .before .before .args .least) (c .before .before .before .before .before .before .before .before .args .most) _ (c .before .if2 .taken)) _ (c .no-entry2 .ensures)
-
-cast-t10 : tie.Need-cast-t10
-cast-t10 c = search needs
-
-enum-told : tie.Need-enum-told
-enum-told c = search needs
-
-no-entry-requires-3 : tie.Need-no-entry-requires-3
-no-entry-requires-3 c κs = search needs
 
 returns-3 : tie.Need-returns-3
 returns-3 c = entry-got _ _ _ _ (c .before .before .before .before .before .read-number .ensures) _ _ (c .before .before .before .k .given .1) (within-in (c .before .before .before .before .before .before .before .args .least) (c .before .before .before .before .before .before .before .args .most) _ (c .before .if1 .left) (c .if2 .left))
@@ -41,14 +20,14 @@ pub read-within-spec : {M : Type 1} → statement M
 read-within-spec =
     tie.close
     (tie.spec
-    read-number-requires
-    enum-known-k
-    no-entry-requires
+    (λ c κs. search needs)
+    (λ c. search needs)
+    (λ c κs. search needs)
     returns
-    no-entry-requires-2
+    (λ c κs. search needs)
     returns-2
-    cast-t10
-    enum-told
-    no-entry-requires-3
+    (λ c. search needs)
+    (λ c. search needs)
+    (λ c κs. search needs)
     returns-3
     returns-4)

@@ -31,23 +31,14 @@ put-digits-claims t = (digit-reads.Asked, digit-reads.Learnt, put-byte-reads.Ask
 put-digits-returns : (t : ℕ) → put-digits-lts.Need-returns (put-digits-claims t) (put-digits-at t) put-digits.Post
 put-digits-returns t c = digits-none (c .before .args .n) (c .if1 .taken)
 
-put-digits-digit-requires : (t : ℕ) → put-digits-lts.Need-digit-requires (put-digits-claims t) (put-digits-at t) put-digits.Post
-put-digits-digit-requires t c κs = search needs
-
 put-digits-put-byte-requires : (t : ℕ) → put-digits-lts.Need-put-byte-requires (put-digits-claims t) (put-digits-at t) put-digits.Post
 put-digits-put-byte-requires t c κs = digit-space (c .before .before .before .before .args .f) (c .before .before .before .before .args .n) (c .before .before .before .if1 .left) (c .before .before .before .before .pre .1) (c .before .before .if2 .taken)
 
 put-digits-returns-2 : (t : ℕ) → put-digits-lts.Need-returns-2 (put-digits-claims t) (put-digits-at t) put-digits.Post
 put-digits-returns-2 t c = one-digit (c .before .before .before .before .before .args .f) (c .before .before .before .before .before .args .n) (c .before .before .before .before .if1 .left) (c .before .before .before .if2 .taken) (c .before .digit .ensures) (c .put-byte .ensures)
 
-put-digits-sub-put-digits : (t : ℕ) → put-digits-lts.Need-sub-put-digits (put-digits-claims t) (put-digits-at t) put-digits.Post
-put-digits-sub-put-digits t c = search needs
-
 put-digits-put-digits-requires : (t : ℕ) → put-digits-lts.Need-put-digits-requires (put-digits-claims t) (put-digits-at t) put-digits.Post
 put-digits-put-digits-requires t c κs = (omega (arith, c .before .before .if1 .left, c .before .before .before .pre .0), high-space (c .before .before .before .args .f) (c .before .before .before .args .n) (c .before .before .if1 .left) (c .before .before .before .pre .1) (c .before .if2 .left))
-
-put-digits-digit-requires-2 : (t : ℕ) → put-digits-lts.Need-digit-requires-2 (put-digits-claims t) (put-digits-at t) put-digits.Post
-put-digits-digit-requires-2 t c κs = search needs
 
 put-digits-put-byte-requires-2 : (t : ℕ) → put-digits-lts.Need-put-byte-requires-2 (put-digits-claims t) (put-digits-at t) put-digits.Post
 put-digits-put-byte-requires-2 t c κs = low-space (c .before .before .before .before .before .before .args .f) (c .before .before .before .before .before .before .args .n) (c .before .before .before .before .before .if1 .left) (c .before .before .before .before .before .before .pre .1) (c .before .before .before .before .if2 .left) (c .before .before .put-digits .ensures)
@@ -60,11 +51,11 @@ pub +put-digits-spec : {M : Type 1} → statement M
     (put-digits-at t)
     put-digits.Post
     (put-digits-returns t)
-    (put-digits-digit-requires t)
+    (λ c κs. search needs)
     (put-digits-put-byte-requires t)
     (put-digits-returns-2 t)
-    (put-digits-sub-put-digits t)
+    (λ c. search needs)
     (put-digits-put-digits-requires t)
-    (put-digits-digit-requires-2 t)
+    (λ c κs. search needs)
     (put-digits-put-byte-requires-2 t)
     (put-digits-returns-3 t)

@@ -7,17 +7,8 @@ use borrow.Author.Needs.{needs}
 use Rattle.slots_text.proofs.put_item.Statement.{statement}
 use Rattle.slots_text.proofs.put_item.Tie as tie
 
-enum-told : tie.Need-enum-told
-enum-told c = search needs
-
 put-byte-requires : tie.Need-put-byte-requires
 put-byte-requires c κs = let s = space-as (item-none _ (c .before .enum-told .given .1)) (c .before .before .before .pre) .fits in omega arith
-
-enum-known-item : tie.Need-enum-known-item
-enum-known-item c = search needs
-
-cast-put-decimal : tie.Need-cast-put-decimal
-cast-put-decimal c = search needs
 
 put-decimal-requires : tie.Need-put-decimal-requires
 put-decimal-requires c κs = space-as (item-some _ _ (c .before .before .before .item .given .1)) (c .before .before .before .before .before .pre)
@@ -32,10 +23,10 @@ pub put-item-spec : {M : Type 1} → statement M
 put-item-spec =
     tie.close
     (tie.spec
-    enum-told
+    (λ c. search needs)
     put-byte-requires
-    enum-known-item
-    cast-put-decimal
+    (λ c. search needs)
+    (λ c. search needs)
     put-decimal-requires
     returns
     returns-2)

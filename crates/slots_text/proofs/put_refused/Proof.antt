@@ -5,12 +5,6 @@ use borrow.Author.Needs.{needs}
 use Rattle.slots_text.proofs.put_refused.Statement.{statement}
 use Rattle.slots_text.proofs.put_refused.Tie as tie
 
-slice-aggregate-put-bytes : tie.Need-slice-aggregate-put-bytes
-slice-aggregate-put-bytes c = search needs
-
-put-bytes-requires : tie.Need-put-bytes-requires
-put-bytes-requires c κs = search needs
-
 put-decimal-requires : tie.Need-put-decimal-requires
 put-decimal-requires c κs = part-space _ (refused-space (c .before .before .before .before .args .n)) (part-on (refused-start (c .before .before .before .before .args .n)) (c .before .put-bytes .ensures))
 
@@ -24,8 +18,8 @@ pub put-refused-spec : {M : Type 1} → statement M
 put-refused-spec =
     tie.close
     (tie.spec
-    slice-aggregate-put-bytes
-    put-bytes-requires
+    (λ c. search needs)
+    (λ c κs. search needs)
     put-decimal-requires
     put-byte-requires
     returns)

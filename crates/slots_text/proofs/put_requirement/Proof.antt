@@ -12,21 +12,6 @@ use borrow.Author.Needs.{needs}
 use Rattle.slots_text.proofs.put_requirement.Statement.{statement}
 use Rattle.slots_text.proofs.put_requirement.Tie as tie
 
-put-byte-requires : tie.Need-put-byte-requires
-put-byte-requires c κs = search needs
-
-kind-of-requires : tie.Need-kind-of-requires
-kind-of-requires c κs = search needs
-
-letter-of-requires : tie.Need-letter-of-requires
-letter-of-requires c κs = search needs
-
-put-byte-requires-2 : tie.Need-put-byte-requires-2
-put-byte-requires-2 c κs = search needs
-
-number-of-requires : tie.Need-number-of-requires
-number-of-requires c κs = search needs
-
 put-signed-requires : tie.Need-put-signed-requires
 put-signed-requires c κs = let s = c .before .before .before .before .before .before .before .before in let l = rw (c .before .before .before .before .kind-of .ensures) at (c .before .before .before .letter-of .ensures (unshift (s .args .code % wide))) in let e = toZ-ofZ {w = w32} (record { sfits = c .number-of .ok }) ∙ c .number-of .ensures in let p = part-byte-is l (part-byte (requirement-start (s .args .code)) (c .before .before .before .before .before .before .put-byte .ensures)) (c .before .before .put-byte2 .ensures) in last-space (s .pre) (part-as (ap signedDecimal (sym e)) p)
 
@@ -37,10 +22,10 @@ pub put-requirement-spec : {M : Type 1} → statement M
 put-requirement-spec =
     tie.close
     (tie.spec
-    put-byte-requires
-    kind-of-requires
-    letter-of-requires
-    put-byte-requires-2
-    number-of-requires
+    (λ c κs. search needs)
+    (λ c κs. search needs)
+    (λ c κs. search needs)
+    (λ c κs. search needs)
+    (λ c κs. search needs)
     put-signed-requires
     returns)

@@ -21,26 +21,11 @@ abbrev μ-loop : tie.MeasureT-loop
 size : (c : tie.Start Inv-loop μ-loop) → length (c .args .t3 .requirements) ≡ entryLimit
 size c = search needs
 
-cast-n : tie.Need-cast-n Inv-loop μ-loop
-cast-n c = search needs
-
 loop-holds : tie.Need-loop-holds Inv-loop μ-loop
 loop-holds c = (omega arith, part-of (entries-all (c .args .t3) (size (c)) (c .pre .0)))
 
-mul-put-requirement : tie.Need-mul-put-requirement Inv-loop μ-loop
-mul-put-requirement c = search needs
-
-element-copy-out-put-requirement : tie.Need-element-copy-out-put-requirement Inv-loop μ-loop
-element-copy-out-put-requirement c = search needs
-
 put-requirement-requires : tie.Need-put-requirement-requires Inv-loop μ-loop
 put-requirement-requires c κs = part-space _ (c .before .before .before .before .pre .1) (part-as (entries-next (c .before .before .before .before .args .t3) (size (c .before .before .before .before)) (c .before .before .before .before .pre .0) (c .before .before .before .loop .i) (c .before .before .loop-test .taken)) (c .before .before .before .loop .inv .1))
-
-add-i : tie.Need-add-i Inv-loop μ-loop
-add-i c = search needs
-
-loop-less : tie.Need-loop-less Inv-loop μ-loop
-loop-less c = omega arith
 
 loop-again : tie.Need-loop-again Inv-loop μ-loop
 loop-again c = (omega arith, part-on (part-as (entries-next (c .before .before .before .before .before .args .t3) (size (c .before .before .before .before .before)) (c .before .before .before .before .before .pre .0) (c .before .before .before .before .loop .i) (c .before .before .before .loop-test .taken)) (c .before .before .before .before .loop .inv .1)) (c .put-requirement .ensures))
@@ -54,12 +39,12 @@ put-requirements-spec =
     (tie.spec
     Inv-loop
     μ-loop
-    cast-n
+    (λ c. search needs)
     loop-holds
-    mul-put-requirement
-    element-copy-out-put-requirement
+    (λ c. search needs)
+    (λ c. search needs)
     put-requirement-requires
-    add-i
-    loop-less
+    (λ c. search needs)
+    (λ c. omega arith)
     loop-again
     returns)

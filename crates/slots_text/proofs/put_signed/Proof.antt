@@ -9,20 +9,11 @@ use native.Mathlib.Omega.{arith}
 use Rattle.slots_text.proofs.put_signed.Statement.{statement}
 use Rattle.slots_text.proofs.put_signed.Tie as tie
 
-shifted-requires : tie.Need-shifted-requires
-shifted-requires c κs = search needs
-
 put-byte-requires : tie.Need-put-byte-requires
 put-byte-requires c κs =
     let m = c .before .before in
     let s = m .before in
     byte-space {xs = s .args .out .now} (s .pre) (part-of (signed-low (s .args .z) _ (rw (toZ-ofZ (s .fits .z)) at (m .shifted .ensures)) (c .before .if1 .taken)))
-
-sub-put-decimal : tie.Need-sub-put-decimal
-sub-put-decimal c = search needs
-
-cast-put-decimal : tie.Need-cast-put-decimal
-cast-put-decimal c = search needs
 
 put-decimal-requires : tie.Need-put-decimal-requires
 put-decimal-requires c κs =
@@ -59,10 +50,10 @@ pub put-signed-spec : {M : Type 1} → statement M
 put-signed-spec =
     tie.close
     (tie.spec
-    shifted-requires
+    (λ c κs. search needs)
     put-byte-requires
-    sub-put-decimal
-    cast-put-decimal
+    (λ c. search needs)
+    (λ c. search needs)
     put-decimal-requires
     returns
     cast-put-decimal-2

@@ -28,23 +28,8 @@ size c = search (mapped, needs)
 loop-holds : tie.Need-loop-holds Inv-loop μ-loop
 loop-holds c = (omega arith, part-of (lines-all (c .args .t2) (size (c))))
 
-mul-slot : tie.Need-mul-slot Inv-loop μ-loop
-mul-slot c = search needs
-
-element-copy-out-slot : tie.Need-element-copy-out-slot Inv-loop μ-loop
-element-copy-out-slot c = search needs
-
-cast-put-slot : tie.Need-cast-put-slot Inv-loop μ-loop
-cast-put-slot c = search needs
-
 put-slot-requires : tie.Need-put-slot-requires Inv-loop μ-loop
 put-slot-requires c κs = (c .before .before .before .before .pre .each (c .before .before .before .loop .i) (c .before .before .loop-test .taken), part-space _ (lines-space (c .before .before .before .before .args .t2) (size (c .before .before .before .before)) (c .before .before .before .before .pre)) (part-as (lines-next (c .before .before .before .before .args .t2) (size (c .before .before .before .before)) (c .before .before .before .loop .i) (c .before .before .loop-test .taken)) (c .before .before .before .loop .inv .1)))
-
-add-i : tie.Need-add-i Inv-loop μ-loop
-add-i c = search needs
-
-loop-less : tie.Need-loop-less Inv-loop μ-loop
-loop-less c = omega arith
 
 loop-again : tie.Need-loop-again Inv-loop μ-loop
 loop-again c = (omega arith, part-on (part-as (lines-next (c .before .before .before .before .before .args .t2) (size (c .before .before .before .before .before)) (c .before .before .before .before .loop .i) (c .before .before .before .loop-test .taken)) (c .before .before .before .before .loop .inv .1)) (c .put-slot .ensures))
@@ -59,11 +44,11 @@ put-slots-spec =
     Inv-loop
     μ-loop
     loop-holds
-    mul-slot
-    element-copy-out-slot
-    cast-put-slot
+    (λ c. search needs)
+    (λ c. search needs)
+    (λ c. search needs)
     put-slot-requires
-    add-i
-    loop-less
+    (λ c. search needs)
+    (λ c. omega arith)
     loop-again
     returns)

@@ -7,12 +7,6 @@ use borrow.Author.Needs.{needs}
 use Rattle.text_read.proofs.behind_blank.Statement.{statement}
 use Rattle.text_read.proofs.behind_blank.Tie as tie
 
-byte-at-requires : tie.Need-byte-at-requires
-byte-at-requires c κs = search needs
-
-no-read-requires : tie.Need-no-read-requires
-no-read-requires c κs = search needs
-
 returns : tie.Need-returns
 returns c = byte-no-blank _ _ _ _ _ _ (c .before .if1 .taken) (c .before .before .byte-at .ensures) (c .no-read .ensures)
 
@@ -23,4 +17,4 @@ returns-2 : tie.Need-returns-2
 returns-2 c = byte-blank _ _ _ _ _ _ (c .if1 .left) (c .before .byte-at .ensures) refl
 
 pub behind-blank-spec : {M : Type 1} → statement M
-behind-blank-spec = tie.close (tie.spec byte-at-requires no-read-requires returns add-t7 returns-2)
+behind-blank-spec = tie.close (tie.spec (λ c κs. search needs) (λ c κs. search needs) returns add-t7 returns-2)

@@ -4,12 +4,6 @@ use borrow.Author.Needs.{needs}
 use Rattle.text_read.proofs.byte_at.Statement.{statement}
 use Rattle.text_read.proofs.byte_at.Tie as tie
 
-shared-slice-read-wide-byte : tie.Need-shared-slice-read-wide-byte
-shared-slice-read-wide-byte c = search needs
-
-wide-byte-requires : tie.Need-wide-byte-requires
-wide-byte-requires c κs = search needs
-
 returns : tie.Need-returns
 returns c = byte-here _ _ _ (c .before .before .if1 .taken) (c .wide-byte .ensures)
 
@@ -18,4 +12,4 @@ returns-2 c = byte-behind _ _ (c .if1 .left)
 
 pub byte-at-spec : {M : Type 1} → statement M
 byte-at-spec =
-    tie.close (tie.spec shared-slice-read-wide-byte wide-byte-requires returns returns-2)
+    tie.close (tie.spec (λ c. search needs) (λ c κs. search needs) returns returns-2)

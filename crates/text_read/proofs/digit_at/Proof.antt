@@ -4,9 +4,6 @@ use borrow.Author.Needs.{needs}
 use Rattle.text_read.proofs.digit_at.Statement.{statement}
 use Rattle.text_read.proofs.digit_at.Tie as tie
 
-byte-at-requires : tie.Need-byte-at-requires
-byte-at-requires c κs = search needs
-
 returns : tie.Need-returns
 returns c = digit-low (c .if1 .taken) (c .before .byte-at .ensures)
 
@@ -17,4 +14,4 @@ returns-3 : tie.Need-returns-3
 returns-3 c = digit-is (c .before .if1 .left) (c .if2 .left) (c .before .before .byte-at .ensures)
 
 pub digit-at-spec : {M : Type 1} → statement M
-digit-at-spec = tie.close (tie.spec byte-at-requires returns returns-2 returns-3)
+digit-at-spec = tie.close (tie.spec (λ c κs. search needs) returns returns-2 returns-3)

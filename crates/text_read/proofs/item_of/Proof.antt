@@ -4,17 +4,8 @@ use borrow.Author.Needs.{needs}
 use Rattle.text_read.proofs.item_of.Statement.{statement}
 use Rattle.text_read.proofs.item_of.Tie as tie
 
-returns : tie.Need-returns
-returns c = search needs
-
-sub-t3 : tie.Need-sub-t3
-sub-t3 c = search needs
-
-cast-t4 : tie.Need-cast-t4
-cast-t4 c = search needs
-
 returns-2 : tie.Need-returns-2
 returns-2 c = word-suc _ (c .if1 .left)
 
 pub item-of-spec : {M : Type 1} → statement M
-item-of-spec = tie.close (tie.spec returns sub-t3 cast-t4 returns-2)
+item-of-spec = tie.close (tie.spec (λ c. search needs) (λ c. search needs) (λ c. search needs) returns-2)

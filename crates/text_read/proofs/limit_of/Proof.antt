@@ -8,12 +8,6 @@ use borrow.Author.Needs.{needs}
 use Rattle.text_read.proofs.limit_of.Statement.{statement}
 use Rattle.text_read.proofs.limit_of.Tie as tie
 
-add-number-of : tie.Need-add-number-of
-add-number-of c = search needs
-
-number-of-requires : tie.Need-number-of-requires
-number-of-requires c κs = search needs
-
 cast-result : tie.Need-cast-result
 cast-result c = let e = c .number-of .ensures ∙ limit-number (c .before .args .m) (omega (arith, c .before .pre .1)) in rw (toZ-ofZ {w = w32} (record { sfits = c .number-of .ok }), e) (limit-fits (c .before .args .m) (c .before .pre .0) (c .before .pre .1))
 
@@ -21,4 +15,4 @@ returns : tie.Need-returns
 returns c = let e = c .number-of .ensures ∙ limit-number (c .before .args .m) (omega (arith, c .before .pre .1)) in toZ-ofZ {w = w16} (cast-result c) ∙ toZ-ofZ {w = w32} (record { sfits = c .number-of .ok }) ∙ e
 
 pub limit-of-spec : {M : Type 1} → statement M
-limit-of-spec = tie.close (tie.spec add-number-of number-of-requires cast-result returns)
+limit-of-spec = tie.close (tie.spec (λ c. search needs) (λ c κs. search needs) cast-result returns)

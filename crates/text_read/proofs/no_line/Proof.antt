@@ -3,11 +3,8 @@ use borrow.Author.Needs.{needs}
 use Rattle.text_read.proofs.no_line.Statement.{statement}
 use Rattle.text_read.proofs.no_line.Tie as tie
 
-empty-slot-requires : tie.Need-empty-slot-requires
-empty-slot-requires c κs = search needs
-
 returns : tie.Need-returns
 returns c = rw (c .empty-slot .ensures)
 
 pub no-line-spec : {M : Type 1} → statement M
-no-line-spec = tie.close (tie.spec empty-slot-requires returns)
+no-line-spec = tie.close (tie.spec (λ c κs. search needs) returns)

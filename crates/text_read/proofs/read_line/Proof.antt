@@ -8,43 +8,19 @@ use borrow.Author.Needs.{needs}
 use Rattle.text_read.proofs.read_line.Statement.{statement}
 use Rattle.text_read.proofs.read_line.Tie as tie
 
-read-start-requires : tie.Need-read-start-requires
-read-start-requires c κs = search needs
-
-no-line-requires : tie.Need-no-line-requires
-no-line-requires c κs = search needs
-
 returns : tie.Need-returns
 returns c = told-no-line (c .before .if1 .taken) (line-no (c .before .before .before .before .before .args .s .now) (c .before .before .before .before .before .args .at) (c .before .before .before .before .before .args .i) _ (rejected (c .before .if1 .taken) (c .before .before .before .read-start .ensures))) _ (c .no-line .ensures)
-
-read-item-requires : tie.Need-read-item-requires
-read-item-requires c κs = search needs
-
-no-line-requires-2 : tie.Need-no-line-requires-2
-no-line-requires-2 c κs = search needs
 
 returns-2 : tie.Need-returns-2
 returns-2 c =
     let n = accepted (c .before .before .before .before .if1 .left) (c .before .before .before .before .before .before .read-start .ensures) in
     told-no-line (c .before .if2 .taken) (line-no-item _ (c .before .before .before .before .before .before .before .before .args .at) (c .before .before .before .before .before .before .before .before .args .i) _ n _ (rejected (c .before .if2 .taken) (c .before .before .before .read-item .ensures))) _ (c .no-line2 .ensures)
 
-read-signed-requires : tie.Need-read-signed-requires
-read-signed-requires c κs = search needs
-
-no-line-requires-3 : tie.Need-no-line-requires-3
-no-line-requires-3 c κs = search needs
-
 returns-3 : tie.Need-returns-3
 returns-3 c =
     let n = accepted (c .before .before .before .before .before .before .before .if1 .left) (c .before .before .before .before .before .before .before .before .before .read-start .ensures) in
     let o = accepted (c .before .before .before .before .if2 .left) (c .before .before .before .before .before .before .read-item .ensures) in
     told-no-line (c .before .if3 .taken) (line-no-limit _ (c .before .before .before .before .before .before .before .before .before .before .before .args .at) (c .before .before .before .before .before .before .before .before .before .before .before .args .i) _ n _ _ o _ (rejected (c .before .if3 .taken) (c .before .before .before .read-signed .ensures))) _ (c .no-line3 .ensures)
-
-read-requirements-requires : tie.Need-read-requirements-requires
-read-requirements-requires c κs = search needs
-
-no-line-requires-4 : tie.Need-no-line-requires-4
-no-line-requires-4 c κs = search needs
 
 returns-4 : tie.Need-returns-4
 returns-4 c =
@@ -71,17 +47,17 @@ pub read-line-spec : {M : Type 1} → statement M
 read-line-spec =
     tie.close
     (tie.spec
-    read-start-requires
-    no-line-requires
+    (λ c κs. search needs)
+    (λ c κs. search needs)
     returns
-    read-item-requires
-    no-line-requires-2
+    (λ c κs. search needs)
+    (λ c κs. search needs)
     returns-2
-    read-signed-requires
-    no-line-requires-3
+    (λ c κs. search needs)
+    (λ c κs. search needs)
     returns-3
-    read-requirements-requires
-    no-line-requires-4
+    (λ c κs. search needs)
+    (λ c κs. search needs)
     returns-4
     item-of-requires
     limit-of-requires

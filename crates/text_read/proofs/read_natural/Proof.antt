@@ -14,12 +14,6 @@ Inv-loop s at bound e first n₀ p₀ d₀ n p d = Digits s at e bound n p d
 abbrev μ-loop : tie.MeasureT-loop
 μ-loop s at bound e first n₀ p₀ d₀ n p d = length s - p
 
-digit-at-requires : tie.Need-digit-at-requires Inv-loop μ-loop
-digit-at-requires c κs = search needs
-
-no-read-requires : tie.Need-no-read-requires Inv-loop μ-loop
-no-read-requires c κs = search needs
-
 returns : tie.Need-returns Inv-loop μ-loop
 returns c = told-no (λ k. omega (arith, c .before .before .before .before .pre .some)) (natural-none _ _ _ _ _ (c .before .before .before .before .pre) (c .before .before .digit-at .ensures) (c .before .if1 .taken)) (IsNumber (c .before .before .before .before .args .bound)) _ (c .no-read .ensures)
 
@@ -32,9 +26,6 @@ returns-2 c = natural-alone _ _ _ _ _ (c .before .before .before .before .pre) (
 add-p : tie.Need-add-p Inv-loop μ-loop
 add-p c = omega (arith, digit-in (omega arith) (c .before .before .digit-at .ensures))
 
-digit-at-requires-2 : tie.Need-digit-at-requires-2 Inv-loop μ-loop
-digit-at-requires-2 c κs = search needs
-
 loop-holds : tie.Need-loop-holds Inv-loop μ-loop
 loop-holds c = digits-start _ _ _ _ _ (c .before .before .before .before .before .pre) (c .before .before .before .digit-at .ensures) (c .before .before .if1 .left) (c .before .if2 .left) _ (c .digit-at2 .ensures)
 
@@ -44,17 +35,11 @@ mul-n c = omega (arith, c .before .loop .inv .low, c .before .before .before .be
 add-n : tie.Need-add-n Inv-loop μ-loop
 add-n c = omega (arith, c .before .loop .inv .low, c .before .before .before .before .before .before .before .pre .most)
 
-no-read-requires-2 : tie.Need-no-read-requires-2 Inv-loop μ-loop
-no-read-requires-2 c κs = search needs
-
 returns-3 : tie.Need-returns-3 Inv-loop μ-loop
 returns-3 c = told-no (λ k. omega (arith, c .before .before .before .before .before .before .before .before .before .pre .some)) (digits-over _ _ _ _ 0 (c .before .before .before .before .before .before .before .before .before .pre) _ _ _ (c .before .before .before .loop .inv) (c .before .before .loop-test .taken) (c .before .if3 .taken)) (IsNumber (c .before .before .before .before .before .before .before .before .before .args .bound)) _ (c .no-read2 .ensures)
 
 add-p-2 : tie.Need-add-p-2 Inv-loop μ-loop
 add-p-2 c = omega (arith, digit-in (c .before .loop-test .taken) (c .before .before .loop .inv .next))
-
-digit-at-requires-3 : tie.Need-digit-at-requires-3 Inv-loop μ-loop
-digit-at-requires-3 c κs = search needs
 
 loop-less : tie.Need-loop-less Inv-loop μ-loop
 loop-less c = omega (arith, digit-in (c .before .before .loop-test .taken) (c .before .before .before .loop .inv .next))
@@ -71,20 +56,20 @@ read-natural-spec =
     (tie.spec
     Inv-loop
     μ-loop
-    digit-at-requires
-    no-read-requires
+    (λ c κs. search needs)
+    (λ c κs. search needs)
     returns
     add-t10
     returns-2
     add-p
-    digit-at-requires-2
+    (λ c κs. search needs)
     loop-holds
     mul-n
     add-n
-    no-read-requires-2
+    (λ c κs. search needs)
     returns-3
     add-p-2
-    digit-at-requires-3
+    (λ c κs. search needs)
     loop-less
     loop-again
     returns-4)

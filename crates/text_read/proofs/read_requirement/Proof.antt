@@ -7,32 +7,14 @@ use borrow.Author.Needs.{needs}
 use Rattle.text_read.proofs.read_requirement.Statement.{statement}
 use Rattle.text_read.proofs.read_requirement.Tie as tie
 
-byte-at-requires : tie.Need-byte-at-requires
-byte-at-requires c κs = search needs
-
-kind-for-requires : tie.Need-kind-for-requires
-kind-for-requires c κs = search needs
-
-no-read-requires : tie.Need-no-read-requires
-no-read-requires c κs = search needs
-
 returns : tie.Need-returns
 returns c = told-no (λ k. omega arith) (requirement-none _ _ _ _ (c .before .before .before .byte-at .ensures) (c .before .before .kind-for .ensures) (c .before .if1 .taken)) IsRequirement _ (c .no-read .ensures)
 
 add-read-signed : tie.Need-add-read-signed
 add-read-signed c = let h = letter-in _ _ _ _ (c .before .before .before .byte-at .ensures) (c .before .before .kind-for .ensures) (c .before .if1 .left) in omega arith
 
-read-signed-requires : tie.Need-read-signed-requires
-read-signed-requires c κs = search needs
-
-no-read-requires-2 : tie.Need-no-read-requires-2
-no-read-requires-2 c κs = search needs
-
 returns-2 : tie.Need-returns-2
 returns-2 c = told-no (c .before .if3 .taken) (flag-no _ _ _ _ (c .before .before .before .before .before .before .before .byte-at .ensures) (c .before .before .before .before .before .before .kind-for .ensures) (c .before .before .before .before .if2 .taken) (c .before .before .before .before .before .if1 .left) _ (rejected (c .before .if3 .taken) (c .before .before .before .read-signed .ensures))) IsRequirement _ (c .no-read2 .ensures)
-
-mul-t10 : tie.Need-mul-t10
-mul-t10 c = search needs
 
 add-t11 : tie.Need-add-t11
 add-t11 c = let x = accepted (c .before .if3 .left) (c .before .before .before .read-signed .ensures) in omega (arith, signed-wide (x .value) (x .is), c .before .before .before .before .before .if1 .left)
@@ -43,17 +25,8 @@ returns-3 c = flag-took _ _ _ _ (c .before .before .before .before .before .befo
 add-read-natural : tie.Need-add-read-natural
 add-read-natural c = let h = letter-in _ _ _ _ (c .before .before .before .byte-at .ensures) (c .before .before .kind-for .ensures) (c .before .if1 .left) in omega arith
 
-read-natural-requires : tie.Need-read-natural-requires
-read-natural-requires c κs = search needs
-
-no-read-requires-3 : tie.Need-no-read-requires-3
-no-read-requires-3 c κs = search needs
-
 returns-4 : tie.Need-returns-4
 returns-4 c = told-no (c .before .if4 .taken) (id-no _ _ _ _ (c .before .before .before .before .before .before .before .byte-at .ensures) (c .before .before .before .before .before .before .kind-for .ensures) (c .before .before .before .before .if2 .left) _ (rejected (c .before .if4 .taken) (c .before .before .before .read-natural .ensures))) IsRequirement _ (c .no-read3 .ensures)
-
-mul-t13 : tie.Need-mul-t13
-mul-t13 c = search needs
 
 add-t14 : tie.Need-add-t14
 add-t14 c = let x = accepted (c .before .if4 .left) (c .before .before .before .read-natural .ensures) in omega (arith, x .is .same, x .is .low)
@@ -68,22 +41,22 @@ pub read-requirement-spec : {M : Type 1} → statement M
 read-requirement-spec =
     tie.close
     (tie.spec
-    byte-at-requires
-    kind-for-requires
-    no-read-requires
+    (λ c κs. search needs)
+    (λ c κs. search needs)
+    (λ c κs. search needs)
     returns
     add-read-signed
-    read-signed-requires
-    no-read-requires-2
+    (λ c κs. search needs)
+    (λ c κs. search needs)
     returns-2
-    mul-t10
+    (λ c. search needs)
     add-t11
     returns-3
     add-read-natural
-    read-natural-requires
-    no-read-requires-3
+    (λ c κs. search needs)
+    (λ c κs. search needs)
     returns-4
-    mul-t13
+    (λ c. search needs)
     add-t14
     add-t15
     returns-5)

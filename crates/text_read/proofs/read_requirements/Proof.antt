@@ -15,14 +15,8 @@ Inv-loop s at row₀ n₀ p₀ c₀ row n p c = (n ≤ entryLimit) × Listed s a
 abbrev μ-loop : tie.MeasureT-loop
 μ-loop s at row₀ n₀ p₀ c₀ row n p c = entryLimit - n
 
-byte-at-requires : tie.Need-byte-at-requires Inv-loop μ-loop
-byte-at-requires c κs = search needs
-
 loop-holds : tie.Need-loop-holds Inv-loop μ-loop
 loop-holds c = (omega arith, listed-start _ _, c .byte-at .ensures)
-
-no-requirements-requires : tie.Need-no-requirements-requires Inv-loop μ-loop
-no-requirements-requires c κs = search needs
 
 returns : tie.Need-returns Inv-loop μ-loop
 returns c = told-no-requirements (λ k. omega arith) (listed-over _ _ _ _ _ (c .before .before .before .loop .inv .1) _ (c .before .before .before .loop .inv .2) (c .before .before .loop-test .taken) (c .before .if1 .taken)) _ (c .no-requirements .ensures)
@@ -30,35 +24,14 @@ returns c = told-no-requirements (λ k. omega arith) (listed-over _ _ _ _ _ (c .
 add-read-requirement : tie.Need-add-read-requirement Inv-loop μ-loop
 add-read-requirement c = omega (arith, byte-is 32 (c .before .loop-test .taken) (omega arith) (c .before .before .loop .inv .2) .0)
 
-read-requirement-requires : tie.Need-read-requirement-requires Inv-loop μ-loop
-read-requirement-requires c κs = search needs
-
-no-requirements-requires-2 : tie.Need-no-requirements-requires-2 Inv-loop μ-loop
-no-requirements-requires-2 c κs = search needs
-
 returns-2 : tie.Need-returns-2 Inv-loop μ-loop
 returns-2 c = told-no-requirements (c .before .if2 .taken) (listed-no _ _ _ _ _ (c .before .before .before .before .before .before .loop .inv .1) _ (c .before .before .before .before .before .before .loop .inv .2) (c .before .before .before .before .before .loop-test .taken) (c .before .before .before .before .if1 .left) _ (rejected (c .before .if2 .taken) (c .before .before .before .read-requirement .ensures))) _ (c .no-requirements2 .ensures)
-
-mul-row : tie.Need-mul-row Inv-loop μ-loop
-mul-row c = search needs
-
-array-write-row : tie.Need-array-write-row Inv-loop μ-loop
-array-write-row c = search needs
-
-add-n : tie.Need-add-n Inv-loop μ-loop
-add-n c = search needs
-
-byte-at-requires-2 : tie.Need-byte-at-requires-2 Inv-loop μ-loop
-byte-at-requires-2 c κs = search needs
 
 loop-less : tie.Need-loop-less Inv-loop μ-loop
 loop-less c = omega (arith, c .before .before .before .before .if1 .left)
 
 loop-again : tie.Need-loop-again Inv-loop μ-loop
 loop-again c = (omega (arith, c .before .before .before .before .if1 .left), listed-next _ _ _ _ _ (c .before .before .before .before .before .before .loop .inv .1) _ (c .before .before .before .before .before .before .loop .inv .2) (c .before .before .before .before .before .loop-test .taken) (c .before .before .before .before .if1 .left) _ _ (accepted (c .before .if2 .left) (c .before .before .before .read-requirement .ensures)), c .byte-at2 .ensures)
-
-no-requirements-requires-3 : tie.Need-no-requirements-requires-3 Inv-loop μ-loop
-no-requirements-requires-3 c κs = search needs
 
 returns-3 : tie.Need-returns-3 Inv-loop μ-loop
 returns-3 c = told-no-requirements (λ k. omega arith) (listed-no-end _ _ _ _ _ (c .before .before .before .loop .inv .1) _ (c .before .before .before .loop .inv .2) (c .before .before .loop-test .left) (c .before .if3 .taken)) _ (c .no-requirements3 .ensures)
@@ -78,21 +51,21 @@ read-requirements-spec =
     (tie.spec
     Inv-loop
     μ-loop
-    byte-at-requires
+    (λ c κs. search needs)
     loop-holds
-    no-requirements-requires
+    (λ c κs. search needs)
     returns
     add-read-requirement
-    read-requirement-requires
-    no-requirements-requires-2
+    (λ c κs. search needs)
+    (λ c κs. search needs)
     returns-2
-    mul-row
-    array-write-row
-    add-n
-    byte-at-requires-2
+    (λ c. search needs)
+    (λ c. search needs)
+    (λ c. search needs)
+    (λ c κs. search needs)
     loop-less
     loop-again
-    no-requirements-requires-3
+    (λ c κs. search needs)
     returns-3
     cast-t14
     add-t15

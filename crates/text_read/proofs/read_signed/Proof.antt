@@ -6,26 +6,11 @@ use borrow.Author.Needs.{needs}
 use Rattle.text_read.proofs.read_signed.Statement.{statement}
 use Rattle.text_read.proofs.read_signed.Tie as tie
 
-byte-at-requires : tie.Need-byte-at-requires
-byte-at-requires c κs = search needs
-
 add-read-natural : tie.Need-add-read-natural
 add-read-natural c = omega (arith, byte-is 45 (c .if1 .taken) (omega arith) (c .before .byte-at .ensures) .0)
 
-add-read-natural-2 : tie.Need-add-read-natural-2
-add-read-natural-2 c = search needs
-
-read-natural-requires : tie.Need-read-natural-requires
-read-natural-requires c κs = search needs
-
-no-read-requires : tie.Need-no-read-requires
-no-read-requires c κs = search needs
-
 returns : tie.Need-returns
 returns c = told-no (c .before .if2 .taken) (minus-no _ _ _ _ _ (c .before .before .before .before .before .before .before .pre .1) (c .before .before .before .before .before .byte-at .ensures) (c .before .before .before .before .if1 .taken) _ (rejected (c .before .if2 .taken) (c .before .before .before .read-natural .ensures))) (IsSigned (c .before .before .before .before .before .before .before .args .bound)) _ (c .no-read .ensures)
-
-no-read-requires-2 : tie.Need-no-read-requires-2
-no-read-requires-2 c κs = search needs
 
 returns-2 : tie.Need-returns-2
 returns-2 c = told-no (λ k. omega (arith, c .before .before .before .before .before .before .before .before .before .pre .0 .some)) (minus-zero _ _ _ _ _ (c .before .before .before .before .before .before .before .before .before .pre .1) (c .before .before .before .before .before .before .before .byte-at .ensures) (c .before .before .before .before .before .before .if1 .taken) _ _ (c .before .if3 .taken) (accepted (c .before .before .before .if2 .left) (c .before .before .before .before .before .read-natural .ensures))) (IsSigned (c .before .before .before .before .before .before .before .before .before .args .bound)) _ (c .no-read2 .ensures)
@@ -35,12 +20,6 @@ sub-t10 c = let x = accepted (c .before .before .before .if2 .left) (c .before .
 
 returns-3 : tie.Need-returns-3
 returns-3 c = minus-took _ _ _ _ _ (c .before .before .before .before .before .before .before .before .before .pre .1) (c .before .before .before .before .before .before .before .byte-at .ensures) (c .before .before .before .before .before .before .if1 .taken) _ _ (c .before .if3 .left) (accepted (c .before .before .before .if2 .left) (c .before .before .before .before .before .read-natural .ensures))
-
-read-natural-requires-2 : tie.Need-read-natural-requires-2
-read-natural-requires-2 c κs = search needs
-
-no-read-requires-3 : tie.Need-no-read-requires-3
-no-read-requires-3 c κs = search needs
 
 returns-4 : tie.Need-returns-4
 returns-4 c = told-no (c .before .if4 .taken) (plus-no _ _ _ _ _ (c .before .before .before .before .before .before .before .pre .1) (c .before .before .before .before .before .byte-at .ensures) (c .before .before .before .before .if1 .left) _ (rejected (c .before .if4 .taken) (c .before .before .before .read-natural2 .ensures))) (IsSigned (c .before .before .before .before .before .before .before .args .bound)) _ (c .no-read3 .ensures)
@@ -55,18 +34,18 @@ pub read-signed-spec : {M : Type 1} → statement M
 read-signed-spec =
     tie.close
     (tie.spec
-    byte-at-requires
+    (λ c κs. search needs)
     add-read-natural
-    add-read-natural-2
-    read-natural-requires
-    no-read-requires
+    (λ c. search needs)
+    (λ c κs. search needs)
+    (λ c κs. search needs)
     returns
-    no-read-requires-2
+    (λ c κs. search needs)
     returns-2
     sub-t10
     returns-3
-    read-natural-requires-2
-    no-read-requires-3
+    (λ c κs. search needs)
+    (λ c κs. search needs)
     returns-4
     add-t12
     returns-5)

@@ -7,23 +7,11 @@ use borrow.Author.Needs.{needs}
 use Rattle.text_read.proofs.read_start.Statement.{statement}
 use Rattle.text_read.proofs.read_start.Tie as tie
 
-read-natural-requires : tie.Need-read-natural-requires
-read-natural-requires c κs = search needs
-
-no-read-requires : tie.Need-no-read-requires
-no-read-requires c κs = search needs
-
 returns : tie.Need-returns
 returns c = told-no (c .before .if1 .taken) (start-no (c .before .before .before .before .before .args .s .now) (c .before .before .before .before .before .args .at) (c .before .before .before .before .before .args .i) _ (rejected (c .before .if1 .taken) (c .before .before .before .read-natural .ensures))) (λ v. Any) _ (c .no-read .ensures)
 
-no-read-requires-2 : tie.Need-no-read-requires-2
-no-read-requires-2 c κs = search needs
-
 returns-2 : tie.Need-returns-2
 returns-2 c = told-no (λ k. omega arith) (start-other (c .before .before .before .before .before .before .before .args .s .now) (c .before .before .before .before .before .before .before .args .at) (c .before .before .before .before .before .before .before .args .i) _ _ (c .before .if2 .taken) (accepted (c .before .before .before .if1 .left) (c .before .before .before .before .before .read-natural .ensures))) (λ v. Any) _ (c .no-read2 .ensures)
-
-behind-blank-requires : tie.Need-behind-blank-requires
-behind-blank-requires c κs = search needs
 
 returns-3 : tie.Need-returns-3
 returns-3 c = blank-on _ _ _ _ (λ v. Any) _ _ _ (omega arith) (start-is (c .before .before .before .before .before .before .before .args .s .now) (c .before .before .before .before .before .before .before .args .at) (c .before .before .before .before .before .before .before .args .i) _ _ (c .before .if2 .left) (accepted (c .before .before .before .if1 .left) (c .before .before .before .before .before .read-natural .ensures))) tt (c .behind-blank .ensures)
@@ -32,10 +20,10 @@ pub read-start-spec : {M : Type 1} → statement M
 read-start-spec =
     tie.close
     (tie.spec
-    read-natural-requires
-    no-read-requires
+    (λ c κs. search needs)
+    (λ c κs. search needs)
     returns
-    no-read-requires-2
+    (λ c κs. search needs)
     returns-2
-    behind-blank-requires
+    (λ c κs. search needs)
     returns-3)

@@ -15,50 +15,14 @@ Inv-loop s shop₀ p₀ i₀ shop p i = (i ≤ slotCount) × Lines s i p shop
 abbrev μ-loop : tie.MeasureT-loop
 μ-loop s shop₀ p₀ i₀ shop p i = slotCount - i
 
-empty-shop-requires : tie.Need-empty-shop-requires Inv-loop μ-loop
-empty-shop-requires c κs = search needs
-
 loop-holds : tie.Need-loop-holds Inv-loop μ-loop
 loop-holds c = (omega arith, lines-start _ _ (c .empty-shop .ensures))
-
-read-line-requires : tie.Need-read-line-requires Inv-loop μ-loop
-read-line-requires c κs = search needs
-
-cast-no-text : tie.Need-cast-no-text Inv-loop μ-loop
-cast-no-text c = search needs
-
-add-no-text : tie.Need-add-no-text Inv-loop μ-loop
-add-no-text c = search needs
-
-no-text-requires : tie.Need-no-text-requires Inv-loop μ-loop
-no-text-requires c κs = search needs
 
 returns : tie.Need-returns Inv-loop μ-loop
 returns c = lines-no _ _ _ _ (c .before .before .before .before .before .loop .inv .1) (c .before .before .before .before .loop-test .taken) _ (rejected (c .before .if1 .taken) (c .before .before .before .read-line .ensures)) _ (c .no-text .ensures)
 
-mul-slot : tie.Need-mul-slot Inv-loop μ-loop
-mul-slot c = search needs
-
-element-set-from-slot : tie.Need-element-set-from-slot Inv-loop μ-loop
-element-set-from-slot c = search needs
-
-add-i : tie.Need-add-i Inv-loop μ-loop
-add-i c = search needs
-
-loop-less : tie.Need-loop-less Inv-loop μ-loop
-loop-less c = omega arith
-
 loop-again : tie.Need-loop-again Inv-loop μ-loop
 loop-again c = (omega arith, lines-next _ _ _ _ (c .before .before .before .before .before .loop .inv .1) (c .before .before .before .before .loop-test .taken) _ _ (accepted (c .before .if1 .left) (c .before .before .before .read-line .ensures)) _ refl)
-
-cast-no-text-2 : tie.Need-cast-no-text-2 Inv-loop μ-loop
-cast-no-text-2 c = search needs
-
-add-no-text-2 : tie.Need-add-no-text-2 Inv-loop μ-loop
-add-no-text-2 c = search needs
-
-no-text-requires-2 : tie.Need-no-text-requires-2 Inv-loop μ-loop
-no-text-requires-2 c κs = search needs
 
 returns-2 : tie.Need-returns-2 Inv-loop μ-loop
 returns-2 c = lines-over _ _ _ _ (c .before .before .before .loop .inv .1) (c .before .before .loop-test .left) (c .before .before .before .loop .inv .0) (c .before .if2 .taken) _ (c .no-text2 .ensures)
@@ -72,20 +36,20 @@ read-text-spec =
     (tie.spec
     Inv-loop
     μ-loop
-    empty-shop-requires
+    (λ c κs. search needs)
     loop-holds
-    read-line-requires
-    cast-no-text
-    add-no-text
-    no-text-requires
+    (λ c κs. search needs)
+    (λ c. search needs)
+    (λ c. search needs)
+    (λ c κs. search needs)
     returns
-    mul-slot
-    element-set-from-slot
-    add-i
-    loop-less
+    (λ c. search needs)
+    (λ c. search needs)
+    (λ c. search needs)
+    (λ c. omega arith)
     loop-again
-    cast-no-text-2
-    add-no-text-2
-    no-text-requires-2
+    (λ c. search needs)
+    (λ c. search needs)
+    (λ c κs. search needs)
     returns-2
     returns-3)

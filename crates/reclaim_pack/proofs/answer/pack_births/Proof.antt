@@ -15,26 +15,11 @@ Inv-loop births₀ live blocks -all -marks end n₀ b₀ births n b = Keeping li
 abbrev μ-loop : tie.MeasureT-loop
 μ-loop births₀ live blocks -all -marks end n₀ b₀ births n b = end - b
 
-known-requires : tie.Need-known-requires Inv-loop μ-loop
-known-requires c κs = search needs
-
-known-births-requires : tie.Need-known-births-requires Inv-loop μ-loop
-known-births-requires c κs = search needs
-
-index-of-requires : tie.Need-index-of-requires Inv-loop μ-loop
-index-of-requires c κs = search needs
-
 loop-holds : tie.Need-loop-holds Inv-loop μ-loop
 loop-holds c = keep-start _ _ _ _ (c .index-of .ensures) (c .before .before .before .before .pre) (c .before .before .before .known .ensures) (c .before .known-births .ensures)
 
-element-copy-out-keep-birth : tie.Need-element-copy-out-keep-birth Inv-loop μ-loop
-element-copy-out-keep-birth c = search needs
-
 keep-birth-requires : tie.Need-keep-birth-requires Inv-loop μ-loop
 keep-birth-requires c κs = keep-room _ _ _ _ _ _ _ (c .before .before .before .loop .inv) (c .before .before .loop-test .taken)
-
-add-b : tie.Need-add-b Inv-loop μ-loop
-add-b c = search needs
 
 loop-less : tie.Need-loop-less Inv-loop μ-loop
 loop-less c = omega (arith, c .before .before .before .loop-test .taken)
@@ -51,13 +36,13 @@ pack-births-spec =
     (tie.spec
     Inv-loop
     μ-loop
-    known-requires
-    known-births-requires
-    index-of-requires
+    (λ c κs. search needs)
+    (λ c κs. search needs)
+    (λ c κs. search needs)
     loop-holds
-    element-copy-out-keep-birth
+    (λ c. search needs)
     keep-birth-requires
-    add-b
+    (λ c. search needs)
     loop-less
     loop-again
     returns)

@@ -14,35 +14,11 @@ Inv-loop live table blocks moved₀ -all end b₀ moved b = Telling live table b
 abbrev μ-loop : tie.MeasureT-loop
 μ-loop live table blocks moved₀ -all end b₀ moved b = end - b
 
-known-requires : tie.Need-known-requires Inv-loop μ-loop
-known-requires c κs = search needs
-
-index-of-requires : tie.Need-index-of-requires Inv-loop μ-loop
-index-of-requires c κs = search needs
-
 loop-holds : tie.Need-loop-holds Inv-loop μ-loop
 loop-holds c = tell-start _ _ _ _ _ (c .index-of .ensures) (c .before .before .before .pre .0) (c .before .before .known .ensures) (c .before .before .before .pre .1)
 
-element-copy-out-moved-word : tie.Need-element-copy-out-moved-word Inv-loop μ-loop
-element-copy-out-moved-word c = search needs
-
-mul-moved-word : tie.Need-mul-moved-word Inv-loop μ-loop
-mul-moved-word c = search needs
-
-element-copy-out-moved-word-2 : tie.Need-element-copy-out-moved-word-2 Inv-loop μ-loop
-element-copy-out-moved-word-2 c = search needs
-
 moved-word-requires : tie.Need-moved-word-requires Inv-loop μ-loop
 moved-word-requires c κs = tell-room _ _ _ _ _ _ _ (c .before .before .before .loop .inv) (c .before .before .loop-test .taken)
-
-mul-moved : tie.Need-mul-moved Inv-loop μ-loop
-mul-moved c = search needs
-
-element-write-moved : tie.Need-element-write-moved Inv-loop μ-loop
-element-write-moved c = search needs
-
-add-b : tie.Need-add-b Inv-loop μ-loop
-add-b c = search needs
 
 loop-less : tie.Need-loop-less Inv-loop μ-loop
 loop-less c = omega (arith, c .before .before .before .loop-test .taken)
@@ -59,16 +35,16 @@ tell-moved-spec =
     (tie.spec
     Inv-loop
     μ-loop
-    known-requires
-    index-of-requires
+    (λ c κs. search needs)
+    (λ c κs. search needs)
     loop-holds
-    element-copy-out-moved-word
-    mul-moved-word
-    element-copy-out-moved-word-2
+    (λ c. search needs)
+    (λ c. search needs)
+    (λ c. search needs)
     moved-word-requires
-    mul-moved
-    element-write-moved
-    add-b
+    (λ c. search needs)
+    (λ c. search needs)
+    (λ c. search needs)
     loop-less
     loop-again
     returns)
