@@ -3,6 +3,8 @@ ghost use mathlib.Core.Path.{_≡_};
 use bill::Billed;
 use bill::bill;
 use model::ItemId;
+use shop::COUNT_FIRST;
+use shop::ITEM_FIRST;
 use shop::SLOTS;
 use shop::Sheet;
 
@@ -177,8 +179,8 @@ fn put_slot(vars: &mut [i32; 1024], basket: &mut [i32; SLOTS], i: usize, t: Take
         let item = t.item;
         let count = t.count;
         let number = t.number;
-        vars[600 + i] = item;
-        vars[620 + i] = count;
+        vars[ITEM_FIRST + i] = item;
+        vars[COUNT_FIRST + i] = count;
         basket[i] = number;
     }
 }

@@ -1,4 +1,5 @@
 // Each call with the numbers of a line, and what it answered as numbers: compile, parse, run beside preview, judge, and an image read or written.
+use crate::changes::WIDE;
 use crate::changes::low8;
 use crate::changes::size;
 use births::start_anew;
@@ -26,7 +27,9 @@ use preview::Previewed;
 use preview::preview;
 use runner::Ran;
 use runner::run;
+use shop::COUNT_FIRST;
 use shop::ENTRIES;
+use shop::ITEM_FIRST;
 use shop::Row;
 use shop::SLOTS;
 use shop::Sheet;
@@ -39,7 +42,7 @@ use shop::with_slot;
 // ---- numbers
 
 fn low16(x: u32) -> u16 {
-    (x % 65536) as u16
+    (x % WIDE) as u16
 }
 
 fn signed16(x: u32) -> i16 {
@@ -470,8 +473,8 @@ fn run_by(
 fn tell_ran(r: Ran, vars: &[i32; 1024], p: Previewed, t: &mut [u32; 16]) {
     t[0] = r.refusal as u32;
     t[1] = r.entered;
-    t[2] = ints::to_bits(vars[600]);
-    t[3] = ints::to_bits(vars[620]);
+    t[2] = ints::to_bits(vars[ITEM_FIRST]);
+    t[3] = ints::to_bits(vars[COUNT_FIRST]);
     t[4] = ints::to_bits(vars[5]);
     t[5] = p.refusal as u32;
     t[6] = bit(agrees(vars, p));
@@ -487,7 +490,7 @@ fn agrees(vars: &[i32; 1024], p: Previewed) -> bool {
     }
     let items = p.items;
     let counts = p.counts;
-    hold(vars, 600, &items) && hold(vars, 620, &counts)
+    hold(vars, ITEM_FIRST, &items) && hold(vars, COUNT_FIRST, &counts)
 }
 
 // Whether the twenty variables from first on are xs.

@@ -3,8 +3,12 @@ use memory::BLOCKS;
 use memory::Births;
 use memory::BlockWords;
 use memory::CommandWords;
+use memory::NODES;
 use memory::NodeWords;
 use memory::Values;
+use model::WIDE16;
+
+pub const WIDE: u32 = WIDE16 as u32;
 
 // A node, a command, a block: the first, how many, the words of one, and what each word is more in each further one. A value: of which node, and its bits.
 pub fn change(
@@ -15,15 +19,15 @@ pub fn change(
     cw: &mut CommandWords,
     bw: &mut BlockWords,
 ) {
-    rows(op == b'n', ws, a[1] % 65536 * 3, 3, a);
-    rows(op == b'c', cw, a[1] % 65536 * 4, 4, a);
-    rows(op == b'b', bw, a[1] % 65536 * 5, 5, a);
+    rows(op == b'n', ws, a[1] % WIDE * 3, 3, a);
+    rows(op == b'c', cw, a[1] % WIDE * 4, 4, a);
+    rows(op == b'b', bw, a[1] % WIDE * 5, 5, a);
     set_value(op == b'v', val, a[1], a[2]);
 }
 
 fn set_value(here: bool, val: &mut Values, node: u32, bits: u32) {
     let i = node as usize;
-    if here && i < 32768 {
+    if here && i < NODES {
         val[i] = ints::from_bits(bits);
     }
 }
@@ -68,7 +72,7 @@ fn word(words: &mut [u16], at: u32, size: u32, a: &mut [u32; 224], i: u32) {
 
 fn set_word(words: &mut [u16], i: usize, x: u32) {
     if i < words.len() {
-        words[i] = (x % 65536) as u16;
+        words[i] = (x % WIDE) as u16;
     }
 }
 

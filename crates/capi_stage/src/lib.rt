@@ -6,12 +6,10 @@ ghost use Rattle.capi_values.specs.Values.{sheetBy};
 ghost use Rattle.capi_stage.specs.Answers.{told, noHead, headTold};
 ghost use Rattle.capi_stage.specs.Told.{headedOf};
 use capi_values::sheet_by;
+use model::INPUT;
 use slots_heading::write_heading;
 use slots_sheet::Heading;
 use slots_sheet::read_heading;
-
-// The bytes that a stage may have (01, Program slots).
-const INPUT: usize = 65536;
 
 // The refusal or 0, how many items and atcs there are, the three timers' items, the setup number, and where the image begins; all else is 0 on a refusal.
 #[repr(C)]

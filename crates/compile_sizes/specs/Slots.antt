@@ -6,7 +6,7 @@ use native.Mathlib.Omega.{arith}
 use borrow.Author.Tests.{le-leb, lt-leb}
 use lib.ListN.{length, take, drop, getD, length-map, drop-of-length-le}
 use lib.Seq.{drop-cons}
-use Rattle.model.specs.Limits.{entryLimit, slotCount}
+use Rattle.model.specs.Limits.{entryLimit, slotCount, wide16}
 use Rattle.model.specs.declared.ItemId.{ItemId}
 use Rattle.model.specs.Requirement.{sorted}
 use Rattle.model.specs.Sheet as Model
@@ -101,5 +101,5 @@ pub all-summed : (h : Model.Sheet) (s : Shop) (i : ℕ) (r : Size) → Summed h 
 unfolding slotsOf
 all-summed h s i r p e = rw e at (p .is)
 
-pub summed-few : {h : Model.Sheet} {xs : List Slot} {i : ℕ} {r : Size} → Summed h xs i r → AtMost r 65536
+pub summed-few : {h : Model.Sheet} {xs : List Slot} {i : ℕ} {r : Size} → Summed h xs i r → AtMost r wide16
 summed-few p = record { blocks = omega (arith, p .few .blocks); commands = omega (arith, p .few .commands); nodes = omega (arith, p .few .nodes) }

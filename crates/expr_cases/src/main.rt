@@ -1,5 +1,6 @@
 // Builds the largest shapes of expressions, evaluates and negates them, and writes for each its last node and what that is worth.
 ghost use Prim.Native.Nat.{_+_, _*_, _≤_, _<_};
+ghost use Rattle.model.specs.Limits.{nodeLimit};
 ghost use Rattle.model.specs.Memory.{nodesIn};
 ghost use Rattle.memory.specs.Pushed.{PutExpr};
 ghost use Rattle.expr_cases.specs.Chain.{yes, chain};
@@ -24,7 +25,7 @@ fn main() {
 
 // 1 == 1
 fn push_yes(ws: &mut NodeWords, val: &mut Values, n: u16) -> u16
-    requires { ⌜ n + 3 ≤ 32768 ⌝ }
+    requires { ⌜ n + 3 ≤ nodeLimit ⌝ }
     ensures { λ m. ⌜ PutExpr (nodesIn (now (ws .entry)) (now (val .entry)) n) yes (nodesIn (now (ws .exit)) (now (val .exit)) m) ⌝ }
 {
     let l = push_node(ws, val, n, 11, 0, 0, 1);
@@ -33,7 +34,7 @@ fn push_yes(ws: &mut NodeWords, val: &mut Values, n: u16) -> u16
 }
 
 fn push_chain(ws: &mut NodeWords, val: &mut Values, n: u16, d: u16) -> u16
-    requires { ⌜ n + (4 * d + 3) ≤ 32768 ⌝ }
+    requires { ⌜ n + (4 * d + 3) ≤ nodeLimit ⌝ }
     ensures { λ m. ⌜ PutExpr (nodesIn (now (ws .entry)) (now (val .entry)) n) (chain d) (nodesIn (now (ws .exit)) (now (val .exit)) m) ⌝ }
 {
     if d == 0 {
@@ -90,7 +91,7 @@ fn largest(ws: &mut NodeWords, val: &mut Values) {
 // ---- a line for each
 
 fn show(ws: &NodeWords, val: &Values, i: u16)
-    requires { ⌜ i < 32768 ⌝ }
+    requires { ⌜ i < nodeLimit ⌝ }
 {
     let items = [0i16; 1];
     let atcs = [0u8; 1];

@@ -7,6 +7,7 @@ use native.Mathlib.Omega.{arith}
 use lib.Dec.{ltb}
 use borrow.Author.Tests.{ltb-true, ltb-false, lt-ltb, le-ltb}
 use lib.ListN.{length}
+use Rattle.model.specs.Limits.{wide16}
 use Rattle.model.specs.Refusal.{badImage}
 use Rattle.model.specs.Reading.{Answer, got, refused, groups, under, number, wordTo, word}
 use Rattle.model.specs.Laws.Reading.{same-groups}
@@ -72,7 +73,7 @@ word-short n = go 5 n
         by false h = omega arith
 
 -- an element of an array takes three groups at most
-pub short-word : (x r : ℕ) → x < 65536 → r ≡ length (word x) → ShortWord x r
+pub short-word : (x r : ℕ) → x < wide16 → r ≡ length (word x) → ShortWord x r
 short-word x r h e = record { is = e; short = go (ltb x 128) (ltb x 16384) refl refl; low = h }
   where
     go : (t u : Bool) → ltb x 128 ≡ t → ltb x 16384 ≡ u → r ≤ 3

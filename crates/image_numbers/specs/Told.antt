@@ -3,6 +3,7 @@ use mathlib.Core.Path.{_≡_}
 use mathlib.Core.List.{List}
 use Prim.Native.Nat.{ℕ, _≤_, _<_}
 use lib.ListN.{length, drop}
+use Rattle.model.specs.Limits.{wide16}
 use Rattle.model.specs.Refusal.{badImage}
 use Rattle.model.specs.Reading.{Answer, got, refused, word}
 use Rattle.image_numbers.specs.declared.Num.{Num}
@@ -16,4 +17,4 @@ Told s Bad a = a ≡ refused badImage
 pub record ShortWord (x r : ℕ) : Type 0 where
   pub is : r ≡ length (word x)
   pub short : r ≤ 3
-  pub low : x < 65536
+  pub low : x < wide16

@@ -9,6 +9,7 @@ use lib.Dec.{ltb}
 use lib.IntN.{ℤ}
 use lib.ListN.{length, getD}
 use borrow.Author.Tests.{ltb-true, ltb-false}
+use Rattle.model.specs.Limits.{wide16, nodeLimit}
 use Rattle.memory.specs.declared.Counts.{Counts}
 use Rattle.model.specs.Expr.{size}
 use Rattle.model.specs.Reading.{Answer, word}
@@ -35,13 +36,13 @@ passes {to = to} p e = record { to = to; told = rw e at p }
 -- ---- expressions
 
 module _ (t : List ℕ) (l i : ℕ) where
-  term-at : i < l → getD t i 0 < 65536 → TermCount t l i (getD t i 0)
+  term-at : i < l → getD t i 0 < wide16 → TermCount t l i (getD t i 0)
   term-at h f = record { few = f; narrow = λ lt ws vs T. few-shallow ws vs T i h lt; reads = λ ws vs T S n at room. root-reads ws vs T i n at h S room }
 
-  pub term-there : (j r : ℕ) → i < l → j ≡ i → r ≡ getD t j 0 → r < 65536 → TermCount t l i r
+  pub term-there : (j r : ℕ) → i < l → j ≡ i → r ≡ getD t j 0 → r < wide16 → TermCount t l i r
   term-there j r h ej er f = let e : r ≡ getD t i 0 = er ∙ ap (λ (x : ℕ). getD t x 0) ej in rw e (term-at h (omega arith))
 
-  pub term-absent : l ≤ 32768 → TermCount t l i 40000
+  pub term-absent : l ≤ nodeLimit → TermCount t l i 40000
   term-absent hl = record { few = omega arith; narrow = λ lt ws vs T. absurd (omega arith); reads = λ ws vs T S n at room. absurd (omega arith) }
 
 -- ---- the levels of a command's expressions
@@ -68,7 +69,7 @@ module _ (t cw : List ℕ) (k : Counts) (K : KeptBy k) where
 
   -- ---- a block that is named
 
-  named-told : {b r : ℕ} → Named b (k .blocks) r → r ≤ 32768 → (n at : ℕ) → Told (readBlockNo (k .blocks)) uncounted (word b) n 3 n at (Fine n (at + length (word b)))
+  named-told : {b r : ℕ} → Named b (k .blocks) r → r ≤ nodeLimit → (n at : ℕ) → Told (readBlockNo (k .blocks)) uncounted (word b) n 3 n at (Fine n (at + length (word b)))
   named-told {b} N h n at =
       let lt = N .there h in
       let lb = K .blocks in

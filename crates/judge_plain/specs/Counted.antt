@@ -4,6 +4,7 @@ use mathlib.Core.List.{List, []}
 use Prim.Native.Nat.{ℕ, _+_, _*_, _≤_, _<_}
 use lib.IntN.{ℤ}
 use lib.ListN.{length, getD}
+use Rattle.model.specs.Limits.{wide16, nodeLimit}
 use Rattle.memory.specs.declared.Counts.{Counts}
 use Rattle.model.specs.Reading.{Answer, got}
 use Rattle.model.specs.Script.{Block, commandNodes, commandsNodes}
@@ -39,7 +40,7 @@ pub record Stands (f : List ℕ → Answer Block) (w : List ℕ) (l c x n m at r
 
 -- an expression whose root is node i: fewer than 64 nodes have no 65 levels
 pub record TermCount (t : List ℕ) (l i r : ℕ) : Type 0 where
-  pub few : r < 65536
+  pub few : r < wide16
   pub narrow : r < 64 → (ws : List ℕ) (vs : List ℤ) → Trees ws vs t l → Shallow ws 64 i
   pub reads : (ws : List ℕ) (vs : List ℤ) → Trees ws vs t l → Shallow ws 64 i → (n at : ℕ) → n + r ≤ l → Reads ws vs l l i n at 0 r
 
@@ -52,8 +53,8 @@ pub record Levels (ws cw : List ℕ) (i c : ℕ) : Type 0 where
 -- block k is there, or too many
 pub record Named (k b r : ℕ) : Type 0 where
   pub few : r ≤ 40000
-  pub none : r ≤ 32768 → r ≡ 0
-  pub there : r ≤ 32768 → k < b
+  pub none : r ≤ nodeLimit → r ≡ 0
+  pub there : r ≤ nodeLimit → k < b
 
 -- what follows the code c of command i
 pub record TailCount (t cw : List ℕ) (k : Counts) (i c r : ℕ) : Type 0 where

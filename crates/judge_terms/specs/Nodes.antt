@@ -7,7 +7,7 @@ use native.Mathlib.Omega.{arith}
 use lib.Dec.{ltb}
 use borrow.Author.Tests.{ltb-true, ltb-false, lt-ltb, le-ltb}
 use lib.ListN.{length, length-append}
-use Rattle.model.specs.Limits.{wide}
+use Rattle.model.specs.Limits.{wide, wide16}
 use Rattle.model.specs.Refusal.{badImage, overLimit, tooDeep}
 use Rattle.model.specs.Reading.{got, refused, onward, number, word, zig, zag}
 use Rattle.model.specs.Expr.{Expr, two, one, imm16, imm32, other, size}
@@ -147,9 +147,9 @@ module _ (ns : Nodes) (b i l n at o : ℕ) (k : Kind) (W : Within ns b i l n o k
           })
       go false q = none (λ t. rw (read-over lim (zig (valueAt ns i)) t (ltb-false (zig (valueAt ns i)) lim q)))
 
-  pub node-imm16 : (r : Step) → k ≡ Imm16 → zig (valueAt ns i) < wide → r ≡ immJudged (zig (valueAt ns i)) 65536 (n + 1) (at + 1) → Told (readExpr l (64 - o) n) size (nodeImage ns b i) l 0 n at r
+  pub node-imm16 : (r : Step) → k ≡ Imm16 → zig (valueAt ns i) < wide → r ≡ immJudged (zig (valueAt ns i)) wide16 (n + 1) (at + 1) → Told (readExpr l (64 - o) n) size (nodeImage ns b i) l 0 n at r
   unfolding readOperands followImage inner
-  node-imm16 r kk wd er = node-of (rw kk (number-told 65536 (λ v. imm16 (zag v)) r (λ v. refl) wd er))
+  node-imm16 r kk wd er = node-of (rw kk (number-told wide16 (λ v. imm16 (zag v)) r (λ v. refl) wd er))
 
   pub node-imm32 : (r : Step) → k ≡ Imm32 → zig (valueAt ns i) < wide → r ≡ immJudged (zig (valueAt ns i)) 4294967296 (n + 1) (at + 1) → Told (readExpr l (64 - o) n) size (nodeImage ns b i) l 0 n at r
   unfolding readOperands followImage inner

@@ -10,7 +10,7 @@ use lib.Signed.{ltZ}
 use borrow.Author.Tests.{ltb-false}
 use mir.Syntax.{w32}
 use mir.Val.{SFits}
-use Rattle.model.specs.Limits.{wide}
+use Rattle.model.specs.Limits.{wide, wide16}
 use Rattle.model.specs.Reading.{zig}
 use Rattle.model.specs.Image.{kinds, kindOf}
 use Rattle.model.specs.declared.Op2.{Op2}
@@ -86,13 +86,13 @@ ones (suc (suc (suc (suc (suc d))))) h = absurd (omega arith)
 
 -- ---- an immediate
 
-zig-short : (z : ℤ) → ltZ z (negsuc 32767) ≡ false → ltZ (pos 32767) z ≡ false → zig z < 65536
+zig-short : (z : ℤ) → ltZ z (negsuc 32767) ≡ false → ltZ (pos 32767) z ≡ false → zig z < wide16
 unfolding zig
 zig-short (pos n) p q = omega (arith, ltb-false 32767 n q)
 zig-short (negsuc n) p q = omega (arith, ltb-false 32767 n p)
 
 module _ (z : ℤ) where
-  pub number-16 : ltZ z (negsuc 32767) ≡ false → ltZ (pos 32767) z ≡ false → Number z 65536 1
+  pub number-16 : ltZ z (negsuc 32767) ≡ false → ltZ (pos 32767) z ≡ false → Number z wide16 1
   number-16 p q = record { leaf = refl; low = zig-short z p q }
 
   pub number-32 : SFits w32 z → Number z wide 1
@@ -114,7 +114,7 @@ module _ (ws : List ℕ) (vs : List ℤ) {t : List ℕ} {i s : ℕ} (B : Before 
       let z = J .size in
       record { left = omega arith; right = omega arith; size = omega (arith, B .last b e) }
 
-  pub tree-11 : {r : ℕ} → getD ws (3 * i) 0 ≡ 11 → Number (getD vs i (pos 0)) 65536 r → Tree ws vs t i r
+  pub tree-11 : {r : ℕ} → getD ws (3 * i) 0 ≡ 11 → Number (getD vs i (pos 0)) wide16 r → Tree ws vs t i r
   unfolding kindOf kinds
   tree-11 e N = let z = N .leaf in record { known = omega arith; few = omega arith; node = imm16 (ap kindOf (sym e)) N }
 

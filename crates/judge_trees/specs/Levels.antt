@@ -5,7 +5,7 @@ use Prim.Native.Nat.{ℕ, zero, suc, _+_, _-_, _*_, _≤_, _<_}
 use native.Mathlib.Omega.{arith}
 use lib.IntN.{ℤ, pos}
 use lib.ListN.{getD}
-use Rattle.model.specs.Limits.{wide}
+use Rattle.model.specs.Limits.{wide, wide16}
 use Rattle.model.specs.Reading.{zig}
 use Rattle.model.specs.Expr.{size}
 use Rattle.model.specs.Image.{kindOf, readExpr}
@@ -149,7 +149,7 @@ module _ (ws : List ℕ) (vs : List ℤ) (t : List ℕ) where
   node-reads : (d i : ℕ) → getD ws (3 * i) 0 < 19 → Node ws vs t i (getD t i 0) → Operands (Shallow ws d) ws i → ((j : ℕ) → j < i → Shallow ws d j → ReadsBy ws vs t d j) → ReadsBy ws vs t (suc d) i
   node-reads d i low (two x e A) O ih = reads-two d i (Two x) low e ih x refl A (O .left x e) (O .right x e)
   node-reads d i low (one x e A) O ih = reads-one d i (One x) low e ih x refl A (O .only x e)
-  node-reads d i low (imm16 e N) O ih = reads-imm d i Imm16 low e 65536 (omega arith) (λ b n at o l W wd s q. node-imm16 (nodesIn ws vs l) b i l n at o Imm16 W s refl wd q) N
+  node-reads d i low (imm16 e N) O ih = reads-imm d i Imm16 low e wide16 (omega arith) (λ b n at o l W wd s q. node-imm16 (nodesIn ws vs l) b i l n at o Imm16 W s refl wd q) N
   node-reads d i low (imm32 e N) O ih = reads-imm d i Imm32 low e wide (omega arith) (λ b n at o l W wd s q. node-imm32 (nodesIn ws vs l) b i l n at o Imm32 W s refl wd q) N
   node-reads d i low (other e z) O ih = reads-other d i Other low e refl z
 

@@ -6,7 +6,7 @@ use Prim.Native.Nat.{ℕ, zero, suc, _+_, _-_, _*_, _≤_, _<_}
 use lib.Dec.{T as Holds}
 use lib.IntN.{ℤ, pos}
 use lib.ListN.{length, getD}
-use Rattle.model.specs.Limits.{wide}
+use Rattle.model.specs.Limits.{wide, wide16}
 use Rattle.model.specs.Reading.{zig}
 use Rattle.model.specs.Expr.{size}
 use Rattle.model.specs.Image.{kindOf, readExpr}
@@ -39,7 +39,7 @@ pub record AboveTwo (t : List ℕ) (i a b r : ℕ) : Type 0 where
 pub data Node (ws : List ℕ) (vs : List ℤ) (t : List ℕ) (i r : ℕ) : Type 0 where
   two : (x : Op2) → Two x ≡ kindOf (getD ws (3 * i) 0) → AboveTwo t i (getD ws (3 * i + 1) 0) (getD ws (3 * i + 2) 0) r → Node ws vs t i r
   one : (x : Op1) → One x ≡ kindOf (getD ws (3 * i) 0) → AboveOne t i (getD ws (3 * i + 1) 0) r → Node ws vs t i r
-  imm16 : Imm16 ≡ kindOf (getD ws (3 * i) 0) → Number (getD vs i (pos 0)) 65536 r → Node ws vs t i r
+  imm16 : Imm16 ≡ kindOf (getD ws (3 * i) 0) → Number (getD vs i (pos 0)) wide16 r → Node ws vs t i r
   imm32 : Imm32 ≡ kindOf (getD ws (3 * i) 0) → Number (getD vs i (pos 0)) wide r → Node ws vs t i r
   other : Other ≡ kindOf (getD ws (3 * i) 0) → r ≡ 1 → Node ws vs t i r
 

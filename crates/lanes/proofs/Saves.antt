@@ -11,7 +11,7 @@ use lib.Seq.{drop-drop, length-take-le, take-all}
 use lib.IntN.{ℤ}
 use mir.Syntax.{w16, w32}
 use borrow.Author.Tests.{eqb-true, eq-eqb, le-leb, lt-leb}
-use Rattle.model.specs.Limits.{flagCount, timeCount, variableCount, mostSaves, mostItems}
+use Rattle.model.specs.Limits.{flagCount, timeCount, variableCount, mostSaves, mostItems, wide, wide16}
 use Rattle.model.specs.Refusal.{firstOf, check}
 use Rattle.model.specs.Signed.{inRange}
 use Rattle.model.specs.Save.{Save}
@@ -186,7 +186,7 @@ pub few-items : (ks : List ℕ) (s : code.Sheet) (m : Memory) (b : ℕ) → call
 unfolding sheetOf
 few-items ks s m b e = let a = items-few (sheetOf ks s) (call-passed (sheetOf ks s) m b e .sheet) in rw length-map at a
 
-pub product-low : (k n : ℕ) → k < 4294967296 → n < 65536 → k * n < 281474976710656
+pub product-low : (k n : ℕ) → k < wide → n < wide16 → k * n < wide * wide16
 product-low k n h g = let q : k ≤ 4294967295 = omega arith in let a = mul-le-mul-right n q in omega arith
 
 pub saves-long : (ks : List ℕ) (h : code.Sheet) (f : Save) (k : ℕ) → lengthsOk (sheetOf ks h) k f ≡ true → length (f .variables) ≡ k * variableCount

@@ -6,7 +6,7 @@ ghost use Prim.Native.Nat.{ℕ, _+_, _-_, _*_, _≤_, _<_};
 ghost use lib.Dec.{eqb};
 ghost use lib.IntN.{ℤ};
 ghost use lib.ListN.{getD, length};
-ghost use Rattle.model.specs.Limits.{laneBudget, mostSaves, mostItems, variableCount};
+ghost use Rattle.model.specs.Limits.{laneBudget, mostSaves, mostItems, variableCount, wide, wide16};
 ghost use Rattle.model.specs.Run.{run};
 ghost use Rattle.model.specs.Memory.{scriptOf};
 ghost use Rattle.memory.specs.View.{memoryOf};
@@ -344,7 +344,7 @@ fn lengths_ok(
     times: &[i16],
     vars: &[i32],
 ) -> bool
-    requires { ⌜ (k < 4294967296) × (n < 65536) × (m < 65536) × (k * n < 281474976710656) × (k * m < 281474976710656) ⌝ }
+    requires { ⌜ (k < wide) × (n < wide16) × (m < wide16) × (k * n < wide * wide16) × (k * m < wide * wide16) ⌝ }
     ensures { λ r. ⌜ r ≡ lengthsAre k n m (saveOf (now (items .entry)) (now (atcs .entry)) (now (flags .entry)) (now (times .entry)) (now (vars .entry))) ⌝ }
 {
     let a = items.len() == k * n;

@@ -4,6 +4,7 @@ use mathlib.Core.Option.{Option, none, some}
 use mathlib.Core.List.{List, [], _∷_}
 use Prim.Native.Nat.{ℕ}
 use lib.IntN.{ℤ, pos, negsuc}
+use Rattle.model.specs.Limits.{itemFirst, countFirst}
 use Rattle.model.specs.Expr.{Expr, two, one, imm16, imm32, imm}
 use Rattle.model.specs.declared.Op2.the-variants.{Equal, NotEqual, Less, Subtract, BitAnd, BitOr}
 use Rattle.model.specs.declared.Op1.the-variants.{Not, Flag, Variable, Item, Atc, Time}
@@ -19,7 +20,7 @@ blocksOf x = slotBlocks sheet 0 4 x
 
 -- the two writes of slot 0
 abbrev writes : Expr → Expr → List Command → List Command
-writes a b cs = setVariable (imm16 (pos 600)) a ∷ setVariable (imm16 (pos 620)) b ∷ cs
+writes a b cs = setVariable (imm16 (pos itemFirst)) a ∷ setVariable (imm16 (pos countFirst)) b ∷ cs
 
 abbrev num : ℕ → Expr
 num n = imm16 (pos n)

@@ -7,6 +7,7 @@ use Prim.Native.Nat.{ℕ, zero, suc, _+_}
 use lib.ListN.{getD, set, length, replicate}
 use lib.IntN.{ℤ, pos, negsuc}
 use lib.Dec.{ltb, leb, eqb}
+use Rattle.model.specs.Limits.{itemFirst, countFirst}
 use Rattle.model.specs.Signed.{wrap, bitsOf}
 use Rattle.model.specs.Save.{Save}
 use Rattle.model.specs.Expr.{one, imm, imm16, imm32, size}
@@ -52,7 +53,7 @@ saved w n f b t = record {
 
 -- the answer, the slot's pair and the blocks entered
 pub brief : Ran → List ℤ
-brief r = pos (r .answer) ∷ getD (r .variables) 600 (pos 0) ∷ getD (r .variables) 620 (pos 0) ∷ pos (r .entered) ∷ []
+brief r = pos (r .answer) ∷ getD (r .variables) itemFirst (pos 0) ∷ getD (r .variables) countFirst (pos 0) ∷ pos (r .entered) ∷ []
 
 pub ranAt : Slot → Save → List ℤ
 ranAt x s = brief (runCall sheet (with x) 0 s 82)
@@ -92,7 +93,7 @@ hidesUnder cs = counted (code (ifElse (one Flag (imm16 (pos 1))) 0 ∷ []) (some
 
 -- item w and count w into slot 0
 pub fills : ℕ → Block
-fills w = code (emitSet 600 (imm16 (pos w)) ∷ emitSet 620 (imm16 (pos w)) ∷ []) none none
+fills w = code (emitSet itemFirst (imm16 (pos w)) ∷ emitSet countFirst (imm16 (pos w)) ∷ []) none none
 
 -- an If on flag[1] whose next fills slot 0 with item 1, limit 1 and whose else with item 2, limit 2
 pub bothWays : Script
@@ -164,11 +165,11 @@ table =
     ∷ case (parsedAt (with (p5 (pos 1)))) (pos 0 ∷ pos 7 ∷ pos 1 ∷ pos 4 ∷ pos 9 ∷ [])
     ∷ case (parsedAt (with (p5 (pos 3)))) (pos 0 ∷ pos 7 ∷ pos 3 ∷ pos 0 ∷ pos 7 ∷ pos 4 ∷ pos 9 ∷ [])
     -- P6: a count Imm32 65,537 reads as 1
-    ∷ case (parsedAt (oneBlock (emitSet 600 (imm16 (pos 3)) ∷ emitSet 620 (imm32 (pos 65537)) ∷ []))) (pos 0 ∷ pos 3 ∷ pos 1 ∷ [])
+    ∷ case (parsedAt (oneBlock (emitSet itemFirst (imm16 (pos 3)) ∷ emitSet countFirst (imm32 (pos 65537)) ∷ []))) (pos 0 ∷ pos 3 ∷ pos 1 ∷ [])
     -- P7: 600 := −1 without a count adds nothing
-    ∷ case (parsedAt (hidesUnder (emitSet 600 (imm16 (negsuc 0)) ∷ []))) (pos 0 ∷ negsuc 0 ∷ pos 0 ∷ [])
+    ∷ case (parsedAt (hidesUnder (emitSet itemFirst (imm16 (negsuc 0)) ∷ []))) (pos 0 ∷ negsuc 0 ∷ pos 0 ∷ [])
     -- with a count it adds the negated condition
-    ∷ case (parsedAt (hidesUnder (emitSet 600 (imm16 (negsuc 0)) ∷ emitSet 620 (imm16 (pos 0)) ∷ []))) (pos 0 ∷ negsuc 0 ∷ pos 0 ∷ pos 5 ∷ pos 1 ∷ [])
+    ∷ case (parsedAt (hidesUnder (emitSet itemFirst (imm16 (negsuc 0)) ∷ emitSet countFirst (imm16 (pos 0)) ∷ []))) (pos 0 ∷ negsuc 0 ∷ pos 0 ∷ pos 5 ∷ pos 1 ∷ [])
     -- next before else: the item is that of next, which fills the slot, the limit that of else, which replaces it
     ∷ case (parsedAt bothWays) (pos 0 ∷ pos 1 ∷ pos 2 ∷ [])
     -- P8: Timer5, not acquired, no other timer; with Timer10

@@ -7,6 +7,9 @@ pub const HALF16: u16 = 32768;
 
 pub const LEAST16: i32 = -32768;
 
+// The bytes that the program slots reads, a stage (01, Program slots).
+pub const INPUT: usize = 65536;
+
 // Kinds with two operands.
 pub enum Op2 {
     Equal,

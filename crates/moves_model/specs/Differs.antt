@@ -39,24 +39,24 @@ module _ (h : Sheet) (w n : ℕ) (s t : Save) (m : OneMore w n s t) (ys : List S
       rw (a .first, b .first, e) (after-lower w n s t m h ys _ _ same)
 
   rest-same : (j : ℕ) → j ≢ 0 → ((i : ℕ) → i < length ys → stocks h w (slot i) ≡ true → j ≢ countFirst + i) → getD u j (pos 0) ≡ getD v j (pos 0)
-  rest-same j z out = by (decLe 600 j) (decLe (600 + length ys) j) (decLe 620 j) (decLe (620 + length ys) j)
+  rest-same j z out = by (decLe itemFirst j) (decLe (itemFirst + length ys) j) (decLe countFirst j) (decLe (countFirst + length ys) j)
     where
-      apart : ((i : ℕ) → i < length ys → (j ≢ 600 + i) × (j ≢ 620 + i)) → getD u j (pos 0) ≡ getD v j (pos 0)
+      apart : ((i : ℕ) → i < length ys → (j ≢ itemFirst + i) × (j ≢ countFirst + i)) → getD u j (pos 0) ≡ getD v j (pos 0)
       apart f = a .others j z f ∙ ap (λ l. getD l j (pos 0)) (m .variables) ∙ sym (b .others j z f)
 
-      count : (i : ℕ) → i < length ys → j ≡ 620 + i → (x : Bool) → stocks h w (slot i) ≡ x → getD u j (pos 0) ≡ getD v j (pos 0)
+      count : (i : ℕ) → i < length ys → j ≡ countFirst + i → (x : Bool) → stocks h w (slot i) ≡ x → getD u j (pos 0) ≡ getD v j (pos 0)
       count i l e true p = absurd (out i l p e)
       count i l e false p = rw e (counts-same i l p)
 
-      by : Dec (600 ≤ j) → Dec (600 + length ys ≤ j) → Dec (620 ≤ j) → Dec (620 + length ys ≤ j) → getD u j (pos 0) ≡ getD v j (pos 0)
+      by : Dec (itemFirst ≤ j) → Dec (itemFirst + length ys ≤ j) → Dec (countFirst ≤ j) → Dec (countFirst + length ys ≤ j) → getD u j (pos 0) ≡ getD v j (pos 0)
       by (no p) c d e = apart (λ i l. (omega arith, omega arith))
       by (yes p) (no c) d e =
-          let i : j ≡ 600 + (j - 600) = omega arith in
-          rw i (items-same (j - 600) (omega arith))
+          let i : j ≡ itemFirst + (j - itemFirst) = omega arith in
+          rw i (items-same (j - itemFirst) (omega arith))
       by (yes p) (yes c) (no d) e = apart (λ i l. (omega arith, omega arith))
       by (yes p) (yes c) (yes d) (no e) =
-          let i : j ≡ 620 + (j - 620) = omega arith in
-          count (j - 620) (omega arith) i (stocks h w (slot (j - 620))) refl
+          let i : j ≡ countFirst + (j - countFirst) = omega arith in
+          count (j - countFirst) (omega arith) i (stocks h w (slot (j - countFirst))) refl
       by (yes p) (yes c) (yes d) (yes e) = apart (λ i l. (omega arith, omega arith))
 
 -- the first slots of a shop are slots of it

@@ -8,6 +8,7 @@ use native.Mathlib.Omega.{arith}
 use lib.IntN.{ℤ}
 use lib.ListN.{getD, set, length, length-set, length-append}
 use lib.Seq.{getD-set-same, getD-set-other}
+use Rattle.model.specs.Limits.{wide16}
 use Rattle.model.specs.Requirement.{Requirement}
 use Rattle.model.specs.Sheet.{Sheet}
 use Rattle.model.specs.Image.{kindOf}
@@ -155,7 +156,7 @@ module _ (ws : List ℕ) (vs : List ℤ) (k : Known) (b i : ℕ) (neg : Bool) (r
       no-room = λ e h n q u v. omega (arith, one-found ks' (w .count) (w .word) (asked h n) (x .leaf nr h n q) nz);
     }
 
-    pub leaf-one : (s : ℕ) → at < length ls → s ≡ w .count * 65536 + at + 1 → ReadCondition ws vs k b i (λ h e. alone h e neg) r ks ls ks' kd' cs' (set ls at (w .word)) s
+    pub leaf-one : (s : ℕ) → at < length ls → s ≡ w .count * wide16 + at + 1 → ReadCondition ws vs k b i (λ h e. alone h e neg) r ks ls ks' kd' cs' (set ls at (w .word)) s
     leaf-one s l es =
         let m = p .small in
         let ek : keysOf s ≡ w .count = omega arith in

@@ -4,6 +4,7 @@ use mathlib.Core.List.{List, [], _∷_}
 use Prim.Native.Nat.{ℕ, suc, _+_, _/_, _%_, _≤_, _<_}
 use lib.ListN.{getD, length}
 use lib.IntN.{ℤ}
+use Rattle.model.specs.Limits.{wide16}
 use Rattle.model.specs.Requirement.{Requirement}
 use Rattle.model.specs.Sheet.{Sheet}
 use Rattle.model.specs.Expr.{Expr}
@@ -18,10 +19,10 @@ Listing ks m ls at (q ∷ qs) to = Stand ks m (getD ls at 0) q × Listing ks m l
 
 -- how far the keys and the list have come, as one number
 abbrev pub keysOf : ℕ → ℕ
-keysOf r = r / 65536
+keysOf r = r / wide16
 
 abbrev pub usedOf : ℕ → ℕ
-usedOf r = r % 65536
+usedOf r = r % wide16
 
 abbrev pub full : ℕ
 full = 4294967295

@@ -11,13 +11,14 @@ use memory::index_of;
 use memory::kind_of;
 use model::Kind;
 use model::Op1;
+use model::WIDE16;
 use parse_keys::Known;
 use parse_keys::NO_ROOM;
 use parse_keys::read_entry;
 
 // How far the keys and the list of entries have come is one number, which a call returns in a register: keys * 65536 + entries.
 // This one says that there is no room.
-pub const PLACES: u32 = 65536;
+pub const PLACES: u32 = WIDE16 as u32;
 
 pub const FULL: u32 = 4294967295;
 

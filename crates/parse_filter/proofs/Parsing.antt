@@ -6,6 +6,7 @@ use Prim.Native.Nat.{ℕ, zero, suc, _/_, _≤_, _<_}
 use native.Mathlib.Omega.{arith}
 use lib.ListN.{getD, length, take}
 use lib.Seq.{getD-take, length-take-le}
+use Rattle.model.specs.Limits.{wide16}
 use Rattle.model.specs.Laws.Checks.{and-left, and-right}
 use Rattle.shop.specs.Sets.{sortedCodes}
 use Rattle.parse_keys.specs.Entries.{Valid, entryCode}
@@ -227,10 +228,10 @@ module _ (ks cs cells list : List ℕ) (s₀ : List Bool) (al₀ : List ℕ) (ol
         pub asks-codes : Coded ks cs al₃ n
         asks-codes = alive-coded ks cs cells list (length s₀) (length al₀) (old .first) first b s₂ al₃ n rest (t ∙ r)
 
-        pub first-fits : first < 65536
+        pub first-fits : first < wide16
         first-fits = omega (arith, b .asked, b .most)
 
-        pub alive-fits : n < 65536
+        pub alive-fits : n < wide16
         alive-fits = omega (arith, b .few, alive-few ks cs cells list (length s₀) (length al₀) (old .first) first b s₂ al₃ n rest)
 
         pub parsed : (codes : List ℕ) (len : ℕ) → Holds (companionCodes ks cs (take n al₃)) codes len

@@ -5,7 +5,7 @@ use Prim.Native.Nat.{ℕ, zero, suc, _+_, _*_, _-_, _/_, _%_, _≤_, _<_}
 use lib.Dec.{leb, eqb}
 use lib.ListN.{getD, length}
 use lib.Seq.{slice}
-use Rattle.model.specs.Limits.{wide}
+use Rattle.model.specs.Limits.{wide, wide16}
 use Rattle.parse_keys.specs.Entries.{Valid}
 
 -- ---- entries and companions
@@ -114,8 +114,8 @@ pub record Bounds (ks cs cells list : List ℕ) (size room old first : ℕ) : Ty
   pub chains : Chains cs cells list size top keys used
   pub marked : old ≤ top
   pub asked : first ≤ top
-  pub most : top < 65536
-  pub few : used < 65536
+  pub most : top < wide16
+  pub few : used < wide16
   pub space : used ≤ room
   pub subjects : keys < length ks
   pub small : (i : ℕ) → 0 < i → i ≤ keys → getD ks i 0 + wide < 18446744073709551616

@@ -9,7 +9,7 @@ use lib.Dec.{ltb, eqb}
 use lib.ListN.{getD}
 use lib.IntN.{ℤ, pos, negsuc}
 use borrow.Author.Tests.{lt-ltb, le-ltb, eq-eqb, ne-eqb, ltb-true, eqb-true, eqb-false}
-use Rattle.model.specs.Limits.{wide}
+use Rattle.model.specs.Limits.{wide, wide16}
 use Rattle.model.specs.Signed.{isZero}
 use Rattle.model.specs.Requirement.{Requirement, haveItem, haveAtc, haveFlag, number, negateReq}
 use Rattle.model.specs.Sheet.{Sheet}
@@ -40,7 +40,7 @@ subject-of r e n = let b = code-stands r n in record { have = rw b e; code = ap 
 codes-of : (c : ℕ) (r : Requirement) → c ≡ codeOf r → 0 < c → isMissing r ≡ false → InRange (number r) → Codes c r
 codes-of c r e p h f = let n : Narrow r = record { fits = f } in record { some = p; subject = rw e (subject-of r h n); is = rw e (code-stands r n) }
 
-module _ (base n : ℕ) (f : ℕ → Requirement) (small : n < 65536) (code : (k : ℕ) → base + (k + half) ≡ codeOf (f k)) (have : (k : ℕ) → isMissing (f k) ≡ false)
+module _ (base n : ℕ) (f : ℕ → Requirement) (small : n < wide16) (code : (k : ℕ) → base + (k + half) ≡ codeOf (f k)) (have : (k : ℕ) → isMissing (f k) ≡ false)
     (fits : (k : ℕ) → k < half → InRange (number (f k))) where
   id-is : (s : ℕ) (z : Option ℤ) → Numbered s z → Coded (idCode base n s) (idBelow n f z)
   id-is s none e = rw (e, le-ltb half n (omega arith)) refl
@@ -69,7 +69,7 @@ readCode n a Item s = idCode 0 n s
 readCode n a Atc s = idCode (2 * wide) a s
 readCode n a Time s = 0
 
-read-is : (h : Sheet) (n a : ℕ) (o : Op1) (s : ℕ) (z : Option ℤ) → Has h n a → n < 65536 → a < 65536 → Numbered s z → Coded (readCode n a o s) (readReq h o z)
+read-is : (h : Sheet) (n a : ℕ) (o : Op1) (s : ℕ) (z : Option ℤ) → Has h n a → n < wide16 → a < wide16 → Numbered s z → Coded (readCode n a o s) (readReq h o z)
 read-is h n a Not s z g p q e = refl
 read-is h n a Flag s z g p q e = flag-is s z e
 read-is h n a Variable s z g p q e = refl
@@ -78,7 +78,7 @@ read-is h n a Atc s z g p q e = rw (g .atcs) (id-is (2 * wide) a haveAtc q (λ k
 read-is h n a Time s z g p q e = refl
 
 -- codes leave room for a sign
-id-most : (base n s : ℕ) → base ≤ 2 * wide → n < 65536 → idCode base n s < 8 * wide
+id-most : (base n s : ℕ) → base ≤ 2 * wide → n < wide16 → idCode base n s < 8 * wide
 id-most base n s p q = by (ltb s half) (ltb (s - half) n) refl refl
   where
     by : (t u : Bool) → ltb s half ≡ t → ltb (s - half) n ≡ u → cond t 0 (cond u (base + s) 0) < 8 * wide
@@ -93,7 +93,7 @@ flag-most s = by (ltb s wide) refl
     by true e = omega (arith, ltb-true s wide e)
     by false e = omega arith
 
-read-most : (n a : ℕ) (o : Op1) (s : ℕ) → n < 65536 → a < 65536 → readCode n a o s < 8 * wide
+read-most : (n a : ℕ) (o : Op1) (s : ℕ) → n < wide16 → a < wide16 → readCode n a o s < 8 * wide
 read-most n a Not s p q = omega arith
 read-most n a Flag s p q = flag-most s
 read-most n a Variable s p q = omega arith
@@ -101,7 +101,7 @@ read-most n a Item s p q = id-most 0 n s (omega arith) p
 read-most n a Atc s p q = id-most (2 * wide) a s (omega arith) q
 read-most n a Time s p q = omega arith
 
-pub read-by : (n a : ℕ) (o : Op1) (s c : ℕ) → n < 65536 → a < 65536 → c ≡ readCode n a o s → ReadCode n a o s c
+pub read-by : (n a : ℕ) (o : Op1) (s c : ℕ) → n < wide16 → a < wide16 → c ≡ readCode n a o s → ReadCode n a o s c
 read-by n a o s c p q e = record { is = λ h z g y. rw e (read-is h n a o s z g p q y); most = rw e (read-most n a o s p q) }
 
 -- ---- signs

@@ -7,6 +7,7 @@ use native.Mathlib.Decide.{ℕ-discrete}
 use native.Mathlib.Omega.{arith}
 use lib.ListN.{getD, set, length, length-set}
 use lib.Seq.{getD-set-same, getD-set-other}
+use Rattle.model.specs.Limits.{nodeLimit}
 use Rattle.parse_keys.specs.Entries.{Subject, Keys}
 use Rattle.parse_keys.specs.declared.Found.{Found}
 
@@ -27,7 +28,7 @@ pub record Table (ks kd : List ℕ) (m : ℕ) : Type 0 where
 
 -- one key more than m has its place, and so have the links of m keys
 pub record Room (ks kd : List ℕ) (m : ℕ) : Type 0 where
-  pub few : m + 1 < 32768
+  pub few : m + 1 < nodeLimit
   pub keys : m + 1 < length ks
   pub kids : 2 * m + 2 ≤ length kd
 

@@ -7,6 +7,7 @@ use Prim.Native.Nat.{ℕ, zero, suc, _+_, _*_, _-_, _≤_, _<_}
 use native.Mathlib.Omega.{arith}
 use lib.IntN.{ℤ}
 use lib.ListN.{length}
+use Rattle.model.specs.Limits.{wide16}
 use Rattle.model.specs.Expr.{Expr, negate, size}
 use Rattle.model.specs.Memory.{Nodes, nodesIn, tree}
 use Rattle.model.specs.Parse.{join}
@@ -27,7 +28,7 @@ use Rattle.parse_visit.specs.declared.Visited.{Visited}
 
 -- how far keys and list have come, as read_condition takes it
 abbrev pub placeOf : Walk → ℕ
-placeOf w = w .keyed * 65536 + w .used
+placeOf w = w .keyed * wide16 + w .used
 
 -- the last If, 0 for none or 1 + its root, lies below the kept count and has at most n nodes
 abbrev pub IfFits : Nodes → ℕ → ℕ → Type 0

@@ -9,7 +9,7 @@ use native.Mathlib.Omega.{arith}
 use lib.Dec.{ltb, eqb}
 use lib.ListN.{length, getD, set, take, length-set, List·getD-eq-default}
 use borrow.Author.Tests.{eq-eqb, ltb-true, ltb-false, eqb-true, eqb-false}
-use Rattle.model.specs.Limits.{blockLimit}
+use Rattle.model.specs.Limits.{blockLimit, nodeLimit}
 use Rattle.model.specs.Refusal.{parseNotCode}
 use Rattle.model.specs.Expr.{Expr}
 use Rattle.model.specs.Sheet.{Sheet}
@@ -33,7 +33,7 @@ use Rattle.parse_filter.specs.Members.{or-left}
 pub few-blocks : (m : Memory) → Accepted m → m .count ≤ blockLimit
 few-blocks m a = judged-kept m (a .blocks) (a .rest) (a .is) .0
 
-pub few-nodes : (m : Memory) → Accepted m → m .coded .nodes .count ≤ 32768
+pub few-nodes : (m : Memory) → Accepted m → m .coded .nodes .count ≤ nodeLimit
 few-nodes m a = judged-kept m (a .blocks) (a .rest) (a .is) .2
 
 or-both : (a b : Bool) → a ≡ false → b ≡ false → a || b ≡ false

@@ -11,13 +11,14 @@ use lib.Signed.{ltZ, nonNeg}
 use borrow.Author.Tests.{ne-eqb, ltb-true}
 use mir.Syntax.{w16}
 use mir.Val.{SFits, ofZ}
+use Rattle.model.specs.Limits.{half16, wide16}
 use Rattle.model.specs.Signed.{eqZ}
 use Rattle.model.specs.Save.{natAt}
 
 -- a number of 16 bits is the natural number k where its bits are
-pub same-bits : (z : ℤ) (k : ℕ) → SFits w16 z → k < 32768 → eqb (ofZ w16 z) k ≡ eqZ z (pos k)
+pub same-bits : (z : ℤ) (k : ℕ) → SFits w16 z → k < half16 → eqb (ofZ w16 z) k ≡ eqZ z (pos k)
 same-bits (pos n) k f h = refl
-same-bits (negsuc n) k f h = let g : n < 32768 = f .sfits in ne-eqb (65536 - suc n) k (λ e. omega arith)
+same-bits (negsuc n) k f h = let g : n < half16 = f .sfits in ne-eqb (wide16 - suc n) k (λ e. omega arith)
 
 -- nothing stands at a number below 0
 pub none-at : (l : List ℕ) (z : ℤ) → ltZ z (pos 0) ≡ true → natAt l z ≡ pos 0

@@ -2,6 +2,7 @@
 ghost use mathlib.Core.Path.{_≡_};
 ghost use Prim.Native.Nat.{_+_, _≤_, _<_};
 ghost use lib.ListN.{length};
+ghost use Rattle.model.specs.Limits.{wide16};
 ghost use Rattle.replay.specs.Tally.{Fair, one};
 use births::start_anew;
 use compile::compile;
@@ -26,6 +27,7 @@ use memory::Values;
 use model::BlockNo;
 use model::ItemId;
 use model::Loader;
+use model::WIDE16;
 use shop::ENTRIES;
 use shop::Row;
 use shop::Sheet;
@@ -485,7 +487,7 @@ fn shop_at(s: &[u8], at: usize) -> Given {
 // Item + 1 or 0 for none, limit, how many entries, and those.
 fn slot_at(s: &[u8], at: usize) -> Filled {
     let mut codes = [0u64; ENTRIES];
-    let item = number_at(s, at, 65536);
+    let item = number_at(s, at, WIDE16);
     let limit = number_at(s, item.at, 65535);
     let n = number_at(s, limit.at, 255);
     let p = entries_at(s, n, &mut codes);
@@ -499,7 +501,7 @@ fn slot_at(s: &[u8], at: usize) -> Filled {
 }
 
 fn item_of(x: u64) -> SlotItem
-    requires { ⌜ x ≤ 65536 ⌝ }
+    requires { ⌜ x ≤ wide16 ⌝ }
 {
     if x == 0 {
         return SlotItem::Nothing;

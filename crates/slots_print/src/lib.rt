@@ -21,15 +21,13 @@ use memory::NODES;
 use memory::NodeWords;
 use memory::Values;
 use model::BlockNo;
+use model::INPUT;
 use parse::parse;
 use slots_sheet::Heading;
 use slots_sheet::read_heading;
 use slots_text::Text;
 use slots_text::put_refused;
 use slots_text::put_slots;
-
-// The bytes of standard input that are read (01, Program slots).
-const INPUT: usize = 65536;
 
 // The arrays' lengths, for the proofs.
 fn known_arrays(ws: &NodeWords, val: &Values, cw: &CommandWords, bw: &BlockWords) -> usize

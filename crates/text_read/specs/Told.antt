@@ -8,7 +8,7 @@ use lib.Dec.{eqb}
 use lib.IntN.{ℤ}
 use lib.ListN.{length, drop, replicate}
 use lib.Signed.{mag}
-use Rattle.model.specs.Limits.{entryLimit}
+use Rattle.model.specs.Limits.{entryLimit, wide16}
 use Rattle.model.specs.Reading.{Answer, got, refused}
 use Rattle.model.specs.Requirement.{Requirement}
 use Rattle.model.specs.Shop
@@ -107,7 +107,7 @@ ToldStart s a r = Told s a Any (r .reason) (r .at)
 
 pub record IsItem (v : ℕ) (o : Option ℕ) : Type 0 where
   pub same : itemFor o ≡ wordItem v
-  pub low : v ≤ 65536
+  pub low : v ≤ wide16
 
 abbrev pub ToldItem : List ℕ → Answer (Option ℕ) → Read → Type 0
 ToldItem s a r = Told s a (IsItem (r .value)) (r .reason) (r .at)

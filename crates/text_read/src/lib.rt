@@ -2,12 +2,14 @@
 ghost use mathlib.Core.Path.{_≡_};
 ghost use Prim.Native.Nat.{_+_, _≤_, _<_};
 ghost use lib.ListN.{drop};
-ghost use Rattle.model.specs.Limits.{entryLimit, half16};
+ghost use Rattle.model.specs.Limits.{entryLimit, half16, wide16};
 ghost use Rattle.shop_codes.specs.Codes.{half, unshift};
 ghost use Rattle.text_model.specs.Text.{readNatural, readSigned, readNumber, readItem, blankBehind, readRequirement, readRequirements, readSlot, readText, noSlot, noItem};
 ghost use Rattle.text_read.specs.Told.{ByteAt, DigitAt, BlankAt, Bound, kindFor, noRead, noRequirements, noLine, noText, ToldNumber, ToldSigned, ToldStart, ToldItem, ToldRequirement, ToldRequirements, ToldLine};
 ghost use Rattle.text_read.specs.Shops.{textShop, wordItem};
+use model::HALF16;
 use model::ItemId;
+use model::WIDE16;
 use shop::ENTRIES;
 use shop::Row;
 use shop::SLOTS;
@@ -36,10 +38,8 @@ const NO_END: u8 = 6;
 
 const MORE_TEXT: u8 = 7;
 
-// An item lies below, and a limit below half of it.
-const WIDE_16: u64 = 65536;
-
-const HALF_16: u64 = 32768;
+// A limit lies below it.
+const HALF: u64 = HALF16 as u64;
 
 // In each answer: a reason, or 0 with what was read and the place after it.
 
@@ -254,7 +254,7 @@ fn read_item(s: &[u8], at: usize) -> Read
     if c == 45 {
         return behind_blank(s, at + 1, 0, NO_ITEM);
     }
-    let k = read_natural(s, at, WIDE_16, NO_ITEM);
+    let k = read_natural(s, at, WIDE16, NO_ITEM);
     if k.reason != 0 {
         return no_read(k.reason);
     }
@@ -263,7 +263,7 @@ fn read_item(s: &[u8], at: usize) -> Read
 }
 
 fn item_of(word: u64) -> SlotItem
-    requires { ⌜ word ≤ 65536 ⌝ }
+    requires { ⌜ word ≤ wide16 ⌝ }
     ensures { λ r. ⌜ r ≡ wordItem word ⌝ }
 {
     if word == 0 {
@@ -370,7 +370,7 @@ fn read_line(s: &[u8], at: usize, i: u64) -> Line
     if w.reason != 0 {
         return no_line(w.reason);
     }
-    let l = read_signed(s, w.at, HALF_16, NO_LIMIT);
+    let l = read_signed(s, w.at, HALF, NO_LIMIT);
     if l.reason != 0 {
         return no_line(l.reason);
     }

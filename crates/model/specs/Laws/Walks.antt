@@ -11,7 +11,7 @@ use lib.Seq.{getD-set-same, getD-set-other, set-set, set-getD}
 use lib.Dec.{T, ltb, leb, eqb}
 use borrow.Author.Tests.{le-ltb, lt-ltb, ne-eqb, eq-eqb}
 use lib.IntN.{ℤ, pos, negsuc}
-use Rattle.model.specs.Limits.{countFirst, itemFirst}
+use Rattle.model.specs.Limits.{countFirst, itemFirst, slotCount}
 use Rattle.model.specs.Signed.{cut16}
 use Rattle.model.specs.Expr.{Expr, imm16, one, two}
 use Rattle.model.specs.declared.Op2.the-variants.{Less, Subtract}
@@ -33,7 +33,7 @@ place-item i h = rw (ne-eqb (itemFirst + i) 0 (λ q. omega arith), le-ltb (itemF
 pub place-count : (i : ℕ) → i < 20 → placeOf (countFirst + i) ≡ countVar i
 unfolding placeOf
 place-count i h =
-    rw (ne-eqb (countFirst + i) 0 (λ q. omega arith), le-ltb (countFirst + i) itemFirst (omega arith), le-ltb (countFirst + i) countFirst (omega arith), lt-ltb (countFirst + i) 640 (omega arith))
+    rw (ne-eqb (countFirst + i) 0 (λ q. omega arith), le-ltb (countFirst + i) itemFirst (omega arith), le-ltb (countFirst + i) countFirst (omega arith), lt-ltb (countFirst + i) (countFirst + slotCount) (omega arith))
     (ap countVar (omega arith))
 
 -- ---- updateSlots
