@@ -21,6 +21,7 @@ thead { display: table-header-group; }
 tr, li { break-inside: avoid; }
 p, li { overflow-wrap: anywhere; }
 .no { border: 3px solid #000; padding: 2mm; font-weight: bold; }
+.bytes td + td { font: 9pt/1.5 monospace; }
 .sign { break-inside: avoid; }
 .sign td { height: 14mm; }
 ";
@@ -67,6 +68,12 @@ pub struct Page<'a> {
 /// How many saves stand side by side.
 const ABREAST: usize = 4;
 
+/// Where the check says no.
+const NO: &str = "<p class=\"no\">Do not sign: what is printed may not be what runs.</p>\n";
+
+/// Where it does not.
+const YES: &str = "<p>What is printed is what runs.</p>\n";
+
 impl Page<'_> {
     /// Which bytes this page is about.
     fn bytes(&self) -> Result<String, Refused> {
@@ -86,7 +93,8 @@ impl Page<'_> {
             .into_iter()
             .map(|(what, is)| vec![what.into(), is])
             .collect();
-        Ok(table(&[("what", 25), ("is", 75)], &rows))
+        let rows = table(&[("what", 25), ("is", 75)], &rows);
+        Ok(format!("<div class=\"bytes\">\n{rows}</div>\n"))
     }
 
     /// The slots; those that changed are marked by a word, which paper without colour shows as well.
@@ -109,8 +117,8 @@ impl Page<'_> {
             ("slot", 7),
             ("item", 25),
             ("limit", 8),
-            ("requirements", 48),
-            ("", 12),
+            ("requirements", 46),
+            ("since the last", 14),
         ];
         table(&heading, &rows)
     }
@@ -150,13 +158,12 @@ impl Page<'_> {
     }
 
     fn findings(&self) -> String {
-        let lines = list(&self.verdict.lines(self.names), "Nothing was found.");
-        if self.verdict.says_no() {
-            let no = "Do not sign: what is printed may not be what runs.";
-            format!("<p class=\"no\">{no}</p>\n{lines}")
-        } else {
-            format!("{lines}<p>What is printed is what runs.</p>\n")
-        }
+        list(&self.verdict.lines(self.names), "Nothing was found.")
+    }
+
+    /// What the check says, for the top of the page and for the place of the signature, which may be on another sheet.
+    fn says(&self) -> &'static str {
+        if self.verdict.says_no() { NO } else { YES }
     }
 
     /// The whole page.
@@ -177,8 +184,9 @@ impl Page<'_> {
         Ok(format!(
             "<!DOCTYPE html>\n<html lang=\"en\">\n<head>\n<meta charset=\"utf-8\">\n\
             <title>{title}</title>\n<style>{STYLE}</style>\n</head>\n<body>\n\
-            <h1>{title}</h1>\n{parts}<div class=\"sign\">\n<h2>Signed</h2>\n{sign}</div>\n</body>\n</html>\n",
+            <h1>{title}</h1>\n{says}{parts}<div class=\"sign\">\n<h2>Signed</h2>\n{says}{sign}</div>\n</body>\n</html>\n",
             title = escape(&title),
+            says = self.says(),
         ))
     }
 }

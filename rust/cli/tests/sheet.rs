@@ -111,7 +111,12 @@ fn what_should_not_be_signed() {
         .said(0);
     let page = week.run("approve out.bin").said(1);
     balanced(&page);
-    assert!(page.contains("<p class=\"no\">Do not sign"), "{page}");
+    // At the top and where it would be signed.
+    assert_eq!(
+        page.matches("<p class=\"no\">Do not sign").count(),
+        2,
+        "{page}"
+    );
     assert!(page.contains("<li>the script is not what compiling this table gives"));
     assert!(page.contains("<p>No last pressing was given.</p>"));
     assert!(page.contains("<p>No save was given.</p>"));
@@ -186,7 +191,7 @@ fn browser() -> Option<PathBuf> {
 }
 
 /// Asked inside the page, which is as wide as the print of A4 between its margins; letter is wider. It counts rows, what juts out
-/// on the right, rows higher than a page of letter (249 mm), and what is neither black, white nor grey.
+/// on the right, rows higher than a page of letter (249 mm), what is neither black, white nor grey, and digests over two lines.
 const QUESTION: &str = "<script>
 {
   const all = [...document.querySelectorAll('body, body *')].filter(e => e.tagName !== 'SCRIPT');
@@ -197,8 +202,10 @@ const QUESTION: &str = "<script>
   const grey = c => { const n = c.match(/[0-9.]+/g); return n[0] === n[1] && n[1] === n[2]; };
   const styles = all.map(e => getComputedStyle(e));
   const gaudy = styles.filter(s => ![s.color, s.backgroundColor, s.borderTopColor].every(grey));
+  const lines = e => { const r = document.createRange(); r.selectNodeContents(e); return r.getClientRects().length; };
+  const torn = [...document.querySelectorAll('td')].filter(e => /^[0-9a-f]{64}$/.test(e.textContent) && lines(e) > 1);
   const width = Math.round(document.body.getBoundingClientRect().width);
-  document.title = `rows ${rows.length} out ${out.length} high ${high.length} gaudy ${gaudy.length} width ${width}`;
+  document.title = `rows ${rows.length} out ${out.length} high ${high.length} gaudy ${gaudy.length} torn ${torn.length} width ${width}`;
 }
 </script></body>";
 
@@ -232,7 +239,7 @@ fn rows_of(page: &str) -> usize {
 /// The browser lays the page out as it should, and prints it.
 fn looked_at(browser: &PathBuf, week: &Week, name: &str, page: &str) {
     let rows = rows_of(page);
-    let due = format!("<title>rows {rows} out 0 high 0 gaudy 0 width 680</title>");
+    let due = format!("<title>rows {rows} out 0 high 0 gaudy 0 torn 0 width 680</title>");
     let file = format!("{name}.html");
     let url = format!("file://{}", week.path(&file).display());
     week.write(&file, page.replace("</body>", QUESTION));
