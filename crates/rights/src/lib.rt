@@ -2,9 +2,8 @@
 ghost use mathlib.Core.Path.{_≡_};
 ghost use mathlib.Core.Bool.{cond};
 ghost use Prim.Native.Nat.{_<_, _+_, _*_};
-ghost use lib.ListN.{getD, length};
-ghost use lib.Seq.{paste};
-ghost use Rattle.model.specs.Limits.{slotCount, entryLimit, userCount};
+ghost use lib.ListN.{getD};
+ghost use Rattle.model.specs.Limits.{slotCount, userCount};
 ghost use Rattle.model.specs.Shop.{itemKnown};
 ghost use Rattle.rights_model.specs.Rights.{contentOk, editRefusal};
 ghost use Rattle.shop.specs.Shapes.{sheetOf, itemOf, noSlot, placed};
@@ -20,13 +19,13 @@ use shop::Sheet;
 use shop::Shop;
 use shop::Slot;
 use shop::SlotItem;
-use shop::capacity;
 use shop::check_parts;
 use shop::check_sheet;
 use shop::empty_shop;
 use shop::empty_slot;
 use shop::with_slot;
 use shop_arrays::clear_arrays;
+use shop_arrays::put_entries;
 use shop_arrays::slot_by;
 
 // Up to so many users work on one shop; a byte of rights for each user and slot, user by user.
@@ -265,28 +264,6 @@ fn place_for(field: u8, slot: u32) -> u32
         return slot;
     }
     SLOTS_HERE
-}
-
-// How long the array is: the proof of the loop over it asks for that.
-fn size(codes: &Codes) -> usize
-    ensures { λ _. ⌜ length (now (codes .entry)) ≡ entryLimit * slotCount ⌝ }
-{
-    let part: &[u64] = codes;
-    part.len()
-}
-
-// The codes of slot i into their places.
-fn put_entries(entries: &Row, codes: &mut Codes, i: usize)
-    requires { ⌜ i < slotCount ⌝ }
-    ensures { λ _. ⌜ now (codes .exit) ≡ paste (now (codes .entry)) (entryLimit * i) (now (entries .entry)) entryLimit ⌝ }
-{
-    capacity(entries);
-    size(codes);
-    let mut j = 0;
-    while j < ENTRIES {
-        codes[ENTRIES * i + j] = entries[j];
-        j += 1;
-    }
 }
 
 fn put_field(
