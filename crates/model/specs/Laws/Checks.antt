@@ -1,12 +1,12 @@
 -- Checks that were passed. Assumes nothing.
-use mathlib.Core.Path.{_≡_, refl}
-use mathlib.Core.Bool.{Bool, true, false, _&&_, _||_}
+use mathlib.Core.Path.{_≡_, refl, sym, _∙_}
+use mathlib.Core.Bool.{Bool, true, false, not, _&&_, _||_}
 use mathlib.Core.List.{List, [], _∷_}
 use Prim.Native.Nat.{ℕ, zero, suc, _<_}
 use native.Mathlib.Omega.{arith}
 use lib.ListN.{length}
 use lib.Dec.{ltb, eqb}
-use borrow.Author.Tests.{ltb-true, eqb-true}
+use borrow.Author.Tests.{ltb-true, eqb-true, not-true, not-false}
 use Rattle.model.specs.declared.Loader.{Loader}
 use Rattle.model.specs.Refusal.{check, firstOf, noRoom, notBlock, notCode, bornLater, demoFull}
 use Rattle.model.specs.Sheet.{Sheet, all, sheetRefusal}
@@ -35,6 +35,16 @@ and-left false b e = e
 pub and-right : (a b : Bool) → a && b ≡ true → b ≡ true
 and-right true b e = e
 and-right false b e = cc
+
+-- what a call answered, r, is b by its promise; a test of r tells b. The proofs that use these say what b is: filled in by the prover it is a large term
+pub answered : {A : Type 0} {r v : A} (b : A) → r ≡ b → r ≡ v → b ≡ v
+answered b e t = sym e ∙ t
+
+pub is-true : {r : Bool} (b : Bool) → r ≡ b → not r ≡ false → b ≡ true
+is-true {r} b e t = answered b e (not-false r t)
+
+pub is-false : {r : Bool} (b : Bool) → r ≡ b → not r ≡ true → b ≡ false
+is-false {r} b e t = answered b e (not-true r t)
 
 first2 : (a b : ℕ) → firstOf (a ∷ b ∷ []) ≡ 0 → (a ≡ 0) × (b ≡ 0)
 first2 a b e =

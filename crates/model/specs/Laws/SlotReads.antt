@@ -211,7 +211,7 @@ module _ (h : Sheet) (bs : List Block) (home i e : ℕ) (ys : List Slot) where
           rel = rel-trans (rel-mark {b = top} (omega arith)) q₁;
           begun = q₁ .mono top (getD-set-same M top true false (b .ctx .room));
           then = λ st f. v-if h bs i e i-in (b .ctx) (omega arith) U (omega arith) (omega arith)
-              (v-if h bs i e i-in (b₁ .ctx) (omega arith) T′ (omega arith) (omega arith)
+              (v-if h bs i e i-in (b₁ .ctx) (omega arith) {st′ = mk (r .S₁) (r .M₁) (r .l₁)} T′ (omega arith) (omega arith)
               (v-pairEnd h bs i e i-in (b₂ .ctx) (omega arith) (itemExpr w) (imm16 (pos 0)) (pos w) (pos 0) (wi l) refl (filledSlot w 0 []) (rw known) refl D (omega arith) (r .walks))
               (v-pairEnd h bs i e i-in (r .done .ctx) p (itemExpr w) (imm16 (pos 1)) (pos w) (pos 1) (wi (r .l₁)) refl (filledSlot w 1 []) refl refl N (omega arith) (w-seen (d .seen)))) f;
         }
@@ -325,7 +325,7 @@ module _ (h : Sheet) (bs : List Block) (home i e : ℕ) (ys : List Slot) where
               done = d;
               rel = rel-trans (rel-mark {b = top} (omega arith)) q₁;
               begun = q₁ .mono top (getD-set-same M top true false (b .ctx .room));
-              walks = v-if h bs i e i-in (b .ctx) (omega arith) (a .1 .1 .1 .1 .0) (omega arith) (omega arith) (g .walks)
+              walks = v-if h bs i e i-in (b .ctx) (omega arith) {st′ = mk (g .S₁) (g .M₁) (g .l₁)} (a .1 .1 .1 .1 .0) (omega arith) (omega arith) (g .walks)
                   (v-pair h bs i e i-in (g .done .ctx) (omega arith) (imm16 (negsuc 0)) (imm16 (pos 0)) (negsuc 0) (pos 0) refl refl y refl fits (a .0) (omega arith) (w-seen (d .seen)));
             }
 
