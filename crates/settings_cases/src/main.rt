@@ -1,159 +1,83 @@
-// How many settings list a slot (02, A.9), through the exported call: a line for each case with its subjects, listed and hidden, or its refusal.
+// How many settings list a slot (02, A.9), through the exported call: runs the cases of its standard input, one to a line, and says of each whether it answered what the line says.
 use capi_settings::lk_settings;
-use settings::Settings;
-use shop::ENTRIES;
-
-// Requirements by their codes: the kind times 2^32, plus the number, plus 2^31.
-const HAVE_ITEM_1: u64 = 2147483649;
-
-const HAVE_ITEM_3: u64 = 2147483651;
-
-const HAVE_ITEM_6: u64 = 2147483654;
-
-const HAVE_ITEM_8: u64 = 2147483656;
-
-const MISSING_ITEM_3: u64 = 6442450947;
-
-const HAVE_ATC_1: u64 = 10737418241;
-
-const HAVE_FLAG_1: u64 = 19327352833;
-
-const HAVE_FLAG_5000: u64 = 19327357832;
-
-const MISSING_FLAG_1: u64 = 23622320129;
+use case_lines::ANSWER;
+use case_lines::Answer;
+use case_lines::Tally;
+use case_lines::WORDS;
+use case_lines::Words;
+use case_lines::letter;
+use case_lines::line_end;
+use case_lines::low8;
+use case_lines::low16;
+use case_lines::none;
+use case_lines::numbers;
+use case_lines::row;
+use case_lines::signed16;
+use case_lines::tell;
+use case_lines::total;
 
 fn main() {
-    no_item();
-    above_limit_1();
-    contradictions();
-    acquired();
-    timers();
-    sixteen();
-    refused();
+    let mut input: [u8; 4096] = [0; 4096];
+    start(&mut input);
 }
 
-// ---- the cases: eight items, item 1 with atc 0, item 6 with atc 1, the timers 0, 1 and 2
-
-fn no_item() {
-    show(b"no item", -1, 3, HAVE_FLAG_1, 0, 1);
-    show(b"no item, no requirement", -1, 0, 0, 0, 0);
+// Large arrays are not read where they are made: the proof would go through their elements.
+fn start(input: &mut [u8]) {
+    let n = io::read_full(libc::STDIN_FILENO, input);
+    cases(&input[..n]);
 }
 
-fn above_limit_1() {
-    show(b"item 7, limit 3", 7, 3, 0, 0, 0);
-    show(b"item 3, limit 2, I3", 3, 2, HAVE_ITEM_3, 0, 1);
-    show(
-        b"item 3, limit 2, F1 twice",
-        3,
-        2,
-        HAVE_FLAG_1,
-        HAVE_FLAG_1,
-        2,
-    );
-    show(b"item 3, limit 2, F5000", 3, 2, HAVE_FLAG_5000, 0, 1);
+fn cases(text: &[u8]) {
+    let mut tally = none();
+    let mut at: usize = 0;
+    while at < text.len() {
+        let end = line_end(text, at);
+        tally = case(&text[at..end], tally);
+        at = end + 1;
+    }
+    total(tally);
 }
 
-fn contradictions() {
-    show(
-        b"item 3, limit 2, F1 f1",
-        3,
-        2,
-        HAVE_FLAG_1,
-        MISSING_FLAG_1,
-        2,
-    );
-    show(
-        b"item 3, limit 1, F1 f1",
-        3,
-        1,
-        HAVE_FLAG_1,
-        MISSING_FLAG_1,
-        2,
-    );
+fn case(line: &[u8], tally: Tally) -> Tally {
+    let mut a: Words = [0; WORDS];
+    let mut t: Answer = [0; ANSWER];
+    done(line, &mut a, &mut t, tally)
 }
 
-fn acquired() {
-    show(b"item 7, limit 1", 7, 1, 0, 0, 0);
-    show(b"item 3, limit 1, I3", 3, 1, HAVE_ITEM_3, 0, 1);
-    show(
-        b"item 3, limit 1, i3 F1",
-        3,
-        1,
-        MISSING_ITEM_3,
-        HAVE_FLAG_1,
-        2,
-    );
-    show(b"item 6, limit 9, A1", 6, 9, HAVE_ATC_1, 0, 1);
-    show(b"item 6, limit 9, I6", 6, 9, HAVE_ITEM_6, 0, 1);
+fn done(line: &[u8], a: &mut Words, t: &mut Answer, tally: Tally) -> Tally {
+    let colon = numbers(line, WORDS, a);
+    if letter(line) == b'S' {
+        asked(a, t);
+    }
+    tell(line, colon, a, t, tally)
 }
 
-fn timers() {
-    show(b"timer 0, limit 9, F1", 0, 9, HAVE_FLAG_1, 0, 1);
-    show(b"timer 2", 2, 0, 0, 0, 0);
-    show(b"timer 1, which has an atc", 1, 1, 0, 0, 0);
-    show(b"timer 1, I1", 1, 1, HAVE_ITEM_1, 0, 1);
-}
-
-// Timer 0 under F0 to F13, by their codes.
-fn sixteen() {
-    let attached: [u8; 3] = [0; 3];
-    let row = [
-        19327352832,
-        19327352833,
-        19327352834,
-        19327352835,
-        19327352836,
-        19327352837,
-        19327352838,
-        19327352839,
-        19327352840,
-        19327352841,
-        19327352842,
-        19327352843,
-        19327352844,
-        19327352845,
-    ];
-    let answer = lk_settings(&attached, 0, 0, 1, 2, 0, 1, &row, 14);
-    tell(b"timer 0, F0 to F13", answer);
-}
-
-// 8 by the item, by an entry and by the number of entries, of a slot without an item too; 1 first.
-fn refused() {
-    show(b"item 8", 8, 1, 0, 0, 0);
-    show(b"item -2", -2, 1, 0, 0, 0);
-    show(b"item 7, I8", 7, 1, HAVE_ITEM_8, 0, 1);
-    show(b"no item, I8", -1, 1, HAVE_ITEM_8, 0, 1);
-    show(b"item 7, fifteen entries", 7, 1, 0, 0, 15);
-    let attached: [u8; 2] = [0; 2];
-    let row = [0; ENTRIES];
-    let answer = lk_settings(&attached, 0, 0, 1, 1, 8, 1, &row, 15);
-    tell(b"two items, and item 8", answer);
-}
-
-// ---- a line for each
-
-fn show(what: &[u8], item: i32, limit: i16, first: u64, second: u64, len: u8) {
+// The first items of eight, of which item 1 has atc 0 and item 6 atc 1.
+fn asked(a: &Words, t: &mut Answer) {
     let mut attached: [u8; 8] = [0; 8];
     attached[1] = 1;
     attached[6] = 2;
-    let mut row = [0; ENTRIES];
-    row[0] = first;
-    row[1] = second;
-    let answer = lk_settings(&attached, 2, 0, 1, 2, item, limit, &row, len);
-    tell(what, answer);
-}
-
-fn tell(what: &[u8], r: Settings) {
-    io::write_all(libc::STDOUT_FILENO, what);
-    if r.refusal != 0 {
-        io::write_all(libc::STDOUT_FILENO, b": refusal ");
-        io::print_decimal(libc::STDOUT_FILENO, r.refusal as u64);
+    let items = low8(a[1]) as usize;
+    if 8 < items {
+        return;
     }
-    io::write_all(libc::STDOUT_FILENO, b": subjects ");
-    io::print_decimal(libc::STDOUT_FILENO, r.subjects as u64);
-    io::write_all(libc::STDOUT_FILENO, b", listed ");
-    io::print_decimal(libc::STDOUT_FILENO, r.listed as u64);
-    io::write_all(libc::STDOUT_FILENO, b", hidden ");
-    io::print_decimal(libc::STDOUT_FILENO, r.hidden as u64);
-    io::write_all(libc::STDOUT_FILENO, b"\n");
+    let codes = row(a[6], a[7], a[8], a[9]);
+    let item = ints::from_bits(a[3]);
+    let limit = signed16(a[4]);
+    let sheet: &[u8] = &attached;
+    let r = lk_settings(
+        &sheet[0..items],
+        2,
+        0,
+        1,
+        low16(a[2]),
+        item,
+        limit,
+        &codes,
+        low8(a[5]),
+    );
+    t[0] = r.refusal as u32;
+    t[1] = r.subjects as u32;
+    t[2] = r.listed;
+    t[3] = r.hidden;
 }
