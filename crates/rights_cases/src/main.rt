@@ -1,272 +1,345 @@
-// Edits of a shop by users with rights, and what two of them are shown (02, A.7): a line for each call of the library, and for each of the calls on a shop as a value, with its answer and the first two slots.
-ghost use mathlib.Core.Path.{_≡_};
+// Edits of a shop by users with rights, and what a user is shown (02, A.7), through the calls of the library and through those on a shop as a value: runs the cases of its standard input, one to a line, and says of each whether it answered what the line says.
 use capi_rights::lk_edit;
 use capi_rights::lk_show;
 use capi_values::sheet_by;
-use model::ItemId;
-use rights::Answered;
-use rights::CHANGE_ITEM;
-use rights::CHANGE_REQUIREMENTS;
+use case_lines::ANSWER;
+use case_lines::Answer;
+use case_lines::Tally;
+use case_lines::WORDS;
+use case_lines::Words;
+use case_lines::code;
+use case_lines::letter;
+use case_lines::line_end;
+use case_lines::low8;
+use case_lines::low16;
+use case_lines::none;
+use case_lines::numbers;
+use case_lines::signed16;
+use case_lines::tell;
+use case_lines::total;
 use rights::Field;
 use rights::RIGHTS;
-use rights::SEE;
 use shop::CODES;
 use shop::Codes;
 use shop::ENTRIES;
 use shop::Row;
 use shop::SLOTS;
-use shop::Shop;
-use shop::Slot;
-use shop::SlotItem;
-use shop::empty_shop;
-use shop::with_slot;
 use shop_arrays::arrays_of;
+use shop_arrays::clear_arrays;
+use shop_arrays::put_entries;
+use shop_arrays::shop_from;
+use shop_arrays::slot_by;
 
-// The requirements HaveFlag 1 and HaveFlag 2 by their codes.
-const FLAG_1: u64 = 19327352833;
-
-const FLAG_2: u64 = 19327352834;
-
-// User 3 changes item and requirements of slot 0 without seeing it; user 1 sees slot 0 and changes nothing.
 fn main() {
+    let mut input: [u8; 8192] = [0; 8192];
     let mut rights: [u8; RIGHTS] = [0; RIGHTS];
-    rights[60] = CHANGE_ITEM + CHANGE_REQUIREMENTS;
-    rights[20] = SEE;
-    in_order(&rights);
-    contents(&rights);
-    session(&rights, 9);
-    session(&rights, -9);
-    values(&rights);
-}
-
-// ---- the cases
-
-// 1, 20, 21 and 8, each where those after it would be met too: with timer 15 twice the sheet is none.
-fn in_order(rights: &[u8; RIGHTS]) {
-    alone(rights, 1, 16, 20, 0, 3, 0);
-    alone(rights, 2, 16, 20, 0, 3, 0);
-    alone(rights, 2, 3, 20, 0, 3, 0);
-    alone(rights, 2, 1, 0, 0, 3, 0);
-    alone(rights, 2, 3, 0, 0, 3, 0);
-}
-
-// The item's right is none for the limit, and there is no fourth field. Fifteen entries are 8, fourteen are not.
-fn contents(rights: &[u8; RIGHTS]) {
-    alone(rights, 2, 3, 0, 1, 1, 0);
-    alone(rights, 2, 3, 0, 3, 1, 0);
-    alone(rights, 2, 3, 0, 2, 1, 15);
-    alone(rights, 2, 3, 0, 2, 1, 14);
-}
-
-// One edit of an empty shop, its entries HaveFlag 1.
-fn alone(rights: &[u8; RIGHTS], timer15: u16, user: u32, slot: u32, field: u8, item: i32, len: u8) {
     let mut items: [i32; SLOTS] = [-1; SLOTS];
     let mut limits: [i16; SLOTS] = [0; SLOTS];
     let mut codes: Codes = [0; CODES];
     let mut lens: [u8; SLOTS] = [0; SLOTS];
-    let row: Row = [FLAG_1; ENTRIES];
-    edit(
-        rights,
-        timer15,
+    start(
+        &mut input,
+        &mut rights,
         &mut items,
         &mut limits,
         &mut codes,
         &mut lens,
-        user,
-        slot,
-        field,
-        item,
-        &row,
-        len,
     );
 }
 
-// Slot 0 holds an item that is not on the sheet, slot 1, which nobody sees, what is given: 8 would refuse the shop, and edits and shows do not
-// ask. A set in no order with a repeat is kept as given. A show leaves what it shows: the next is of that.
-fn session(rights: &[u8; RIGHTS], hidden: i32) {
-    let mut items: [i32; SLOTS] = [-1; SLOTS];
-    let mut limits: [i16; SLOTS] = [0; SLOTS];
-    let mut codes: Codes = [0; CODES];
-    let mut lens: [u8; SLOTS] = [0; SLOTS];
-    let mut row: Row = [FLAG_1; ENTRIES];
-    items[0] = 7;
-    items[1] = hidden;
-    limits[1] = 5;
-    row[0] = FLAG_2;
-    edit(
-        rights,
-        2,
-        &mut items,
-        &mut limits,
-        &mut codes,
-        &mut lens,
-        3,
-        0,
-        2,
-        0,
-        &row,
-        3,
-    );
-    show(rights, &mut items, &mut limits, &mut codes, &mut lens, 1);
-    show(rights, &mut items, &mut limits, &mut codes, &mut lens, 16);
-}
-
-// Shops as values: the refusals in their order, the item's right that is none for the limit, an item that is not on the sheet, then an edit that is
-// accepted, and what is shown of the shop that it answers. Slot 1, which nobody sees, holds that item from the start.
-fn values(rights: &[u8; RIGHTS]) {
-    let start = with_slot(empty_shop(), 1, new_content());
-    edited(rights, 1, start, 16, 20, Field::Item);
-    edited(rights, 2, start, 16, 20, Field::Item);
-    edited(rights, 2, start, 3, 20, Field::Item);
-    edited(rights, 2, start, 3, 0, Field::Limit);
-    edited(rights, 2, start, 3, 0, Field::Item);
-    let after = edited(rights, 2, start, 3, 0, Field::Requirements);
-    shown(rights, after, 1);
-    shown(rights, after, 16);
-}
-
-fn new_content() -> Slot {
-    Slot {
-        item: SlotItem::Of(ItemId(3)),
-        limit: 4,
-        requirements: [FLAG_1; ENTRIES],
-        len: 2,
-    }
-}
-
-// ---- a line for each
-
-fn edit(
-    rights: &[u8; RIGHTS],
-    timer15: u16,
+// Large arrays are not read where they are made: the proof would go through their elements.
+fn start(
+    input: &mut [u8],
+    rights: &mut [u8; RIGHTS],
     items: &mut [i32; SLOTS],
     limits: &mut [i16; SLOTS],
     codes: &mut Codes,
     lens: &mut [u8; SLOTS],
-    user: u32,
-    slot: u32,
-    field: u8,
-    item: i32,
-    entries: &Row,
-    len: u8,
 ) {
-    put(b"edit");
-    number(user);
-    number(slot);
-    number(field as u32);
-    let attached: [u8; 3] = [0; 3];
-    let answer = lk_edit(
-        &attached,
-        0,
-        0,
-        1,
-        timer15,
+    let n = io::read_full(libc::STDIN_FILENO, input);
+    cases(&input[..n], rights, items, limits, codes, lens);
+}
+
+// ---- lines
+
+fn cases(
+    text: &[u8],
+    rights: &mut [u8; RIGHTS],
+    items: &mut [i32; SLOTS],
+    limits: &mut [i16; SLOTS],
+    codes: &mut Codes,
+    lens: &mut [u8; SLOTS],
+) {
+    let mut tally = none();
+    let mut at: usize = 0;
+    while at < text.len() {
+        let end = line_end(text, at);
+        tally = case(&text[at..end], rights, items, limits, codes, lens, tally);
+        at = end + 1;
+    }
+    total(tally);
+}
+
+fn case(
+    line: &[u8],
+    rights: &mut [u8; RIGHTS],
+    items: &mut [i32; SLOTS],
+    limits: &mut [i16; SLOTS],
+    codes: &mut Codes,
+    lens: &mut [u8; SLOTS],
+    tally: Tally,
+) -> Tally {
+    let mut a: Words = [0; WORDS];
+    let mut t: Answer = [0; ANSWER];
+    done(
+        line,
+        &mut a,
+        &mut t,
         rights,
         items,
         limits,
         codes,
         lens,
-        user,
-        slot,
-        field,
-        item,
-        4,
-        entries,
-        len,
-    );
-    put(b":");
-    number(answer as u32);
-    slots(items, limits, codes, lens);
+        tally,
+    )
 }
 
-fn show(
+fn done(
+    line: &[u8],
+    a: &mut Words,
+    t: &mut Answer,
+    rights: &mut [u8; RIGHTS],
+    items: &mut [i32; SLOTS],
+    limits: &mut [i16; SLOTS],
+    codes: &mut Codes,
+    lens: &mut [u8; SLOTS],
+    tally: Tally,
+) -> Tally {
+    let colon = numbers(line, WORDS, a);
+    let op = letter(line);
+    put_right(op == b'R', a, rights);
+    step(op, a, rights, items, limits, codes, lens, t);
+    tell(line, colon, a, t, tally)
+}
+
+fn step(
+    op: u8,
+    a: &Words,
     rights: &[u8; RIGHTS],
     items: &mut [i32; SLOTS],
     limits: &mut [i16; SLOTS],
     codes: &mut Codes,
     lens: &mut [u8; SLOTS],
-    user: u32,
+    t: &mut Answer,
 ) {
-    put(b"show");
-    number(user);
-    let answer = lk_show(rights, items, limits, codes, lens, user);
-    put(b":");
-    number(answer as u32);
-    slots(items, limits, codes, lens);
+    match op {
+        b'X' => clear_arrays(items, limits, codes, lens),
+        b'I' => put_words(a, items, limits, codes, lens),
+        b'E' => edit(a, rights, items, limits, codes, lens, t),
+        b'S' => show(a, rights, items, limits, codes, lens, t),
+        b'V' => edit_value(a, rights, items, limits, codes, lens, t),
+        b'W' => show_value(a, rights, items, limits, codes, lens, t),
+        _ => (),
+    }
 }
 
-fn edited(rights: &[u8; RIGHTS], t15: u16, shop: Shop, user: u32, slot: u32, field: Field) -> Shop {
-    put(b"value edit");
-    number(user);
-    number(slot);
-    let attached: [u8; 3] = [0; 3];
-    let sheet = sheet_by(0, 0, 1, t15);
-    let content = new_content();
-    let r = rights::edit(&attached, sheet, rights, shop, user, slot, field, content);
-    answered(r);
-    r.shop
+// ---- what goes from line to line
+
+// R: user, slot and the byte of rights.
+fn put_right(here: bool, a: &Words, rights: &mut [u8; RIGHTS]) {
+    let i = low16(a[1]) as usize * SLOTS + low16(a[2]) as usize;
+    if here && i < RIGHTS {
+        rights[i] = low8(a[3]);
+    }
 }
 
-fn shown(rights: &[u8; RIGHTS], shop: Shop, user: u32) {
-    put(b"value show");
-    number(user);
-    answered(rights::show(rights, shop, user));
-}
-
-fn answered(r: Answered) {
-    let mut items: [i32; SLOTS] = [-1; SLOTS];
-    let mut limits: [i16; SLOTS] = [0; SLOTS];
-    let mut codes: Codes = [0; CODES];
-    let mut lens: [u8; SLOTS] = [0; SLOTS];
-    let shop = r.shop;
-    arrays_of(shop, &mut items, &mut limits, &mut codes, &mut lens);
-    put(b":");
-    number(r.refusal as u32);
-    slots(&items, &limits, &codes, &lens);
-}
-
-// Item, limit, how many entries and the first three codes of slots 0 and 1.
-fn slots(items: &[i32; SLOTS], limits: &[i16; SLOTS], codes: &Codes, lens: &[u8; SLOTS]) {
-    put(b", slot 0");
-    words(items[0], limits[0], lens[0]);
-    code(codes[0]);
-    code(codes[1]);
-    code(codes[2]);
-    put(b", slot 1");
-    words(items[1], limits[1], lens[1]);
-    put(b"\n");
-}
-
-fn words(item: i32, limit: i16, len: u8) {
-    signed(item);
-    signed(ints::widen16(limit));
-    number(len as u32);
-}
-
-fn signed(x: i32) {
-    if x < 0 {
-        put(b" -");
-        io::print_decimal(libc::STDOUT_FILENO, 4294967296 - wide(ints::to_bits(x)));
+// I: a slot and its words, which need be none that a shop as a value has. Of a slot without entries the codes stay.
+fn put_words(
+    a: &Words,
+    items: &mut [i32; SLOTS],
+    limits: &mut [i16; SLOTS],
+    codes: &mut Codes,
+    lens: &mut [u8; SLOTS],
+) {
+    let i = low8(a[1]) as usize;
+    if SLOTS <= i {
         return;
     }
-    number(ints::to_bits(x));
+    items[i] = ints::from_bits(a[2]);
+    limits[i] = signed16(a[3]);
+    lens[i] = low8(a[4]);
+    if a[4] == 0 {
+        return;
+    }
+    let row = row_of(a[5], a[6], a[7], a[8]);
+    put_entries(&row, codes, i);
 }
 
-fn number(x: u32) {
-    code(wide(x));
+// The first code, and one for every further entry.
+fn row_of(kind: u32, number: u32, others: u32, other: u32) -> Row {
+    let further = code(others, other);
+    let mut codes: Row = [further; ENTRIES];
+    codes[0] = code(kind, number);
+    codes
 }
 
-fn code(x: u64) {
-    put(b" ");
-    io::print_decimal(libc::STDOUT_FILENO, x);
+// ---- the library's calls
+
+// E: Timer15, user, slot, field, then the new content.
+fn edit(
+    a: &Words,
+    rights: &[u8; RIGHTS],
+    items: &mut [i32; SLOTS],
+    limits: &mut [i16; SLOTS],
+    codes: &mut Codes,
+    lens: &mut [u8; SLOTS],
+    t: &mut Answer,
+) {
+    let attached: [u8; 3] = [0; 3];
+    let row = row_of(a[8], a[9], a[10], a[11]);
+    let answer = lk_edit(
+        &attached,
+        0,
+        0,
+        1,
+        low16(a[1]),
+        rights,
+        items,
+        limits,
+        codes,
+        lens,
+        a[2],
+        a[3],
+        low8(a[4]),
+        ints::from_bits(a[5]),
+        signed16(a[6]),
+        &row,
+        low8(a[7]),
+    );
+    slots(answer, items, limits, codes, lens, t);
 }
 
-fn wide(x: u32) -> u64
-    ensures { λ r. ⌜ r ≡ x ⌝ }
-{
-    x as u64
+// S: a user. The arrays become what is shown: the next line is of that.
+fn show(
+    a: &Words,
+    rights: &[u8; RIGHTS],
+    items: &mut [i32; SLOTS],
+    limits: &mut [i16; SLOTS],
+    codes: &mut Codes,
+    lens: &mut [u8; SLOTS],
+    t: &mut Answer,
+) {
+    let answer = lk_show(rights, items, limits, codes, lens, a[1]);
+    slots(answer, items, limits, codes, lens, t);
 }
 
-fn put(s: &[u8]) {
-    io::write_all(libc::STDOUT_FILENO, s);
+// ---- the calls on a shop as a value
+
+// V: as E, on the shop that the arrays stand for; they become those of the shop that is answered.
+fn edit_value(
+    a: &Words,
+    rights: &[u8; RIGHTS],
+    items: &mut [i32; SLOTS],
+    limits: &mut [i16; SLOTS],
+    codes: &mut Codes,
+    lens: &mut [u8; SLOTS],
+    t: &mut Answer,
+) {
+    let attached: [u8; 3] = [0; 3];
+    let sheet = sheet_by(0, 0, 1, low16(a[1]));
+    let row = row_of(a[8], a[9], a[10], a[11]);
+    let content = slot_by(ints::from_bits(a[5]), signed16(a[6]), &row, low8(a[7]));
+    let shop = shop_from(items, limits, codes, lens);
+    let field = field_of(a[4]);
+    let r = rights::edit(&attached, sheet, rights, shop, a[2], a[3], field, content);
+    let after = r.shop;
+    arrays_of(after, items, limits, codes, lens);
+    slots(r.refusal, items, limits, codes, lens, t);
+}
+
+fn field_of(x: u32) -> Field {
+    match x {
+        0 => Field::Item,
+        1 => Field::Limit,
+        _ => Field::Requirements,
+    }
+}
+
+// W: a user. The shop stays as it is.
+fn show_value(
+    a: &Words,
+    rights: &[u8; RIGHTS],
+    items: &[i32; SLOTS],
+    limits: &[i16; SLOTS],
+    codes: &Codes,
+    lens: &[u8; SLOTS],
+    t: &mut Answer,
+) {
+    let r = rights::show(rights, shop_from(items, limits, codes, lens), a[1]);
+    let mut shown_items: [i32; SLOTS] = [-1; SLOTS];
+    let mut shown_limits: [i16; SLOTS] = [0; SLOTS];
+    let mut shown_codes: Codes = [0; CODES];
+    let mut shown_lens: [u8; SLOTS] = [0; SLOTS];
+    let shop = r.shop;
+    arrays_of(
+        shop,
+        &mut shown_items,
+        &mut shown_limits,
+        &mut shown_codes,
+        &mut shown_lens,
+    );
+    slots(
+        r.refusal,
+        &shown_items,
+        &shown_limits,
+        &shown_codes,
+        &shown_lens,
+        t,
+    );
+}
+
+// ---- the answer
+
+// Refusal; item, limit and how many entries of slot 0 and of slot 1; kind and number of slot 0's first three codes.
+fn slots(
+    refusal: u8,
+    items: &[i32; SLOTS],
+    limits: &[i16; SLOTS],
+    codes: &Codes,
+    lens: &[u8; SLOTS],
+    t: &mut Answer,
+) {
+    t[0] = refusal as u32;
+    t[1] = ints::to_bits(items[0]);
+    t[2] = bits16(limits[0]);
+    t[3] = wide(lens[0]);
+    t[4] = ints::to_bits(items[1]);
+    t[5] = bits16(limits[1]);
+    t[6] = wide(lens[1]);
+    t[7] = kind_in(codes[0]);
+    t[8] = number_in(codes[0]);
+    t[9] = kind_in(codes[1]);
+    t[10] = number_in(codes[1]);
+    t[11] = kind_in(codes[2]);
+    t[12] = number_in(codes[2]);
+}
+
+fn bits16(x: i16) -> u32 {
+    ints::to_bits(ints::widen16(x))
+}
+
+fn wide(x: u8) -> u32 {
+    x as u32
+}
+
+fn kind_in(code: u64) -> u32 {
+    (code / 4294967296 % 4294967296) as u32
+}
+
+// The number of a requirement is kept with 2^31 added; where there is no code, it is told as 0.
+fn number_in(code: u64) -> u32 {
+    if code == 0 {
+        return 0;
+    }
+    ((code % 4294967296 + 2147483648) % 4294967296) as u32
 }
