@@ -1,8 +1,13 @@
 // Each call with the numbers of a line, and what it answered as numbers: compile, parse, run beside preview, judge, and an image read or written.
-use crate::changes::WIDE;
-use crate::changes::low8;
 use crate::changes::size;
 use births::start_anew;
+use case_lines::Answer;
+use case_lines::Words;
+use case_lines::bit;
+use case_lines::low8;
+use case_lines::low16;
+use case_lines::row;
+use case_lines::signed16;
 use compile::Compiled;
 use compile::compile;
 use image_read::Image;
@@ -28,7 +33,6 @@ use preview::preview;
 use runner::Ran;
 use runner::run;
 use shop::COUNT_FIRST;
-use shop::ENTRIES;
 use shop::ITEM_FIRST;
 use shop::Row;
 use shop::SLOTS;
@@ -38,24 +42,6 @@ use shop::Slot;
 use shop::SlotItem;
 use shop::empty_shop;
 use shop::with_slot;
-
-// ---- numbers
-
-fn low16(x: u32) -> u16 {
-    (x % WIDE) as u16
-}
-
-fn signed16(x: u32) -> i16 {
-    ints::from_bits16(low16(x))
-}
-
-pub fn wide(x: u16) -> u32 {
-    x as u32
-}
-
-pub fn bit(b: bool) -> u32 {
-    if b { 1 } else { 0 }
-}
 
 // ---- counts
 
@@ -73,7 +59,7 @@ pub fn counts(blocks: u32, commands: u32, nodes: u32) -> Counts {
     }
 }
 
-pub fn tell_counts(t: &mut [u32; 16], refusal: u8, k: Counts) {
+pub fn tell_counts(t: &mut Answer, refusal: u8, k: Counts) {
     t[0] = refusal as u32;
     t[1] = k.blocks as u32;
     t[2] = k.commands as u32;
@@ -99,8 +85,8 @@ fn attached() -> [u8; 16] {
 }
 
 // One slot: item, limit, how many entries, and the first two of them. Each further one has the next number.
-fn shop_of(a: &[u32; 224]) -> Shop {
-    let codes = entries(a);
+fn shop_of(a: &Words) -> Shop {
+    let codes = row(a[4], a[5], a[6], a[7]);
     let slot = Slot {
         item: item_of(low16(a[1])),
         limit: signed16(a[2]),
@@ -108,17 +94,6 @@ fn shop_of(a: &[u32; 224]) -> Shop {
         len: low8(a[3]),
     };
     with_slot(empty_shop(), 0, slot)
-}
-
-fn entries(a: &[u32; 224]) -> Row {
-    let mut codes: Row = [0; ENTRIES];
-    codes[0] = code(a[4], a[5]);
-    let mut i: usize = 1;
-    while i < ENTRIES {
-        codes[i] = code(a[6], low16(a[7]) as u32 + (i - 1) as u32);
-        i += 1;
-    }
-    codes
 }
 
 // Item 999 stands for none.
@@ -129,23 +104,18 @@ fn item_of(x: u16) -> SlotItem {
     SlotItem::Of(ItemId(x))
 }
 
-// A requirement's code: its kind times 2^32, plus 2^31, plus its number, which can be below 0.
-fn code(kind: u32, number: u32) -> u64 {
-    (kind % 6) as u64 * 4294967296 + (2147483648 + number as u64) % 4294967296
-}
-
 // ---- compile
 
 // Whether the script is as it was is told by a sum over all of it, its birth marks and the count of compiles.
 pub fn compiled(
-    a: &[u32; 224],
+    a: &Words,
     ws: &mut NodeWords,
     val: &mut Values,
     cw: &mut CommandWords,
     bw: &mut BlockWords,
     births: &mut Births,
     kept: Kept,
-    t: &mut [u32; 16],
+    t: &mut Answer,
 ) -> Kept {
     let held = kept.counts;
     let before = whole(ws, val, cw, bw, births, held, kept.compiles);
@@ -162,7 +132,7 @@ pub fn compiled(
 }
 
 fn compile_by(
-    a: &[u32; 224],
+    a: &Words,
     ws: &mut NodeWords,
     val: &mut Values,
     cw: &mut CommandWords,
@@ -268,6 +238,10 @@ fn sum_births(s: &[u32], from: u64) -> u64 {
     h
 }
 
+pub fn wide(x: u16) -> u32 {
+    x as u32
+}
+
 fn mixed(h: u64, x: u32) -> u64 {
     h % 4294967296 * 31 + x as u64
 }
@@ -275,7 +249,7 @@ fn mixed(h: u64, x: u32) -> u64 {
 // ---- birth marks
 
 // The mark of a place of a block, and the count of accepted compiles.
-pub fn asked(here: bool, a: &[u32; 224], births: &Births, compiles: u32, t: &mut [u32; 16]) {
+pub fn asked(here: bool, a: &Words, births: &Births, compiles: u32, t: &mut Answer) {
     let i = size(a[1]);
     if here && i < BLOCKS {
         t[0] = births[i];
@@ -286,13 +260,13 @@ pub fn asked(here: bool, a: &[u32; 224], births: &Births, compiles: u32, t: &mut
 // ---- parse
 
 pub fn parsed(
-    a: &[u32; 224],
+    a: &Words,
     ws: &NodeWords,
     val: &Values,
     cw: &CommandWords,
     bw: &BlockWords,
     kept: Counts,
-    t: &mut [u32; 16],
+    t: &mut Answer,
 ) {
     let atcs = attached();
     let at = BlockNo(a[1]);
@@ -301,7 +275,7 @@ pub fn parsed(
 }
 
 // How many slots are empty, and slot 0.
-fn tell_parsed(p: ParsedShop, t: &mut [u32; 16]) {
+fn tell_parsed(p: ParsedShop, t: &mut Answer) {
     let shop = p.shop;
     t[0] = p.refusal as u32;
     t[1] = empties(shop);
@@ -309,7 +283,7 @@ fn tell_parsed(p: ParsedShop, t: &mut [u32; 16]) {
 }
 
 // Item, limit, how many requirements, and kind and number of the first five.
-fn tell_slot(slot: Slot, t: &mut [u32; 16]) {
+fn tell_slot(slot: Slot, t: &mut Answer) {
     let item = slot.item;
     let codes = slot.requirements;
     let limit = slot.limit;
@@ -326,7 +300,7 @@ fn item_number(item: SlotItem) -> u32 {
     }
 }
 
-fn requirements(codes: Row, n: usize, t: &mut [u32; 16]) {
+fn requirements(codes: Row, n: usize, t: &mut Answer) {
     let mut i: usize = 0;
     while i < n {
         if 5 <= i {
@@ -376,13 +350,13 @@ fn one_more(n: u32, slot: Slot) -> u32 {
 
 // The save has so many of item 7 and of Timer10 and a flag set; 2048 is none. So many of its sixteen counts are lent. Every variable is 9 before.
 pub fn ran(
-    a: &[u32; 224],
+    a: &Words,
     ws: &NodeWords,
     val: &Values,
     cw: &CommandWords,
     bw: &BlockWords,
     kept: Counts,
-    t: &mut [u32; 16],
+    t: &mut Answer,
 ) {
     let mut items: [i16; 16] = [0; 16];
     items[7] = signed16(a[9]);
@@ -400,7 +374,7 @@ fn set_flag(flags: &mut [u8; 2048], flag: u32) {
 }
 
 fn meet(
-    a: &[u32; 224],
+    a: &Words,
     ws: &NodeWords,
     val: &Values,
     cw: &CommandWords,
@@ -409,7 +383,7 @@ fn meet(
     items: &[i16],
     count: u8,
     flags: &[u8; 2048],
-    t: &mut [u32; 16],
+    t: &mut Answer,
 ) {
     let n = count as usize;
     if items.len() < n {
@@ -438,7 +412,7 @@ fn preview_by(shop: Shop, items: &[i16], flags: &[u8; 2048], vars: &[i32; 1024])
 }
 
 fn run_by(
-    a: &[u32; 224],
+    a: &Words,
     ws: &NodeWords,
     val: &Values,
     cw: &CommandWords,
@@ -470,7 +444,7 @@ fn run_by(
 }
 
 // Blocks entered, the pair of slot 0, variable 5, and what the preview says.
-fn tell_ran(r: Ran, vars: &[i32; 1024], p: Previewed, t: &mut [u32; 16]) {
+fn tell_ran(r: Ran, vars: &[i32; 1024], p: Previewed, t: &mut Answer) {
     t[0] = r.refusal as u32;
     t[1] = r.entered;
     t[2] = ints::to_bits(vars[ITEM_FIRST]);
@@ -516,7 +490,7 @@ pub fn judged(
     cw: &CommandWords,
     bw: &BlockWords,
     kept: Counts,
-    t: &mut [u32; 16],
+    t: &mut Answer,
 ) {
     let r = judge_record(ws, val, cw, bw, kept);
     match r {
@@ -538,7 +512,7 @@ pub fn read(
     cw: &mut CommandWords,
     bw: &mut BlockWords,
     births: &mut Births,
-    t: &mut [u32; 16],
+    t: &mut Answer,
 ) -> Kept {
     start_anew(births);
     if image.len() < len {
@@ -547,14 +521,14 @@ pub fn read(
     tell_read(read_script(&image[0..len], 0, ws, val, cw, bw), t)
 }
 
-fn none() -> Kept {
+pub fn none() -> Kept {
     Kept {
         counts: counts(0, 0, 0),
         compiles: 0,
     }
 }
 
-fn tell_read(r: Image, t: &mut [u32; 16]) -> Kept {
+fn tell_read(r: Image, t: &mut Answer) -> Kept {
     match r {
         Image::Read(k) => {
             tell_counts(t, 0, k);
@@ -572,7 +546,7 @@ fn tell_read(r: Image, t: &mut [u32; 16]) -> Kept {
 
 // Into so many of bytes that are all 7: the length, whether they are then the image last given, and whether all others still are 7.
 pub fn written(
-    a: &[u32; 224],
+    a: &Words,
     image: &[u8; 65600],
     len: usize,
     ws: &NodeWords,
@@ -580,14 +554,14 @@ pub fn written(
     cw: &CommandWords,
     bw: &BlockWords,
     kept: Counts,
-    t: &mut [u32; 16],
+    t: &mut Answer,
 ) {
     let mut out: [u8; 65600] = [7; 65600];
     let w = write_by(a[1], ws, val, cw, bw, kept, &mut out);
     tell_written(w, image, len, &out, t);
 }
 
-fn tell_written(w: Written, image: &[u8; 65600], len: usize, out: &[u8; 65600], t: &mut [u32; 16]) {
+fn tell_written(w: Written, image: &[u8; 65600], len: usize, out: &[u8; 65600], t: &mut Answer) {
     let n = w.len;
     t[0] = w.refusal as u32;
     t[1] = short(n);

@@ -1,4 +1,7 @@
 // What a line writes by itself: words of the script's arrays, birth marks, and bytes of the image.
+use case_lines::Words;
+use case_lines::low8;
+use case_lines::low16;
 use memory::BLOCKS;
 use memory::Births;
 use memory::BlockWords;
@@ -6,22 +9,19 @@ use memory::CommandWords;
 use memory::NODES;
 use memory::NodeWords;
 use memory::Values;
-use model::WIDE16;
-
-pub const WIDE: u32 = WIDE16 as u32;
 
 // A node, a command, a block: the first, how many, the words of one, and what each word is more in each further one. A value: of which node, and its bits.
 pub fn change(
     op: u8,
-    a: &mut [u32; 224],
+    a: &mut Words,
     ws: &mut NodeWords,
     val: &mut Values,
     cw: &mut CommandWords,
     bw: &mut BlockWords,
 ) {
-    rows(op == b'n', ws, a[1] % WIDE * 3, 3, a);
-    rows(op == b'c', cw, a[1] % WIDE * 4, 4, a);
-    rows(op == b'b', bw, a[1] % WIDE * 5, 5, a);
+    rows(op == b'n', ws, low16(a[1]) as u32 * 3, 3, a);
+    rows(op == b'c', cw, low16(a[1]) as u32 * 4, 4, a);
+    rows(op == b'b', bw, low16(a[1]) as u32 * 5, 5, a);
     set_value(op == b'v', val, a[1], a[2]);
 }
 
@@ -32,7 +32,7 @@ fn set_value(here: bool, val: &mut Values, node: u32, bits: u32) {
     }
 }
 
-fn rows(here: bool, words: &mut [u16], from: u32, size: u32, a: &mut [u32; 224]) {
+fn rows(here: bool, words: &mut [u16], from: u32, size: u32, a: &mut Words) {
     let mut at = from;
     let mut left = if_here(here, a[2]);
     while left > 0 {
@@ -49,7 +49,7 @@ fn if_here(here: bool, x: u32) -> u32 {
     0
 }
 
-fn row(words: &mut [u16], at: u32, size: u32, a: &mut [u32; 224]) {
+fn row(words: &mut [u16], at: u32, size: u32, a: &mut Words) {
     let mut i: u32 = 0;
     while i < size {
         word(words, at, size, a, i);
@@ -58,7 +58,7 @@ fn row(words: &mut [u16], at: u32, size: u32, a: &mut [u32; 224]) {
 }
 
 // Word i of a row, which is then what it is in the next.
-fn word(words: &mut [u16], at: u32, size: u32, a: &mut [u32; 224], i: u32) {
+fn word(words: &mut [u16], at: u32, size: u32, a: &mut Words, i: u32) {
     if 20 < i {
         return;
     }
@@ -72,12 +72,12 @@ fn word(words: &mut [u16], at: u32, size: u32, a: &mut [u32; 224], i: u32) {
 
 fn set_word(words: &mut [u16], i: usize, x: u32) {
     if i < words.len() {
-        words[i] = (x % WIDE) as u16;
+        words[i] = low16(x);
     }
 }
 
 // M: the mark of a place of a block.
-pub fn mark(op: u8, a: &[u32; 224], births: &mut Births) {
+pub fn mark(op: u8, a: &Words, births: &mut Births) {
     let i = size(a[1]);
     if op == b'M' && i < BLOCKS {
         births[i] = a[2];
@@ -85,14 +85,14 @@ pub fn mark(op: u8, a: &[u32; 224], births: &mut Births) {
 }
 
 // B and I: from where on, how often, the bytes. Answers the length of the image.
-pub fn bytes(op: u8, a: &[u32; 224], image: &mut [u8; 65600], len: usize) -> usize {
+pub fn bytes(op: u8, a: &Words, image: &mut [u8; 65600], len: usize) -> usize {
     match op {
         b'B' | b'I' => repeated(a, image),
         _ => len,
     }
 }
 
-fn repeated(a: &[u32; 224], image: &mut [u8; 65600]) -> usize {
+fn repeated(a: &Words, image: &mut [u8; 65600]) -> usize {
     let mut at = size(a[1]);
     let mut left = a[2];
     while left > 0 {
@@ -106,7 +106,7 @@ pub fn size(x: u32) -> usize {
     x as usize
 }
 
-fn once(a: &[u32; 224], image: &mut [u8; 65600], from: usize) -> usize {
+fn once(a: &Words, image: &mut [u8; 65600], from: usize) -> usize {
     let last = size(a[0]);
     let mut at = from;
     let mut i: usize = 3;
@@ -122,8 +122,4 @@ fn once(a: &[u32; 224], image: &mut [u8; 65600], from: usize) -> usize {
         i += 1;
     }
     at
-}
-
-pub fn low8(x: u32) -> u8 {
-    (x % 256) as u8
 }

@@ -1,12 +1,10 @@
 // Runs the cases of its standard input, one to a line, through the calls, and says of each whether it answered what the line says. The input's first lines say how a case is written.
 mod calls;
 mod changes;
-mod lines;
 mod reclaims;
 
 use calls::Kept;
 use calls::asked;
-use calls::bit;
 use calls::compiled;
 use calls::counts;
 use calls::judged;
@@ -14,13 +12,19 @@ use calls::parsed;
 use calls::ran;
 use calls::read;
 use calls::written;
+use case_lines::ANSWER;
+use case_lines::Answer;
+use case_lines::Tally;
+use case_lines::WORDS;
+use case_lines::Words;
+use case_lines::letter;
+use case_lines::line_end;
+use case_lines::numbers;
+use case_lines::tell;
+use case_lines::total;
 use changes::bytes;
 use changes::change;
 use changes::mark;
-use lines::as_said;
-use lines::numbers;
-use lines::put;
-use lines::tell;
 use memory::BLOCK_WORDS;
 use memory::BLOCKS;
 use memory::Births;
@@ -34,17 +38,15 @@ use memory::NodeWords;
 use memory::Values;
 use reclaims::reclaimed;
 
-// What goes from a line to the next: the counts of the script and of its accepted compiles, the length of the image, how many cases there were, and how many answered as said.
+// What goes from a line to the next: the counts of the script and of its accepted compiles, the length of the image, and the tally.
 struct Held {
-    counts: Counts,
-    compiles: u32,
+    kept: Kept,
     image: usize,
-    cases: u32,
-    good: u32,
+    tally: Tally,
 }
 
 fn main() {
-    let mut input: [u8; NODES] = [0; NODES];
+    let mut input: [u8; 65536] = [0; 65536];
     let mut image: [u8; 65600] = [0; 65600];
     let mut ws: NodeWords = [0; NODE_WORDS];
     let mut val: Values = [0; NODES];
@@ -91,42 +93,19 @@ fn cases(
     let mut at: usize = 0;
     while at < text.len() {
         let end = line_end(text, at);
-        if end < at {
-            return;
-        }
-        if text.len() <= end {
-            return;
-        }
         h = case(&text[at..end], image, ws, val, cw, bw, births, h);
         at = end + 1;
     }
-    total(h);
+    let tally = h.tally;
+    total(tally);
 }
 
 fn nothing() -> Held {
     Held {
-        counts: Counts {
-            nodes: 0,
-            commands: 0,
-            blocks: 0,
-        },
-        compiles: 0,
+        kept: calls::none(),
         image: 0,
-        cases: 0,
-        good: 0,
+        tally: case_lines::none(),
     }
-}
-
-// The newline from at on, or the text's end.
-fn line_end(text: &[u8], at: usize) -> usize {
-    let mut i = at;
-    while i < text.len() {
-        if text[i] == 10 {
-            return i;
-        }
-        i += 1;
-    }
-    i
 }
 
 fn case(
@@ -139,15 +118,15 @@ fn case(
     births: &mut Births,
     h: Held,
 ) -> Held {
-    let mut a: [u32; 224] = [0; 224];
-    let mut t: [u32; 16] = [0; 16];
+    let mut a: Words = [0; WORDS];
+    let mut t: Answer = [0; ANSWER];
     done(line, &mut a, &mut t, image, ws, val, cw, bw, births, h)
 }
 
 fn done(
     line: &[u8],
-    a: &mut [u32; 224],
-    t: &mut [u32; 16],
+    a: &mut Words,
+    t: &mut Answer,
     image: &mut [u8; 65600],
     ws: &mut NodeWords,
     val: &mut Values,
@@ -156,49 +135,25 @@ fn done(
     births: &mut Births,
     h: Held,
 ) -> Held {
-    let colon = numbers(line, a);
-    if line.len() <= colon {
-        return h;
-    }
-    let op = line[0];
+    let op = letter(line);
+    let colon = numbers(line, hex_from(op), a);
     let len = bytes(op, a, image, h.image);
-    let counts = h.counts;
-    let before = Kept {
-        counts: counts,
-        compiles: h.compiles,
-    };
+    let before = h.kept;
     let k = step(op, a, image, len, ws, val, cw, bw, births, before, t);
-    told(&line[colon + 1..], a, t, h, k, len)
-}
-
-// A line that says no answer is no case.
-fn told(name: &[u8], a: &[u32; 224], t: &[u32; 16], h: Held, k: Kept, len: usize) -> Held {
-    let counts = k.counts;
-    if a[200] == 0 {
-        return Held {
-            counts: counts,
-            compiles: k.compiles,
-            image: len,
-            cases: h.cases,
-            good: h.good,
-        };
-    }
-    let good = as_said(a, t);
-    tell(name, t, good);
+    let tally = h.tally;
     Held {
-        counts: counts,
-        compiles: k.compiles,
+        kept: k,
         image: len,
-        cases: std::num::wrapping_add_u32(h.cases, 1),
-        good: std::num::wrapping_add_u32(h.good, bit(good)),
+        tally: tell(line, colon, a, t, tally),
     }
 }
 
-fn total(h: Held) {
-    io::print_decimal(libc::STDOUT_FILENO, h.cases as u64);
-    put(b" cases, ");
-    io::print_decimal(libc::STDOUT_FILENO, h.good as u64);
-    put(b" as said\n");
+// Bytes are hexadecimal.
+fn hex_from(op: u8) -> usize {
+    match op {
+        b'B' | b'I' => 3,
+        _ => WORDS,
+    }
 }
 
 // ---- the calls
@@ -206,7 +161,7 @@ fn total(h: Held) {
 // Compile, reclaim and read return at once: where ways meet, each array that one of them changes costs a proof.
 fn step(
     op: u8,
-    a: &mut [u32; 224],
+    a: &mut Words,
     image: &[u8; 65600],
     len: usize,
     ws: &mut NodeWords,
@@ -215,7 +170,7 @@ fn step(
     bw: &mut BlockWords,
     births: &mut Births,
     k: Kept,
-    t: &mut [u32; 16],
+    t: &mut Answer,
 ) -> Kept {
     if op == b'C' {
         return compiled(a, ws, val, cw, bw, births, k, t);
@@ -234,7 +189,7 @@ fn step(
     kept(op, a, k)
 }
 
-fn kept(op: u8, a: &[u32; 224], k: Kept) -> Kept {
+fn kept(op: u8, a: &Words, k: Kept) -> Kept {
     let held = k.counts;
     match op {
         b'K' => Kept {
@@ -252,7 +207,7 @@ fn kept(op: u8, a: &[u32; 224], k: Kept) -> Kept {
 // Those that only read the script.
 fn shown(
     op: u8,
-    a: &[u32; 224],
+    a: &Words,
     image: &[u8; 65600],
     len: usize,
     ws: &NodeWords,
@@ -260,7 +215,7 @@ fn shown(
     cw: &CommandWords,
     bw: &BlockWords,
     k: Counts,
-    t: &mut [u32; 16],
+    t: &mut Answer,
 ) {
     match op {
         b'P' => parsed(a, ws, val, cw, bw, k, t),

@@ -1,10 +1,12 @@
 // A reclaim with the numbers of a line, and what it answered as numbers.
 use crate::calls::Kept;
-use crate::calls::bit;
 use crate::calls::tell_counts;
 use crate::calls::whole;
 use crate::calls::wide;
 use crate::changes::size;
+use case_lines::Answer;
+use case_lines::Words;
+use case_lines::bit;
 use memory::BLOCKS;
 use memory::Births;
 use memory::BlockWords;
@@ -18,14 +20,14 @@ const MOST: usize = 300;
 
 // The array that tells is all 7 before, which no accepted reclaim here tells.
 pub fn reclaimed(
-    a: &[u32; 224],
+    a: &Words,
     ws: &mut NodeWords,
     val: &mut Values,
     cw: &mut CommandWords,
     bw: &mut BlockWords,
     births: &mut Births,
     kept: Kept,
-    t: &mut [u32; 16],
+    t: &mut Answer,
 ) -> Kept {
     let mut roots: [u32; MOST] = [0; MOST];
     let mut moved: [u16; BLOCKS] = [7; BLOCKS];
@@ -35,7 +37,7 @@ pub fn reclaimed(
 
 // The first n roots.
 fn reclaim_some(
-    a: &[u32; 224],
+    a: &Words,
     roots: &[u32; MOST],
     n: usize,
     moved: &mut [u16; BLOCKS],
@@ -45,7 +47,7 @@ fn reclaim_some(
     bw: &mut BlockWords,
     births: &mut Births,
     kept: Kept,
-    t: &mut [u32; 16],
+    t: &mut Answer,
 ) -> Kept {
     let all: &[u32] = roots;
     if all.len() < n {
@@ -55,7 +57,7 @@ fn reclaim_some(
 }
 
 // How many roots, the first, and what each further one is more.
-fn fill(a: &[u32; 224], roots: &mut [u32; MOST]) -> usize {
+fn fill(a: &Words, roots: &mut [u32; MOST]) -> usize {
     let n = size(a[1]);
     let mut root = a[2];
     let mut i: usize = 0;
@@ -71,7 +73,7 @@ fn fill(a: &[u32; 224], roots: &mut [u32; MOST]) -> usize {
 }
 
 fn reclaim_by(
-    a: &[u32; 224],
+    a: &Words,
     roots: &[u32],
     moved: &mut [u16; BLOCKS],
     ws: &mut NodeWords,
@@ -80,7 +82,7 @@ fn reclaim_by(
     bw: &mut BlockWords,
     births: &mut Births,
     kept: Kept,
-    t: &mut [u32; 16],
+    t: &mut Answer,
 ) -> Kept {
     let held = kept.counts;
     let before = whole(ws, val, cw, bw, births, held, kept.compiles);

@@ -1,4 +1,4 @@
--- `calls_cases::cases` meets its contract: the measure is what is left of the text. Assumes nothing.
+-- `calls_cases::cases` ends: the measure is what is left of the text. Assumes nothing.
 use lib.ListN.{length}
 use Prim.Native.Nat.{_-_}
 use borrow.Author.Needs.{needs}
@@ -20,7 +20,6 @@ cases-spec =
     (λ c κs. search needs)
     (λ c. search needs)
     (λ c κs. search needs)
-    (λ c. search needs)
     (λ c. search needs)
     (λ c. search needs)
     (λ c. search needs)
