@@ -1,84 +1,63 @@
-// What is told of a shop before it is signed, through the exported call: a line for each case with what is told of slot 1, or the refusal.
+// What is told of a shop before it is signed, through the exported call: runs the cases of its standard input, one to a line, and says of each whether it answered what the line says.
 use capi_signed::lk_check;
+use case_lines::ANSWER;
+use case_lines::Answer;
+use case_lines::Tally;
+use case_lines::WORDS;
+use case_lines::Words;
+use case_lines::code;
+use case_lines::letter;
+use case_lines::line_end;
+use case_lines::low8;
+use case_lines::low16;
+use case_lines::none;
+use case_lines::numbers;
+use case_lines::signed16;
+use case_lines::tell;
+use case_lines::total;
 use shop::CODES;
+use shop::ENTRIES;
 use shop::SLOTS;
 use signed_check::Finding;
 
-// Requirements by their codes: the kind times 2^32, plus the number, plus 2^31.
-const HAVE_ITEM_6: u64 = 2147483654;
-
-const HAVE_ITEM_7: u64 = 2147483655;
-
-const HAVE_ITEM_8: u64 = 2147483656;
-
-const MISSING_ITEM_7: u64 = 6442450951;
-
-const HAVE_ATC_1: u64 = 10737418241;
-
-const HAVE_FLAG_1: u64 = 19327352833;
-
-const HAVE_FLAG_2: u64 = 19327352834;
-
-const HAVE_FLAG_9: u64 = 19327352841;
-
-const HAVE_FLAG_2048: u64 = 19327354880;
-
-const MISSING_FLAG_1: u64 = 23622320129;
-
-const MISSING_FLAG_2: u64 = 23622320130;
-
 fn main() {
-    faithful();
-    apart();
-    outside();
-    refused();
+    let mut input: [u8; 4096] = [0; 4096];
+    start(&mut input);
 }
 
-// ---- the cases: eight items, item 6 with atc 1, the timers 0, 1 and 2; slot 0 has item 7, limit 3 and F2
-
-fn faithful() {
-    let row = [0, 0, 0];
-    show(b"item 7, limit 3", 1, 7, 3, row, 0);
-    show(b"item 7, limit 99", 1, 7, 99, row, 0);
-    let row = [MISSING_ITEM_7, 0, 0];
-    show(b"item 7, limit 1, i7", 1, 7, 1, row, 1);
-    let row = [HAVE_ITEM_7, HAVE_ITEM_7, 0];
-    show(b"item 7, limit 3, I7 twice", 1, 7, 3, row, 2);
-    let row = [HAVE_ITEM_6, 0, 0];
-    show(b"item 6, which has an atc, I6", 1, 6, 1, row, 1);
-    let row = [MISSING_FLAG_2, 0, 0];
-    show(b"f2 beside F2 of slot 0", 1, 7, 3, row, 1);
-    let row = [HAVE_FLAG_2, MISSING_FLAG_2, HAVE_FLAG_2];
-    show(b"no item, F2 f2 F2", 1, -1, 3, row, 3);
+// Large arrays are not read where they are made: the proof would go through their elements.
+fn start(input: &mut [u8]) {
+    let n = io::read_full(libc::STDIN_FILENO, input);
+    cases(&input[..n]);
 }
 
-fn apart() {
-    let row = [HAVE_FLAG_2, MISSING_FLAG_2, 0];
-    show(b"item 7, limit 3, F2 f2", 1, 7, 3, row, 2);
-    let row = [HAVE_FLAG_9, MISSING_FLAG_2, HAVE_FLAG_2];
-    show(b"item 7, limit 3, F9 f2 F2", 1, 7, 3, row, 3);
-    let row = [HAVE_ITEM_7, 0, 0];
-    show(b"item 7, limit 1, I7", 1, 7, 1, row, 1);
-    let row = [HAVE_FLAG_9, HAVE_ATC_1, 0];
-    show(b"item 6, limit 5, F9 A1", 1, 6, 5, row, 2);
+fn cases(text: &[u8]) {
+    let mut tally = none();
+    let mut at: usize = 0;
+    while at < text.len() {
+        let end = line_end(text, at);
+        tally = case(&text[at..end], tally);
+        at = end + 1;
+    }
+    total(tally);
 }
 
-fn outside() {
-    let row = [HAVE_FLAG_2048, HAVE_FLAG_1, MISSING_FLAG_1];
-    show(b"item 7, limit 3, F2048 F1 f1", 1, 7, 3, row, 3);
-    show(b"no item, F2048 F1 f1", 1, -1, 3, row, 3);
+fn case(line: &[u8], tally: Tally) -> Tally {
+    let mut a: Words = [0; WORDS];
+    let mut t: Answer = [0; ANSWER];
+    done(line, &mut a, &mut t, tally)
 }
 
-fn refused() {
-    let row = [HAVE_ITEM_8, 0, 0];
-    show(b"item 7, I8", 1, 7, 3, row, 1);
-    show(b"item 7, fifteen entries", 1, 7, 3, row, 15);
-    show(b"Timer10 is Timer5, and I8", 0, 7, 3, row, 1);
+fn done(line: &[u8], a: &mut Words, t: &mut Answer, tally: Tally) -> Tally {
+    let colon = numbers(line, WORDS, a);
+    if letter(line) == b'S' {
+        asked(a, t);
+    }
+    tell(line, colon, a, t, tally)
 }
 
-// ---- a line for each
-
-fn show(what: &[u8], ten: u16, item: i32, limit: i16, row: [u64; 3], len: u8) {
+// Eight items, of which item 6 has atc 1. Slot 0 has item 7, limit 3 and F2, slot 1 what the line says; the others are empty.
+fn asked(a: &Words, t: &mut Answer) {
     let mut attached: [u8; 8] = [0; 8];
     attached[6] = 2;
     let mut items: [i32; SLOTS] = [-1; SLOTS];
@@ -87,38 +66,32 @@ fn show(what: &[u8], ten: u16, item: i32, limit: i16, row: [u64; 3], len: u8) {
     let mut lens: [u8; SLOTS] = [0; SLOTS];
     items[0] = 7;
     limits[0] = 3;
-    codes[0] = HAVE_FLAG_2;
+    codes[0] = code(4, 2);
     lens[0] = 1;
-    items[1] = item;
-    limits[1] = limit;
-    codes[14] = row[0];
-    codes[15] = row[1];
-    codes[16] = row[2];
-    lens[1] = len;
-    let answer = lk_check(&attached, 2, 0, ten, 2, &items, &limits, &codes, &lens);
-    io::write_all(libc::STDOUT_FILENO, what);
-    if answer.refusal != 0 {
-        number(b": refusal ", answer.refusal);
-        io::write_all(libc::STDOUT_FILENO, b"\n");
-        return;
-    }
-    tell(answer.slots[1]);
+    items[1] = ints::from_bits(a[2]);
+    limits[1] = signed16(a[3]);
+    codes[ENTRIES] = code(a[5], a[6]);
+    codes[ENTRIES + 1] = code(a[7], a[8]);
+    codes[ENTRIES + 2] = code(a[9], a[10]);
+    lens[1] = low8(a[4]);
+    let ten = low16(a[1]);
+    let r = lk_check(&attached, 2, 0, ten, 2, &items, &limits, &codes, &lens);
+    t[0] = r.refusal as u32;
+    found(r.slots[1], t);
 }
 
-fn number(what: &[u8], n: u8) {
-    io::write_all(libc::STDOUT_FILENO, what);
-    io::print_decimal(libc::STDOUT_FILENO, n as u64);
+fn found(f: Finding, t: &mut Answer) {
+    t[1] = f.verdict as u32;
+    t[2] = f.entry as u32;
+    t[3] = f.limit as u32;
+    t[4] = f.doubled as u32;
+    t[5] = f.lost as u32;
+    t[6] = f.listed as u32;
+    t[7] = f.settings as u32;
+    halves(f.codes[0], t);
 }
 
-fn tell(f: Finding) {
-    number(b": verdict ", f.verdict);
-    number(b", entry ", f.entry);
-    number(b", limit ", f.limit);
-    number(b", doubled ", f.doubled);
-    number(b", lost ", f.lost);
-    number(b", listed ", f.listed);
-    number(b", settings ", f.settings);
-    io::write_all(libc::STDOUT_FILENO, b" from ");
-    io::print_decimal(libc::STDOUT_FILENO, f.codes[0]);
-    io::write_all(libc::STDOUT_FILENO, b"\n");
+fn halves(code: u64, t: &mut Answer) {
+    t[8] = (code / 4294967296) as u32;
+    t[9] = (code % 4294967296) as u32;
 }
