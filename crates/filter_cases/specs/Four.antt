@@ -1,14 +1,14 @@
 -- Four words and the companions of four entries are such as the filter asks for. Assumes nothing.
-use Prim.Native.Nat.{ℕ, zero, suc, _/_, _%_, _≤_, _<_}
+use Prim.Native.Nat.{ℕ, zero, suc, _≤_, _<_}
 use mathlib.Core.List.{List, [], _∷_}
 use native.Mathlib.Omega.{arith}
 use lib.ListN.{getD}
 use Rattle.parse_filter.specs.Filter.{Met}
-use Rattle.filter_cases.specs.declared.Words.{Words}
+use Rattle.filter_cases.specs.declared.Entries.{Entries}
 use Rattle.filter_cases.specs.declared.Others.{Others}
 
 -- entries 0 to 3, companions 0 to 4
-pub record Fits (x : Words) (t : Others) : Type 0 where
+pub record Fits (x : Entries) (t : Others) : Type 0 where
   pub a : x .a < 4
   pub b : x .b < 4
   pub c : x .c < 4
@@ -29,19 +29,9 @@ below m a b c d z f g h k (suc (suc zero)) = h
 below m a b c d z f g h k (suc (suc (suc zero))) = k
 below m a b c d z f g h k (suc (suc (suc (suc i)))) = z
 
-pub fits-met : (x : Words) (t : Others) → Fits x t → Met (four (t .p) (t .q) (t .r) (t .s)) (four (x .a) (x .b) (x .c) (x .d)) 5 (x .n)
+pub fits-met : (x : Entries) (t : Others) → Fits x t → Met (four (t .p) (t .q) (t .r) (t .s)) (four (x .a) (x .b) (x .c) (x .d)) 5 (x .n)
 fits-met x t f = record {
   held = f .n;
   entry = λ i h. below 4 (x .a) (x .b) (x .c) (x .d) (omega arith) (f .a) (f .b) (f .c) (f .d) i;
   other = λ i h. below 5 (t .p) (t .q) (t .r) (t .s) (omega arith) (f .p) (f .q) (f .r) (f .s) (getD (four (x .a) (x .b) (x .c) (x .d)) i 0);
 }
-
-abbrev none : Others
-none = record { p = 0; q = 0; r = 0; s = 0 }
-
--- the tables by number, in base 5, and the sets, in base 4 behind how many words there are
-pub table-fits : (x : Words) → Fits x none → (i : ℕ) → i < 625 → Fits x (record { p = i % 5; q = i / 5 % 5; r = i / 25 % 5; s = i / 125 % 5 })
-table-fits x f i h = record { a = f .a; b = f .b; c = f .c; d = f .d; n = f .n; p = omega arith; q = omega arith; r = omega arith; s = omega arith }
-
-pub set-fits : (i : ℕ) → i < 1280 → Fits (record { a = i % 4; b = i / 4 % 4; c = i / 16 % 4; d = i / 64 % 4; n = i / 256 }) none
-set-fits i h = record { a = omega arith; b = omega arith; c = omega arith; d = omega arith; n = omega arith; p = omega arith; q = omega arith; r = omega arith; s = omega arith }

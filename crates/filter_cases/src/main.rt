@@ -1,10 +1,22 @@
-// Filters sets of the entries 0 to 3 by companions 0 to 4, of which 4 is in no set, and holds what stays against asking entry by entry (02, A.3).
+// The contradiction filter on sets of the entries 0 to 3 by companions 0 to 4, of which 4 is in no set (02, A.3): runs the cases of its standard input, one to a line, and says of each whether it answered what the line says.
 ghost use Rattle.filter_cases.specs.Four.{Fits};
+use case_lines::ANSWER;
+use case_lines::Answer;
+use case_lines::Tally;
+use case_lines::WORDS;
+use case_lines::Words;
+use case_lines::letter;
+use case_lines::line_end;
+use case_lines::low16;
+use case_lines::none;
+use case_lines::numbers;
+use case_lines::tell;
+use case_lines::total;
 use memory::index_of;
 use parse_filter::filter_alive;
 
 // The first n of four words.
-pub struct Words {
+pub struct Entries {
     pub a: u16,
     pub b: u16,
     pub c: u16,
@@ -21,98 +33,81 @@ pub struct Others {
 }
 
 fn main() {
-    negations();
-    own_companions();
-    companions_apart();
-    one_way();
-    io::print_decimal(libc::STDOUT_FILENO, wide(first_wrong()));
-    io::write_all(
-        libc::STDOUT_FILENO,
-        b" sets, each under 625 tables of companions\n",
-    );
+    let mut input: [u8; 4096] = [0; 4096];
+    start(&mut input);
 }
 
-// ---- the cases
-
-// The negations: 0 and 1 are a pair, 2 and 3 another.
-fn negations() {
-    show(
-        Words {
-            a: 2,
-            b: 0,
-            c: 1,
-            d: 0,
-            n: 3,
-        },
-        Others {
-            p: 1,
-            q: 0,
-            r: 3,
-            s: 2,
-        },
-    );
+// Large arrays are not read where they are made: the proof would go through their elements.
+fn start(input: &mut [u8]) {
+    let n = io::read_full(libc::STDIN_FILENO, input);
+    cases(&input[..n]);
 }
 
-// Each entry its own companion.
-fn own_companions() {
-    show(
-        Words {
-            a: 2,
-            b: 0,
-            c: 1,
-            d: 3,
-            n: 4,
-        },
-        Others {
-            p: 0,
-            q: 1,
-            r: 2,
-            s: 3,
-        },
-    );
+fn cases(text: &[u8]) {
+    let mut tally = none();
+    let mut at: usize = 0;
+    while at < text.len() {
+        let end = line_end(text, at);
+        tally = case(&text[at..end], tally);
+        at = end + 1;
+    }
+    total(tally);
 }
 
-// Companions that are in no set.
-fn companions_apart() {
-    show(
-        Words {
-            a: 2,
-            b: 0,
-            c: 1,
-            d: 3,
-            n: 4,
-        },
-        Others {
-            p: 4,
-            q: 4,
-            r: 4,
-            s: 4,
-        },
-    );
+fn case(line: &[u8], tally: Tally) -> Tally {
+    let mut a: Words = [0; WORDS];
+    let mut t: Answer = [0; ANSWER];
+    done(line, &mut a, &mut t, tally)
 }
 
-// 0 names 1, which does not name 0.
-fn one_way() {
-    show(
-        Words {
-            a: 2,
-            b: 0,
-            c: 1,
-            d: 3,
-            n: 4,
+fn done(line: &[u8], a: &mut Words, t: &mut Answer, tally: Tally) -> Tally {
+    let colon = numbers(line, WORDS, a);
+    match letter(line) {
+        b'F' => told(kept(a), t),
+        b'A' => t[0] = first_wrong() as u32,
+        _ => (),
+    }
+    tell(line, colon, a, t, tally)
+}
+
+// What the filter keeps of the words of a line, reduced to what it asks for.
+fn kept(a: &Words) -> Entries {
+    filtered(
+        Entries {
+            a: low16(a[1]) % 4,
+            b: low16(a[2]) % 4,
+            c: low16(a[3]) % 4,
+            d: low16(a[4]) % 4,
+            n: low16(a[5]) % 5,
         },
         Others {
-            p: 1,
-            q: 4,
-            r: 4,
-            s: 4,
+            p: low16(a[6]) % 5,
+            q: low16(a[7]) % 5,
+            r: low16(a[8]) % 5,
+            s: low16(a[9]) % 5,
         },
-    );
+    )
+}
+
+fn told(k: Entries, t: &mut Answer) {
+    t[0] = k.n as u32;
+    t[1] = held(k, 0);
+    t[2] = held(k, 1);
+    t[3] = held(k, 2);
+    t[4] = held(k, 3);
+}
+
+// Word i of those that are kept; past them, 0.
+fn held(k: Entries, i: u16) -> u32 {
+    if i < k.n {
+        return word(k, i) as u32;
+    }
+    0
 }
 
 // ---- entry by entry
 
-fn has(x: Words, e: u16) -> bool {
+fn has(x: Entries, e: u16) -> bool {
     (0 < x.n && x.a == e) || (1 < x.n && x.b == e) || (2 < x.n && x.c == e) || (3 < x.n && x.d == e)
 }
 
@@ -129,7 +124,7 @@ fn other(t: Others, e: u16) -> u16 {
     t.s
 }
 
-fn word(x: Words, i: u16) -> u16 {
+fn word(x: Entries, i: u16) -> u16 {
     if i == 0 {
         return x.a;
     }
@@ -143,7 +138,7 @@ fn word(x: Words, i: u16) -> u16 {
 }
 
 // How many of the words k were met once word i of x was looked for where it has to be; 5 where one was not there.
-fn after(x: Words, t: Others, k: Words, met: u16, i: u16) -> u16 {
+fn after(x: Entries, t: Others, k: Entries, met: u16, i: u16) -> u16 {
     if x.n <= i {
         return met;
     }
@@ -161,14 +156,14 @@ fn after(x: Words, t: Others, k: Words, met: u16, i: u16) -> u16 {
 
 // ---- the filter
 
-fn filtered(x: Words, t: Others) -> Words
+fn filtered(x: Entries, t: Others) -> Entries
     requires { ⌜ Fits x t ⌝ }
 {
     let companions = [t.p, t.q, t.r, t.s];
     let seen = [has(x, 0), has(x, 1), has(x, 2), has(x, 3), has(x, 4)];
     let mut words = [x.a, x.b, x.c, x.d];
     let n = filter_alive(&companions, &seen, &mut words, index_of(x.n));
-    Words {
+    Entries {
         a: words[0],
         b: words[1],
         c: words[2],
@@ -178,7 +173,7 @@ fn filtered(x: Words, t: Others) -> Words
 }
 
 // Whether the filter keeps what asking entry by entry keeps.
-fn agrees(x: Words, t: Others) -> bool
+fn agrees(x: Entries, t: Others) -> bool
     requires { ⌜ Fits x t ⌝ }
 {
     let k = filtered(x, t);
@@ -189,7 +184,7 @@ fn agrees(x: Words, t: Others) -> bool
 }
 
 // The number of the first table that the set x is filtered wrongly by; 625 where there is none.
-fn first_table(x: Words) -> u16
+fn first_table(x: Entries) -> u16
     requires { ⌜ Fits x (record { p = 0; q = 0; r = 0; s = 0 }) ⌝ }
 {
     let mut i: u16 = 0;
@@ -214,7 +209,7 @@ fn first_table(x: Words) -> u16
 fn first_wrong() -> u16 {
     let mut i: u16 = 0;
     while i < 1280 {
-        if first_table(Words {
+        if first_table(Entries {
             a: i % 4,
             b: i / 4 % 4,
             c: i / 16 % 4,
@@ -228,36 +223,4 @@ fn first_wrong() -> u16 {
         i += 1;
     }
     i
-}
-
-// ---- a line for each
-
-// The words that are kept.
-fn show(x: Words, t: Others)
-    requires { ⌜ Fits x t ⌝ }
-{
-    let k = filtered(x, t);
-    io::write_all(libc::STDOUT_FILENO, b"kept");
-    if 0 < k.n {
-        print(k.a);
-    }
-    if 1 < k.n {
-        print(k.b);
-    }
-    if 2 < k.n {
-        print(k.c);
-    }
-    if 3 < k.n {
-        print(k.d);
-    }
-    io::write_all(libc::STDOUT_FILENO, b"\n");
-}
-
-fn print(e: u16) {
-    io::write_all(libc::STDOUT_FILENO, b" ");
-    io::print_decimal(libc::STDOUT_FILENO, wide(e));
-}
-
-fn wide(x: u16) -> u64 {
-    x as u64
 }

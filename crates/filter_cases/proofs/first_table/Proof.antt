@@ -2,7 +2,6 @@
 use Prim.Native.Nat.{_≤_, _-_}
 use native.Mathlib.Omega.{arith}
 use borrow.Author.Needs.{needs}
-use Rattle.filter_cases.specs.Four.{table-fits}
 use Rattle.filter_cases.proofs.first_table.Statement.{statement}
 use Rattle.filter_cases.proofs.first_table.Tie as tie
 
@@ -12,9 +11,6 @@ Inv-loop x i₀ i = i ≤ 625
 abbrev μ-loop : tie.MeasureT-loop
 μ-loop x i₀ i = 625 - i
 
-agrees-requires : tie.Need-agrees-requires Inv-loop μ-loop
-agrees-requires c κs = let s = c .before .before in table-fits (s .args .x) (s .pre) (c .before .loop .i) (c .loop-test .taken)
-
 pub first-table-spec : {M : Type 1} → statement M
 first-table-spec =
     tie.close
@@ -22,7 +18,7 @@ first-table-spec =
     Inv-loop
     μ-loop
     (λ c. omega arith)
-    agrees-requires
+    (λ c κs. search needs)
     (λ c. search needs)
     (λ c. omega arith)
     (λ c. omega arith)

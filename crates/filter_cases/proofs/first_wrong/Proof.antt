@@ -2,7 +2,6 @@
 use Prim.Native.Nat.{_≤_, _-_}
 use native.Mathlib.Omega.{arith}
 use borrow.Author.Needs.{needs}
-use Rattle.filter_cases.specs.Four.{set-fits}
 use Rattle.filter_cases.proofs.first_wrong.Statement.{statement}
 use Rattle.filter_cases.proofs.first_wrong.Tie as tie
 
@@ -12,9 +11,6 @@ Inv-loop i₀ i = i ≤ 1280
 abbrev μ-loop : tie.MeasureT-loop
 μ-loop i₀ i = 1280 - i
 
-first-table-requires : tie.Need-first-table-requires Inv-loop μ-loop
-first-table-requires c κs = set-fits (c .before .loop .i) (c .loop-test .taken)
-
 pub first-wrong-spec : {M : Type 1} → statement M
 first-wrong-spec =
     tie.close
@@ -22,7 +18,7 @@ first-wrong-spec =
     Inv-loop
     μ-loop
     (λ c. omega arith)
-    first-table-requires
+    (λ c κs. search needs)
     (λ c. search needs)
     (λ c. omega arith)
     (λ c. omega arith)
