@@ -14,6 +14,7 @@ use case_lines::none;
 use case_lines::numbers;
 use case_lines::tell;
 use case_lines::total;
+use case_lines::wide8;
 use model::ItemId;
 use shop::COUNT_FIRST;
 use shop::ITEM_FIRST;
@@ -175,7 +176,7 @@ fn put_line(
         return;
     }
     t[3 + 3 * i] = ints::to_bits(ids[i]);
-    t[4 + 3 * i] = wide(slots[i]);
+    t[4 + 3 * i] = wide8(slots[i]);
     t[5 + 3 * i] = capped(sums[i]);
 }
 
@@ -192,7 +193,7 @@ fn line_of(
     }
     t[0] = r.refusal as u32;
     t[1] = ints::to_bits(ids[i]);
-    t[2] = wide(slots[i]);
+    t[2] = wide8(slots[i]);
     t[3] = capped(sums[i] / BILLION);
     t[4] = capped(sums[i] % BILLION);
 }
@@ -201,9 +202,5 @@ fn capped(x: u64) -> u32 {
     if MOST < x {
         return MOST as u32;
     }
-    x as u32
-}
-
-fn wide(x: u8) -> u32 {
     x as u32
 }

@@ -4,8 +4,11 @@ use births::start_anew;
 use case_lines::Answer;
 use case_lines::Words;
 use case_lines::bit;
+use case_lines::bits16;
+use case_lines::kind_in;
 use case_lines::low8;
 use case_lines::low16;
+use case_lines::number_in;
 use case_lines::row;
 use case_lines::signed16;
 use compile::Compiled;
@@ -288,7 +291,7 @@ fn tell_slot(slot: Slot, t: &mut Answer) {
     let codes = slot.requirements;
     let limit = slot.limit;
     t[2] = item_number(item);
-    t[3] = ints::to_bits(ints::widen16(limit));
+    t[3] = bits16(limit);
     t[4] = slot.len as u32;
     requirements(codes, slot.len as usize, t);
 }
@@ -310,15 +313,6 @@ fn requirements(codes: Row, n: usize, t: &mut Answer) {
         t[6 + 2 * i] = number_in(codes[i]);
         i += 1;
     }
-}
-
-fn kind_in(code: u64) -> u32 {
-    (code / 4294967296 % 8) as u32
-}
-
-// The number of a requirement is kept with 2^31 added.
-fn number_in(code: u64) -> u32 {
-    ((code % 4294967296 + 2147483648) % 4294967296) as u32
 }
 
 fn empties(shop: Shop) -> u32 {

@@ -155,6 +155,26 @@ pub fn row(kind: u32, number: u32, second: u32, from: u32) -> Row {
     codes
 }
 
+// Kind and number of a requirement by its code; where there is no code, both are 0.
+pub fn kind_in(code: u64) -> u32 {
+    (code / 4294967296 % 4294967296) as u32
+}
+
+pub fn number_in(code: u64) -> u32 {
+    if code == 0 {
+        return 0;
+    }
+    ((code % 4294967296 + 2147483648) % 4294967296) as u32
+}
+
+pub fn bits16(x: i16) -> u32 {
+    ints::to_bits(ints::widen16(x))
+}
+
+pub fn wide8(x: u8) -> u32 {
+    x as u32
+}
+
 pub fn bit(b: bool) -> u32 {
     if b {
         return 1;

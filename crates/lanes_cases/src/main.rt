@@ -14,6 +14,7 @@ use case_lines::numbers;
 use case_lines::signed16;
 use case_lines::tell;
 use case_lines::total;
+use case_lines::wide8;
 use lanes_expr::LANES;
 use memory::BLOCK_WORDS;
 use memory::BLOCKS;
@@ -218,10 +219,10 @@ fn shown(
     );
     t[0] = r.refusal as u32;
     t[1] = r.read;
-    t[2] = wide(refusals[0]);
+    t[2] = wide8(refusals[0]);
     t[3] = entered[0];
     t[4] = ints::to_bits(vars[1]);
-    t[5] = wide(refusals[1]);
+    t[5] = wide8(refusals[1]);
     t[6] = entered[1];
     t[7] = ints::to_bits(vars[1025]);
 }
@@ -232,10 +233,6 @@ fn held(a: &Words, items: &mut [i16; 520], vars: &mut [i32; 66560]) {
     items[512] = signed16(a[9]);
     vars[1] = 5;
     vars[1025] = 5;
-}
-
-fn wide(x: u8) -> u32 {
-    x as u32
 }
 
 // The saves are the first of 65.

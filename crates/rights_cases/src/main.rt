@@ -7,16 +7,20 @@ use case_lines::Answer;
 use case_lines::Tally;
 use case_lines::WORDS;
 use case_lines::Words;
+use case_lines::bits16;
 use case_lines::code;
+use case_lines::kind_in;
 use case_lines::letter;
 use case_lines::line_end;
 use case_lines::low8;
 use case_lines::low16;
 use case_lines::none;
+use case_lines::number_in;
 use case_lines::numbers;
 use case_lines::signed16;
 use case_lines::tell;
 use case_lines::total;
+use case_lines::wide8;
 use rights::Field;
 use rights::RIGHTS;
 use shop::CODES;
@@ -312,34 +316,14 @@ fn slots(
     t[0] = refusal as u32;
     t[1] = ints::to_bits(items[0]);
     t[2] = bits16(limits[0]);
-    t[3] = wide(lens[0]);
+    t[3] = wide8(lens[0]);
     t[4] = ints::to_bits(items[1]);
     t[5] = bits16(limits[1]);
-    t[6] = wide(lens[1]);
+    t[6] = wide8(lens[1]);
     t[7] = kind_in(codes[0]);
     t[8] = number_in(codes[0]);
     t[9] = kind_in(codes[1]);
     t[10] = number_in(codes[1]);
     t[11] = kind_in(codes[2]);
     t[12] = number_in(codes[2]);
-}
-
-fn bits16(x: i16) -> u32 {
-    ints::to_bits(ints::widen16(x))
-}
-
-fn wide(x: u8) -> u32 {
-    x as u32
-}
-
-fn kind_in(code: u64) -> u32 {
-    (code / 4294967296 % 4294967296) as u32
-}
-
-// The number of a requirement is kept with 2^31 added; where there is no code, it is told as 0.
-fn number_in(code: u64) -> u32 {
-    if code == 0 {
-        return 0;
-    }
-    ((code % 4294967296 + 2147483648) % 4294967296) as u32
 }

@@ -4,6 +4,7 @@ use case_lines::Answer;
 use case_lines::Tally;
 use case_lines::WORDS;
 use case_lines::Words;
+use case_lines::bits16;
 use case_lines::code;
 use case_lines::letter;
 use case_lines::line_end;
@@ -14,6 +15,7 @@ use case_lines::numbers;
 use case_lines::signed16;
 use case_lines::tell;
 use case_lines::total;
+use case_lines::wide8;
 use model::ItemId;
 use shop::CODES;
 use shop::ENTRIES;
@@ -177,19 +179,15 @@ fn put_end(r: Shopped, items: &[i16; 8], atcs: &[u8; 1], t: &mut Answer) {
     t[0] = r.refusal as u32;
     t[1] = r.steps as u32;
     t[2] = r.money;
-    t[11] = ints::to_bits(ints::widen16(items[3]));
-    t[12] = ints::to_bits(ints::widen16(items[4]));
-    t[13] = wide(atcs[0]);
+    t[11] = bits16(items[3]);
+    t[12] = bits16(items[4]);
+    t[13] = wide8(atcs[0]);
 }
 
 fn put_step(answers: &[u8; WISHES], coins: &[u32; WISHES], i: usize, t: &mut Answer) {
     if TOLD <= i {
         return;
     }
-    t[3 + 2 * i] = wide(answers[i]);
+    t[3 + 2 * i] = wide8(answers[i]);
     t[4 + 2 * i] = coins[i];
-}
-
-fn wide(x: u8) -> u32 {
-    x as u32
 }

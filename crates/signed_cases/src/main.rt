@@ -6,11 +6,13 @@ use case_lines::Tally;
 use case_lines::WORDS;
 use case_lines::Words;
 use case_lines::code;
+use case_lines::kind_in;
 use case_lines::letter;
 use case_lines::line_end;
 use case_lines::low8;
 use case_lines::low16;
 use case_lines::none;
+use case_lines::number_in;
 use case_lines::numbers;
 use case_lines::signed16;
 use case_lines::tell;
@@ -56,13 +58,14 @@ fn done(line: &[u8], a: &mut Words, t: &mut Answer, tally: Tally) -> Tally {
     tell(line, colon, a, t, tally)
 }
 
-// Eight items, of which item 6 has atc 1. Slot 0 has item 7, limit 3 and F2, slot 1 what the line says; the others are empty.
+// Eight items, of which item 6 has atc 1. Slot 0 has item 7, limit 3 and F2, slot 1 what the line says; the others are empty. A requirement that the line does not give is I0.
 fn asked(a: &Words, t: &mut Answer) {
     let mut attached: [u8; 8] = [0; 8];
     attached[6] = 2;
     let mut items: [i32; SLOTS] = [-1; SLOTS];
     let mut limits: [i16; SLOTS] = [0; SLOTS];
-    let mut codes: [u64; CODES] = [0; CODES];
+    let rest = code(0, 0);
+    let mut codes: [u64; CODES] = [rest; CODES];
     let mut lens: [u8; SLOTS] = [0; SLOTS];
     items[0] = 7;
     limits[0] = 3;
@@ -88,10 +91,6 @@ fn found(f: Finding, t: &mut Answer) {
     t[5] = f.lost as u32;
     t[6] = f.listed as u32;
     t[7] = f.settings as u32;
-    halves(f.codes[0], t);
-}
-
-fn halves(code: u64, t: &mut Answer) {
-    t[8] = (code / 4294967296) as u32;
-    t[9] = (code % 4294967296) as u32;
+    t[8] = kind_in(f.codes[0]);
+    t[9] = number_in(f.codes[0]);
 }
