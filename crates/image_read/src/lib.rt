@@ -5,8 +5,8 @@ ghost use lib.ListN.{length, drop};
 ghost use Rattle.model.specs.Limits.{blockLimit, commandLimit, nodeLimit, depthLimit, wide, wide16};
 ghost use Rattle.model.specs.Reading.{number};
 ghost use Rattle.model.specs.Image.{readBlockNo, commandOf, readCommand, readCommands, readLink, blockOf, readBlock, readBlocks, readImage};
-ghost use Rattle.model.specs.Memory.{nodesIn, codedIn, memoryIn};
-ghost use Rattle.memory.specs.View.{emptyIn};
+ghost use Rattle.model.specs.Memory.{nodesIn, codedIn};
+ghost use Rattle.memory.specs.View.{emptyIn, memoryOf};
 ghost use Rattle.image_read.specs.Told.{ToldImm, ToldHead, readAt, ToldExpr, Roomy, AboveOne, AboveTwo};
 ghost use Rattle.image_read.specs.Told.{limitsOf, ToldNo, ToldJump, ToldCommand, ToldSet, ToldCommands};
 ghost use Rattle.image_read.specs.Told.{ToldLink, ToldLinks, ToldCount, ToldBlock, ToldBlocks};
@@ -415,7 +415,7 @@ fn read_count(s: &[u8], at: usize, m: u16) -> Step
     }
 }
 
-// Block q, a code block: declared commands, the commands, next and else.
+// A code block after so many: declared commands, the commands, next and else.
 fn read_code(
     s: &[u8],
     at: usize,
@@ -423,25 +423,23 @@ fn read_code(
     val: &mut Values,
     cw: &mut CommandWords,
     bw: &mut BlockWords,
-    n: u16,
-    m: u16,
-    q: u16,
+    k: Counts,
     blocks: u16,
 ) -> Stage
-    requires { ⌜ (n ≤ nodeLimit) × (m ≤ commandLimit) × (q < blockLimit) × (blocks ≤ blockLimit) ⌝ }
-    ensures { λ r. ⌜ ToldBlock (now (s .entry)) (memoryIn (now (ws .entry)) (now (val .entry)) (now (cw .entry)) (now (bw .entry)) n m q) (blockOf (limitsOf blocks) m n 1 (drop at (now (s .entry)))) r (now (ws .exit)) (now (val .exit)) (now (cw .exit)) (now (bw .exit)) (q + 1) ⌝ }
+    requires { ⌜ (k .nodes ≤ nodeLimit) × (k .commands ≤ commandLimit) × (k .blocks < blockLimit) × (blocks ≤ blockLimit) ⌝ }
+    ensures { λ r. ⌜ ToldBlock (now (s .entry)) (memoryOf (now (ws .entry)) (now (val .entry)) (now (cw .entry)) (now (bw .entry)) k) (blockOf (limitsOf blocks) (k .commands) (k .nodes) 1 (drop at (now (s .entry)))) r (now (ws .exit)) (now (val .exit)) (now (cw .exit)) (now (bw .exit)) (k .blocks + 1) ⌝ }
 {
-    let count = read_count(s, at, m);
+    let count = read_count(s, at, k.commands);
     match count {
         Step::Got(h, p) => {
-            let r = read_commands(s, p, ws, val, cw, n, m, h, blocks);
+            let r = read_commands(s, p, ws, val, cw, k.nodes, k.commands, h, blocks);
             match r {
                 Step::Got(n1, p1) => {
                     let links = read_links(s, p1, blocks);
                     match links {
                         Stage::Got(next, other, p2) => {
-                            push_block(bw, q, 1, m, h, next, other);
-                            Stage::Got(n1, m + h, p2)
+                            push_block(bw, k.blocks, 1, k.commands, h, next, other);
+                            Stage::Got(n1, k.commands + h, p2)
                         }
                         Stage::No(e) => Stage::No(e),
                     }
@@ -453,7 +451,7 @@ fn read_code(
     }
 }
 
-// Block q, where so many nodes and commands were read before.
+// The block after so many, with the nodes and commands that were read before.
 fn read_block(
     s: &[u8],
     at: usize,
@@ -461,25 +459,23 @@ fn read_block(
     val: &mut Values,
     cw: &mut CommandWords,
     bw: &mut BlockWords,
-    n: u16,
-    m: u16,
-    q: u16,
+    k: Counts,
     blocks: u16,
 ) -> Stage
-    requires { ⌜ (n ≤ nodeLimit) × (m ≤ commandLimit) × (q < blockLimit) × (blocks ≤ blockLimit) ⌝ }
-    ensures { λ r. ⌜ ToldBlock (now (s .entry)) (memoryIn (now (ws .entry)) (now (val .entry)) (now (cw .entry)) (now (bw .entry)) n m q) (readBlock (limitsOf blocks) m n (drop at (now (s .entry)))) r (now (ws .exit)) (now (val .exit)) (now (cw .exit)) (now (bw .exit)) (q + 1) ⌝ }
+    requires { ⌜ (k .nodes ≤ nodeLimit) × (k .commands ≤ commandLimit) × (k .blocks < blockLimit) × (blocks ≤ blockLimit) ⌝ }
+    ensures { λ r. ⌜ ToldBlock (now (s .entry)) (memoryOf (now (ws .entry)) (now (val .entry)) (now (cw .entry)) (now (bw .entry)) k) (readBlock (limitsOf blocks) (k .commands) (k .nodes) (drop at (now (s .entry)))) r (now (ws .exit)) (now (val .exit)) (now (cw .exit)) (now (bw .exit)) (k .blocks + 1) ⌝ }
 {
     let kind = read_number(s, at, 3);
     match kind {
-        Num::Got(k, p) => match k {
+        Num::Got(code, p) => match code {
             0 => {
-                push_block(bw, q, 0, 0, 0, 0, 0);
-                Stage::Got(n, m, p)
+                push_block(bw, k.blocks, 0, 0, 0, 0, 0);
+                Stage::Got(k.nodes, k.commands, p)
             }
-            1 => read_code(s, p, ws, val, cw, bw, n, m, q, blocks),
+            1 => read_code(s, p, ws, val, cw, bw, k, blocks),
             _ => {
-                push_block(bw, q, 2, 0, 0, 0, 0);
-                Stage::Got(n, m, p)
+                push_block(bw, k.blocks, 2, 0, 0, 0, 0);
+                Stage::Got(k.nodes, k.commands, p)
             }
         },
         Num::Bad => Stage::No(2),
@@ -504,7 +500,12 @@ fn read_blocks(
     let mut m: u16 = 0;
     let mut i: u16 = 0;
     while i < count {
-        let r = read_block(s, p, ws, val, cw, bw, n, m, i, count);
+        let k = Counts {
+            nodes: n,
+            commands: m,
+            blocks: i,
+        };
+        let r = read_block(s, p, ws, val, cw, bw, k, count);
         match r {
             Stage::Got(n1, m1, p1) => {
                 n = n1;
