@@ -144,7 +144,7 @@ module _ (ws : List ℕ) (vs : List ℤ) (t : List ℕ) where
           let e : n + getD t i 0 ≡ n + 1 + s₁ + s₂ = omega arith in
           let P = ih _ (A .left) S i (A .left) (n + 1) (at + 1) (o + 1) l (omega arith) (omega arith) in
           let Q = ih _ (A .right) R i (A .right) (n + 1 + s₁) (P .to) (o + 1) l (omega arith) (omega arith) in
-          reads-as e (node-two (nodesIn ws vs l) b i l n at o k (within b l n o h (omega arith) (omega arith)) x kk (P .told) refl (Q .told))
+          reads-as {to = Q .to} e (node-two (nodesIn ws vs l) b i l n at o k (within b l n o h (omega arith) (omega arith)) {r = Fine (n + 1 + s₁ + s₂) (Q .to)} x kk (P .told) refl (Q .told))
 
   node-reads : (d i : ℕ) → getD ws (3 * i) 0 < 19 → Node ws vs t i (getD t i 0) → Operands (Shallow ws d) ws i → ((j : ℕ) → j < i → Shallow ws d j → ReadsBy ws vs t d j) → ReadsBy ws vs t (suc d) i
   node-reads d i low (two x e A) O ih = reads-two d i (Two x) low e ih x refl A (O .left x e) (O .right x e)

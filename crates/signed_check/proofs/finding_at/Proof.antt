@@ -35,19 +35,19 @@ without-item-requires : tie.Need-without-item-requires
 without-item-requires c κs =
     let s = c .before .before .before .before .before .before in
     let e = c .before .before .sort-row .ensures (s .args .items .now) (s .args .limits .now) (slot-exact (sheet s) (s .pre .1) (slot s) (s .pre .2)) in
-    (c .enum-told .given .1, set-long (slot s) _ _ e ∙ ap (λ (x : Slot). length (sorted (slotOf x .requirements))) (sym (c .before .before .before .before .slot-at .ensures)))
+    (c .enum-told .given .1, set-long (slot s) _ _ e ∙ ap (λ (x : Slot). length (sorted (slotOf x .requirements))) {x = slot s} (sym {b = slot s} (c .before .before .before .before .slot-at .ensures)))
 
 with-item-requires : tie.Need-with-item-requires
 with-item-requires c κs =
     let s = c .before .before .before .before .before .before .before .before in
     let e = c .before .before .before .before .sort-row .ensures (s .args .items .now) (s .args .limits .now) (slot-exact (sheet s) (s .pre .1) (slot s) (s .pre .2)) in
-    (s .pre .1, ap (λ (x : Slot). slotOk (sheet s) (slotOf x)) (c .before .before .before .before .before .before .slot-at .ensures) ∙ s .pre .2, c .before .before .item .given .1, e ∙ ap sortedReqs (sym (c .before .before .before .before .before .before .slot-at .ensures)))
+    (s .pre .1, ap (λ (x : Slot). slotOk (sheet s) (slotOf x)) {y = slot s} (c .before .before .before .before .before .before .slot-at .ensures) ∙ s .pre .2, c .before .before .item .given .1, e ∙ ap sortedReqs {x = slot s} (sym {b = slot s} (c .before .before .before .before .before .before .slot-at .ensures)))
 
 returns : tie.Need-returns
-returns c = let s = c .before .before .before .before .before .before .before in c .without-item .ensures (sheet s) ∙ ap (λ (x : Slot). findingOf (finding (sheet s) (slotOf x))) (c .before .before .before .before .before .slot-at .ensures)
+returns c = let s = c .before .before .before .before .before .before .before in c .without-item .ensures (sheet s) ∙ ap (λ (x : Slot). findingOf (finding (sheet s) (slotOf x))) {y = slot s} (c .before .before .before .before .before .slot-at .ensures)
 
 returns-2 : tie.Need-returns-2
-returns-2 c = let s = c .before .before .before .before .before .before .before .before .before in c .with-item .ensures ∙ ap (λ (x : Slot). findingOf (finding (sheet s) (slotOf x))) (c .before .before .before .before .before .before .before .slot-at .ensures)
+returns-2 c = let s = c .before .before .before .before .before .before .before .before .before in c .with-item .ensures ∙ ap (λ (x : Slot). findingOf (finding (sheet s) (slotOf x))) {y = slot s} (c .before .before .before .before .before .before .before .slot-at .ensures)
 
 pub finding-at-spec : {M : Type 1} → statement M
 finding-at-spec =

@@ -31,7 +31,7 @@ returns-3 : tie.Need-returns-3
 returns-3 c =
     let s = c .before .before .before .before in
     let e : left s ≡ shownCode (s .args .verdict) (left s) = rw (ne-eqb (s .args .verdict) 0 (c .before .before .before .if1 .left), ne-eqb (s .args .verdict) 3 (c .before .before .if2 .left)) in
-    c .haves-left .ensures ∙ ap reqsOf e
+    _∙_ {b = reqsOf (left s)} (c .haves-left .ensures) (ap reqsOf e)
 
 pub settings-for-spec : {M : Type 1} → statement M
 settings-for-spec = tie.close (tie.spec returns returns-2 (λ c κs. search needs) returns-3)
