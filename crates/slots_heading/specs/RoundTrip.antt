@@ -159,7 +159,7 @@ same-atcs (suc n) m s e =
     let u = taken (λ k. leb k m) _ s e in
     let v = split (readAtcs n m (u .rest)) _ (u .then) in
     let w = same-atcs n m (u .rest) (v .first) in
-    along (λ ys r. (length ys ≡ suc n) × (s ≡ atcsBytes ys ++ r)) (v .then) (ap suc (w .0), rw (append-assoc, entry-number (u .value)) (before (u .value) (u .bytes) (w .1)))
+    along (λ ys r. (length ys ≡ suc n) × (s ≡ atcsBytes ys ++ r)) (v .then) (ap suc (w .0), rw (append-assoc, entry-number (u .value)) (before (u .value) {u = atcsBytes (v .value) ++ v .rest} (u .bytes) (w .1)))
 
 same-timers : (xs : List (Option ℕ)) (m : ℕ) (s : List ℕ) {h : Sheet.Sheet} {r : List ℕ} → readTimers xs m s ≡ got h r
     → (h .atcOf ≡ xs) × (h .atcCount ≡ m) × (s ≡ word (h .timer5) ++ (word (h .timer10) ++ (word (h .timer15) ++ r)))
@@ -169,7 +169,7 @@ same-timers xs m s e =
     let v = taken (λ b. ltb b (length xs) && not (eqb b (u .value))) _ (u .rest) (u .then) in
     let w = taken (λ c. ltb c (length xs) && (not (eqb c (u .value)) && not (eqb c (v .value)))) _ (v .rest) (v .then) in
     along (λ h r. (h .atcOf ≡ xs) × (h .atcCount ≡ m) × (s ≡ word (h .timer5) ++ (word (h .timer10) ++ (word (h .timer15) ++ r)))) (w .then)
-    (refl, refl, before (u .value) (u .bytes) (before (v .value) (v .bytes) (w .bytes)))
+    (refl, refl, before (u .value) {u = word (v .value) ++ (word (w .value) ++ w .rest)} (u .bytes) (before (v .value) {u = word (w .value) ++ w .rest} (v .bytes) (w .bytes)))
 
 -- the counts and the atcs are those of the sheet
 of-sheet : (h : Sheet.Sheet) (n m : ℕ) (xs : List (Option ℕ)) (s t : List ℕ) → h .atcOf ≡ xs → h .atcCount ≡ m → length xs ≡ n

@@ -32,7 +32,7 @@ atcs-known (suc n) m s e =
     let v = split (readAtcs n m (u .rest)) _ (t .1) in
     let w = atcs-known n m (u .rest) (v .first) in
     let q = got-value (v .then) in
-    rw (← q) (ap suc (w .0), rw (entry-known m (u .value) (t .0), w .1))
+    rw (← q) (ap suc {x = length (v .value)} (w .0), rw (entry-known m (u .value) (t .0), w .1))
 
 timed-ok : (xs : List (Option ℕ)) (m a b c : ℕ) → ltb a (length xs) ≡ true → ltb b (length xs) && not (eqb b a) ≡ true → ltb c (length xs) && (not (eqb c a) && not (eqb c b)) ≡ true
     → timersOk (record { atcOf = xs; atcCount = m; timer5 = a; timer10 = b; timer15 = c }) ≡ true
@@ -46,7 +46,7 @@ timers-known xs m s e =
     let v = split (number wide (u .rest)) _ (a .1) in
     let b = let-through (ltb (v .value) (length xs) && not (eqb (v .value) (u .value))) _ (v .then) in
     let w = split (number wide (v .rest)) _ (b .1) in
-    let c = let-through (ltb (w .value) (length xs) && (not (eqb (w .value) (u .value)) && not (eqb (w .value) (v .value)))) _ (w .then) in
+    let c = let-through (ltb (w .value) (length xs) && (not (eqb (w .value) (u .value)) && not (eqb (w .value) (v .value)))) (got (record { atcOf = xs; atcCount = m; timer5 = u .value; timer10 = v .value; timer15 = w .value }) (w .rest)) (w .then) in
     let q = got-value (c .1) in
     rw (← q) (refl, refl, timed-ok xs m (u .value) (v .value) (w .value) (a .0) (b .0) (c .0))
 

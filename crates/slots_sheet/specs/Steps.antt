@@ -34,6 +34,13 @@ pub rejected : {n : ℕ} {A B : Type 0} → (n ≡ 0 → ⊥) → Either n A B �
 rejected e (took z x) = absurd (e z)
 rejected e (left z x) = x
 
+-- of a number as it was told: read, or refused
+pub entry-read : (s : List ℕ) (at : ℕ) (ok : ℕ → Bool) (r : Entry) → r .refusal ≡ 0 → ToldEntry s at ok r → Passed s at ok (r .value) (r .at)
+entry-read s at ok r e t = accepted e t
+
+pub entry-refused : (s : List ℕ) (at : ℕ) (ok : ℕ → Bool) (r : Entry) → (r .refusal ≡ 0 → ⊥) → ToldEntry s at ok r → judged ok (drop at s) ≡ refused (r .refusal)
+entry-refused s at ok r e t = rejected e t
+
 -- ---- one number
 
 module _ (s : List ℕ) (at : ℕ) (ok : ℕ → Bool) (r : Num) (t : Told s r (number wide (drop at s))) where

@@ -19,8 +19,9 @@ use Rattle.image_numbers.specs.Told.{Told}
 use Rattle.image_numbers.specs.declared.Num.{Num}
 use Rattle.image_numbers.specs.declared.Num.the-variants.{Got, Bad}
 use Rattle.slots_sheet.specs.Outcome.{Head, headOf, readHead, noHeading, held, nothing, by, into, outcome, readInto, Within}
-use Rattle.slots_sheet.specs.Told.{took, left, within, judged, Passed, SetupRead, ToldSetup, AtcsRead, ItemsRead, timed, TimersRead, HeadRead, ToldHead}
+use Rattle.slots_sheet.specs.Told.{took, left, within, judged, Passed, SetupRead, ToldSetup, ToldAtcs, ItemsRead, timed, TimersRead, HeadRead, ToldHead}
 use Rattle.slots_sheet.specs.Steps.{accepted, rejected, within-most, passed-on, judged-on, from-zero}
+use Rattle.slots_sheet.specs.declared.Entry.{Entry}
 use Rattle.slots_sheet.specs.declared.Items.{Items}
 use Rattle.slots_sheet.specs.declared.Timers.{Timers}
 use Rattle.slots_sheet.specs.declared.Heading.{Heading}
@@ -66,11 +67,11 @@ module _ (s : List ℕ) where
       at-atcs : readSheet s ≡ onItems n m (drop q s)
       at-atcs = at-items ∙ passed-on (within 0 mostAtcs) (λ k. leb k mostAtcs) (from-zero mostAtcs) (onItems n) y
 
-      pub atcs-refused : (e : ℕ) → readAtcs n m (drop q s) ≡ refused e → readSheet s ≡ refused e
-      atcs-refused e h = at-atcs ∙ rw h
+      pub atcs-refused : (ks : List ℕ) (r : Entry) (ks′ : List ℕ) → (r .refusal ≡ 0 → ⊥) → ToldAtcs s q n m ks r ks′ → readSheet s ≡ refused (r .refusal)
+      atcs-refused ks r ks′ z t = at-atcs ∙ rw (rejected z t)
 
-      pub items-got : (ks : List ℕ) (r : ℕ) (ks′ : List ℕ) → AtcsRead s q n m ks r ks′ → ItemsRead s ks (record { refusal = 0; items = n; atcs = m; at = r }) ks′
-      items-got ks r ks′ u = record { read = at-atcs ∙ rw (u .read); rest = u .rest; place = u .place; size = u .size; few = within-most fewestItems mostItems n (x .good) }
+      pub items-got : (ks : List ℕ) (r : Entry) (ks′ : List ℕ) → r .refusal ≡ 0 → ToldAtcs s q n m ks r ks′ → ItemsRead s ks (record { refusal = 0; items = n; atcs = m; at = r .at }) ks′
+      items-got ks r ks′ z t = let u = accepted z t in record { read = at-atcs ∙ rw (u .read); rest = u .rest; place = u .place; size = u .size; few = within-most fewestItems mostItems n (x .good) }
 
 -- ---- the whole
 

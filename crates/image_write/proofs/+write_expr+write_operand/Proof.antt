@@ -3,7 +3,7 @@ use mir.Syntax.{w32}
 use mir.Facts.{toZ-ofZ}
 use Rattle.model.specs.Image.{kindOf}
 use Rattle.model.specs.Reading.{word, zig}
-use Rattle.model.specs.Memory.{nodesIn, codeAt, rightAt, valueAt}
+use Rattle.model.specs.Memory.{nodesIn, codeAt, leftAt, rightAt, valueAt}
 use Rattle.model.specs.Record.{followImage, nodeImage}
 use Rattle.memory.specs.NodeLaws.{image-node, image-none}
 use Rattle.image_numbers.specs.Stored.{stored-on, stored-as, room-as, room-first, room-next}
@@ -74,7 +74,7 @@ write-expr-write-operand-requires-2 t c κs =
     let s = c .before .before .before .before .before .before .before .before .before .before .before .before .before .before .before .before in
     let ns = nodesIn (s .args .ws .now) (s .args .val .now) 0 in
     let m : 2 * (s .args .i) + 1 ≡ t = s .pre .0 in
-    (omega arith, (omega (arith, s .pre .1 .0), room-next (c .before .before .before .before .write-operand .ensures) (room-next (c .before .before .before .before .before .before .before .before .before .before .before .before .write-short .ensures) (room-as (node-two ns (suc (s .args .i)) (s .args .i) (omega arith) _ (c .before .before .before .before .before .before .before .before .before .kind-of .ensures) _ (c .before .before .before .before .before .before .before .enum-told .given .1)) (s .pre .1 .1)))))
+    (omega arith, (omega (arith, s .pre .1 .0), room-next {a = nodeImage ns (s .args .i) (leftAt ns (s .args .i))} (c .before .before .before .before .write-operand .ensures) (room-next (c .before .before .before .before .before .before .before .before .before .before .before .before .write-short .ensures) (room-as (node-two ns (suc (s .args .i)) (s .args .i) (omega arith) _ (c .before .before .before .before .before .before .before .before .before .kind-of .ensures) _ (c .before .before .before .before .before .before .before .enum-told .given .1)) (s .pre .1 .1)))))
 
 write-expr-write-operand-requires-3 : (t : ℕ) → write-expr-lts.Need-write-operand-requires-3 (write-expr-claims t) (write-expr-at t) write-expr.Post
 write-expr-write-operand-requires-3 t c κs =
@@ -99,13 +99,13 @@ write-expr-returns : (t : ℕ) → write-expr-lts.Need-returns (write-expr-claim
 write-expr-returns t c =
     let s = c .before .before .before .before .before .before .before .before .before .before .before .before .before .before .before .before .before .before .before in
     let ns = nodesIn (s .args .ws .now) (s .args .val .now) 0 in
-    stored-as (node-two ns (suc (s .args .i)) (s .args .i) (omega arith) _ (c .before .before .before .before .before .before .before .before .before .before .before .before .kind-of .ensures) _ (c .before .before .before .before .before .before .before .before .before .before .enum-told .given .1)) (stored-on (c .before .before .before .before .before .before .before .before .before .before .before .before .before .before .before .write-short .ensures) (stored-on (c .before .before .before .before .before .before .before .write-operand .ensures) (c .before .before .write-operand2 .ensures)))
+    stored-as (node-two ns (suc (s .args .i)) (s .args .i) (omega arith) _ (c .before .before .before .before .before .before .before .before .before .before .before .before .kind-of .ensures) _ (c .before .before .before .before .before .before .before .before .before .before .enum-told .given .1)) (stored-on (c .before .before .before .before .before .before .before .before .before .before .before .before .before .before .before .write-short .ensures) (stored-on {a = nodeImage ns (s .args .i) (leftAt ns (s .args .i))} (c .before .before .before .before .before .before .before .write-operand .ensures) (c .before .before .write-operand2 .ensures)))
 
 write-expr-returns-2 : (t : ℕ) → write-expr-lts.Need-returns-2 (write-expr-claims t) (write-expr-at t) write-expr.Post
 write-expr-returns-2 t c =
     let s = c .before .before .before .before .before .before .before .before .before .before .before .before .before .before in
     let ns = nodesIn (s .args .ws .now) (s .args .val .now) 0 in
-    stored-as (node-one ns (suc (s .args .i)) (s .args .i) (omega arith) _ (c .before .before .before .before .before .before .before .kind-of .ensures) _ (c .before .before .before .before .before .enum-told2 .given .1)) (stored-on (c .before .before .before .before .before .before .before .before .before .before .write-short .ensures) (c .before .before .write-operand3 .ensures))
+    stored-as (node-one ns (suc (s .args .i)) (s .args .i) (omega arith) _ (c .before .before .before .before .before .before .before .kind-of .ensures) _ (c .before .before .before .before .before .enum-told2 .given .1)) (stored-on {b = nodeImage ns (s .args .i) (leftAt ns (s .args .i))} (c .before .before .before .before .before .before .before .before .before .before .write-short .ensures) (c .before .before .write-operand3 .ensures))
 
 write-expr-returns-3 : (t : ℕ) → write-expr-lts.Need-returns-3 (write-expr-claims t) (write-expr-at t) write-expr.Post
 write-expr-returns-3 t c =

@@ -36,7 +36,7 @@ write-short-requires-3 c κs = room-next (c .before .before .before .before .wri
 returns : tie.Need-returns
 returns c =
     let start = c .before .before .before .before .before .before .before .before .before .before .before .before .before .before .before .before .before .before .before .before .before in
-    stored-as (code-image (me (start)) (start .args .i)) (stored-on (c .before .before .before .before .before .before .before .before .before .before .before .before .before .before .before .before .before .write-short .ensures) (stored-on (c .before .before .before .before .before .before .before .before .before .before .before .before .write-commands .ensures) (stored-on (c .before .before .before .before .before .before .before .write-short2 .ensures) (c .before .before .write-short3 .ensures))))
+    stored-as (code-image (me (start)) (start .args .i)) (stored-on (c .before .before .before .before .before .before .before .before .before .before .before .before .before .before .before .before .before .write-short .ensures) (stored-on {a = commandsImageIn (me start .coded) (blockWord (me start) (start .args .i) 2) (blockWord (me start) (start .args .i) 1)} (c .before .before .before .before .before .before .before .before .before .before .before .before .write-commands .ensures) (stored-on (c .before .before .before .before .before .before .before .write-short2 .ensures) (c .before .before .write-short3 .ensures))))
 
 pub write-code-spec : {M : Type 1} → statement M
 write-code-spec = tie.close (tie.spec (λ c. search needs) (λ c. search needs) (λ c. search needs) (λ c. search needs) write-short-requires (λ c. search needs) (λ c. search needs) (λ c. search needs) (λ c. search needs) write-commands-requires (λ c. search needs) (λ c. search needs) (λ c. search needs) (λ c. search needs) write-short-requires-2 (λ c. search needs) (λ c. search needs) (λ c. search needs) (λ c. search needs) write-short-requires-3 (λ c. search needs) returns)

@@ -43,7 +43,7 @@ write-term-requires-2 c κs = (
 returns : tie.Need-returns
 returns c =
     let start = c .before .before .before .before .before .before .before .before .before .before .before .before .before .before .before .before .before in
-    stored-as (set-image (co (start)) (start .args .i)) (stored-on (c .before .before .before .before .before .before .before .before .before .before .before .before .before .write-short .ensures) (stored-as (rest-variable (co (start)) (start .args .i) (commandWord (co (start)) (start .args .i) 3) (c .before .before .before .before .before .before .before .before .before .before .if1 .taken)) (stored-on (c .before .before .before .before .before .before .before .write-term .ensures) (c .before .before .write-term2 .ensures))))
+    stored-as (set-image (co (start)) (start .args .i)) (stored-on (c .before .before .before .before .before .before .before .before .before .before .before .before .before .write-short .ensures) (stored-as (rest-variable (co (start)) (start .args .i) (commandWord (co (start)) (start .args .i) 3) (c .before .before .before .before .before .before .before .before .before .before .if1 .taken)) (stored-on {a = rootImage (co start .nodes) (commandWord (co start) (start .args .i) 1)} {b = rootImage (co start .nodes) (commandWord (co start) (start .args .i) 2)} (c .before .before .before .before .before .before .before .write-term .ensures) (c .before .before .write-term2 .ensures))))
 
 write-term-requires-3 : tie.Need-write-term-requires-3
 write-term-requires-3 c κs = (

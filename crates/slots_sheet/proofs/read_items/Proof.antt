@@ -24,13 +24,13 @@ returns-3 : tie.Need-returns-3
 returns-3 c =
     let x = accepted (c .before .before .before .before .before .before .before .before .if1 .left) (c .before .before .before .before .before .before .before .before .before .before .read-within .ensures) in
     let y = accepted (c .before .before .before .before .before .if2 .left) (c .before .before .before .before .before .before .before .read-within2 .ensures) in
-    rw (c .no-items3 .ensures) (left (c .before .if3 .taken) (atcs-refused _ _ _ x _ _ y _ (rejected (c .before .if3 .taken) (c .before .before .before .read-atcs .ensures))))
+    rw (c .no-items3 .ensures) (left (c .before .if3 .taken) (atcs-refused _ _ _ x _ _ y _ (c .before .before .before .read-atcs .result) _ (c .before .if3 .taken) (c .before .before .before .read-atcs .ensures)))
 
 returns-4 : tie.Need-returns-4
 returns-4 c =
     let x = accepted (c .before .before .before .before .before .before .before .if1 .left) (c .before .before .before .before .before .before .before .before .before .read-within .ensures) in
     let y = accepted (c .before .before .before .before .if2 .left) (c .before .before .before .before .before .before .read-within2 .ensures) in
-    took refl (items-got _ _ _ x _ _ y _ _ _ (accepted (c .if3 .left) (c .before .before .read-atcs .ensures)))
+    took refl (items-got _ _ _ x _ _ y _ (c .before .before .read-atcs .result) _ (c .if3 .left) (c .before .before .read-atcs .ensures))
 
 pub read-items-spec : {M : Type 1} → statement M
 read-items-spec =
