@@ -23,21 +23,21 @@ loop-again c =
     let a = c .before .before .before in
     let b = a .before .before in
     let d = b .before in
-    one-entered _ _ _ _ _ (d .loop .inv) (b .loop-test .taken) (a .step-block .result) _ _ (c .before .s .given .1) (a .step-block .ensures)
+    one-entered _ _ _ _ _ (d .loop .inv) (b .loop-test .taken) (a .step-block .result) _ (a .step-block .last .1 .1 .1 .1 .1 .1 .1 .1 .1 .1 .0) (c .before .s .given .1) (a .step-block .ensures)
 
 returns : tie.Need-returns Inv-loop μ-loop
 returns c =
     let a = c .before .before in
     let b = a .before .before in
     let d = b .before in
-    done-entered _ _ _ _ _ (d .loop .inv) (b .loop-test .taken) (a .step-block .result) _ (c .enum-told .given .1) (a .step-block .ensures)
+    done-entered _ _ _ _ _ (d .loop .inv) (b .loop-test .taken) (a .step-block .result) (a .step-block .last .1 .1 .1 .1 .1 .1 .1 .1 .1 .1 .0) (c .enum-told .given .1) (a .step-block .ensures)
 
 returns-2 : tie.Need-returns-2 Inv-loop μ-loop
 returns-2 c =
     let a = c .before .before .before in
     let b = a .before .before in
     let d = b .before in
-    halt-entered _ _ _ _ _ (d .loop .inv) (b .loop-test .taken) (a .step-block .result) _ _ (c .before .s2 .given .1) (a .step-block .ensures)
+    halt-entered _ _ _ _ _ (d .loop .inv) (b .loop-test .taken) (a .step-block .result) _ (a .step-block .last .1 .1 .1 .1 .1 .1 .1 .1 .1 .1 .0) (c .before .s2 .given .1) (a .step-block .ensures)
 
 returns-3 : tie.Need-returns-3 Inv-loop μ-loop
 returns-3 c = all-spent _ _ _ _ _ (c .before .loop .inv) (c .loop-test .left)
