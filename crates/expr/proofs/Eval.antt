@@ -14,7 +14,11 @@ use Rattle.model.specs.declared.Op1.{Op1}
 use Rattle.model.specs.declared.Kind.{Kind}
 use Rattle.model.specs.declared.Kind.the-variants.{Two, One, Imm16, Imm32, Other}
 use Rattle.expr.specs.Tree.{treeBelow, below-out, below-two, below-one, below-imm16, below-imm32, below-other}
-use Rattle.expr.specs.Value.{join2, join1}
+use Rattle.expr.specs.Value.{valueOf, join2, join1}
+use Rattle.expr.specs.Requirement.{numberOf}
+use Rattle.expr.specs.declared.Value as code
+use Rattle.expr.specs.declared.MaybeNumber.{MaybeNumber}
+use Rattle.expr.specs.declared.MaybeNumber.the-variants.{Is}
 
 -- an Imm is worth its number
 Worth : Value → Option ℤ → Type 0
@@ -33,9 +37,13 @@ value-eval : (s : Save) (v : List ℤ) (e : Expr) (z : ℤ) → value e ≡ some
 unfolding Worth
 value-eval s v e z p = subst (Worth (eval s v e)) p (imm-worth s v e)
 
--- an Imm is read on the spot
-pub number-worth : (s : Save) (v : List ℤ) (e : Expr) {x : Value} {y z : ℤ} → x ≡ ok y → y ≡ z → some z ≡ value e → x ≡ eval s v e
-number-worth s v e {z = z} p q h = p ∙ ap ok q ∙ sym (value-eval s v e z (sym h))
+-- an Imm is read on the spot: m is the number that was found, y what was read
+pub number-worth : (s : Save) (v : List ℤ) (e : Expr) {x : Value} {y z : ℤ} {m : MaybeNumber} → x ≡ ok y → y ≡ z → m ≡ Is z → numberOf m ≡ value e → x ≡ eval s v e
+number-worth s v e {z = z} p q w h = p ∙ ap ok q ∙ sym (value-eval s v e z (sym h ∙ ap numberOf w))
+
+-- and what was answered for one that was evaluated by a call
+pub called-worth : (s : Save) (v : List ℤ) (e : Expr) {x y z : code.Value} → x ≡ y → y ≡ z → valueOf z ≡ eval s v e → valueOf x ≡ eval s v e
+called-worth s v e p q h = ap valueOf (p ∙ q) ∙ h
 
 pub out-done : (s : Save) (v : List ℤ) (ns : Nodes) (b i : ℕ) → b ≤ i → stop 13 ≡ eval s v (treeBelow ns b i)
 out-done s v ns b i h = sym (ap (eval s v) (below-out ns b i h))
@@ -44,11 +52,15 @@ module _ (s : Save) (v : List ℤ) (ns : Nodes) (b i : ℕ) (lt : i < b) (k : Ki
   pub two-done : (o : Op2) (r x y : Value) → k ≡ Two o → r ≡ join2 o x y → x ≡ eval s v (treeBelow ns i (leftAt ns i)) → y ≡ eval s v (treeBelow ns i (rightAt ns i)) → r ≡ eval s v (treeBelow ns b i)
   two-done o r x y e er ex ey = er ∙ rw (ex, ey) (sym (ap (eval s v) (below-two ns b i lt k found o e)))
 
-  pub one-done : (o : Op1) (r x : Value) → k ≡ One o → r ≡ join1 s v o x → x ≡ eval s v (treeBelow ns i (leftAt ns i)) → r ≡ eval s v (treeBelow ns b i)
-  one-done o r x e er ex = er ∙ rw ex (sym (ap (eval s v) (below-one ns b i lt k found o e)))
+  one-value : (o : Op1) (r x : Value) → k ≡ One o → r ≡ join1 s v o x → x ≡ eval s v (treeBelow ns i (leftAt ns i)) → r ≡ eval s v (treeBelow ns b i)
+  one-value o r x e er ex = er ∙ rw ex (sym (ap (eval s v) (below-one ns b i lt k found o e)))
 
-  pub number-done : (o : Op1) (r : Value) (z : ℤ) → k ≡ One o → r ≡ read1 s v o z → some z ≡ value (treeBelow ns i (leftAt ns i)) → r ≡ eval s v (treeBelow ns b i)
-  number-done o r z e er ez = one-done o r (ok z) e er (sym (value-eval s v (treeBelow ns i (leftAt ns i)) z (sym ez)))
+  -- the operand x was answered as y
+  pub one-done : (o : Op1) (r : Value) (x y : code.Value) → k ≡ One o → r ≡ join1 s v o (valueOf x) → x ≡ y → valueOf y ≡ eval s v (treeBelow ns i (leftAt ns i)) → r ≡ eval s v (treeBelow ns b i)
+  one-done o r x y e er q ey = one-value o r (valueOf x) e er (ap valueOf q ∙ ey)
+
+  pub number-done : (o : Op1) (r : Value) (z : ℤ) {m : MaybeNumber} → k ≡ One o → r ≡ read1 s v o z → m ≡ Is z → numberOf m ≡ value (treeBelow ns i (leftAt ns i)) → r ≡ eval s v (treeBelow ns b i)
+  number-done o r z e er w h = one-value o r (ok z) e er (sym (value-eval s v (treeBelow ns i (leftAt ns i)) z (sym h ∙ ap numberOf w)))
 
   pub imm16-done : (z : ℤ) → k ≡ Imm16 → z ≡ valueAt ns i → ok z ≡ eval s v (treeBelow ns b i)
   imm16-done z e ez = ap ok ez ∙ sym (ap (eval s v) (below-imm16 ns b i lt k found e))
