@@ -20,6 +20,9 @@ use Rattle.model.specs.declared.Op1.the-variants.{Not, Flag, Variable, Item, At
 use Rattle.model.specs.declared.Kind.{Kind}
 use Rattle.model.specs.declared.Kind.the-variants.{Two, One, Imm16, Imm32, Other}
 use Rattle.expr.specs.Tree.{treeBelow, below-out, below-two, below-one, below-imm16, below-imm32, below-other}
+use Rattle.expr.specs.Requirement.{numberOf}
+use Rattle.expr.specs.declared.MaybeNumber.{MaybeNumber}
+use Rattle.expr.specs.declared.MaybeNumber.the-variants.{Is}
 use Rattle.lanes_expr.specs.Lanes.{laneValue, firstStop, firstOf2, applyIn, evalIn, readsFlag, flagStop, readStop, Valued}
 use Rattle.lanes_expr.specs.Each.{Each}
 
@@ -28,6 +31,10 @@ pub same-at : {A : Type 0} (n j : ℕ) (a : A) → getD (replicate n a) j a ≡ 
 same-at zero j a = refl
 same-at (suc n) zero a = refl
 same-at (suc n) (suc j) a = same-at n j a
+
+-- the number that was found as m, and goes on as z
+pub imm-found : (e : Expr) {m : MaybeNumber} {y z : ℤ} → z ≡ y → m ≡ Is y → numberOf m ≡ value e → some z ≡ value e
+imm-found e p q h = ap some p ∙ ap numberOf (sym q) ∙ h
 
 -- ---- one lane: its refusals before, between and after the operands
 
