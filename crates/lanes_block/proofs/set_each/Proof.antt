@@ -10,12 +10,16 @@ use Rattle.lanes_block.proofs.set_each.Tie as tie
 store-lanes-requires : tie.Need-store-lanes-requires
 store-lanes-requires c κs = (c .before .before .before .before .before .before .before .before .before .before .before .before .before .before .pre .3, λ j h. c .before .before .before .before .before .before .before .before .before .before .before .before .before .before .pre .2 .lie j h .variables)
 
+-- t′: the values and the refusals that the call left
 returns : tie.Need-returns
 returns c =
     let a = c .before .before .before .before .before .before .before .before .before .before .before .before .before .before .before .before in
+    let t = c .before .before .before .before .before .before .before .before .before .before .evaluate-lanes in
+    let t′ = t .last .1 .1 .1 .1 .1 .1 .1 .1 .1 .1 .1 .1 .1 in
+    let v = c .before .before .before .before .before .before .evaluate-lanes2 in
     λ d nx.
     let ns = nodesIn (a .args .ws .now) (a .args .val .now) d in
-    set-does (valued-worth (rw (below-root ns (a .args .target)) at (c .before .before .before .before .before .before .before .before .before .before .evaluate-lanes .ensures d))) (valued-worth (rw (below-root ns (a .args .value)) at (c .before .before .before .before .before .before .evaluate-lanes2 .ensures d))) (c .before .store-lanes .ensures)
+    set-does {rs₁ = t′ .1 .0} (valued-worth {xs = t′ .0} (rw (below-root ns (a .args .target)) at (t .ensures d))) (valued-worth {rs = t′ .1 .0} {xs = v .last .1 .1 .1 .1 .1 .1 .1 .1 .1 .1 .1 .1 .1 .0} (rw (below-root ns (a .args .value)) at (v .ensures d))) (c .before .store-lanes .ensures)
 
 pub set-each-spec : {M : Type 1} → statement M
 set-each-spec =

@@ -1,11 +1,10 @@
 -- `set_same` meets its contract: the value is an Imm, or is evaluated lane by lane. Assumes nothing.
-use mathlib.Core.Path.{refl, sym, ap, _∙_}
-use mathlib.Core.Option.{some}
+use mathlib.Core.Path.{refl}
 use mir.Facts.{toZ-ofZ}
 use mir.Syntax.{w32}
 use Rattle.model.specs.Memory.{nodesIn, tree}
-use Rattle.expr.specs.Requirement.{numberOf}
 use Rattle.expr.specs.Tree.{below-root}
+use Rattle.lanes_expr.proofs.Values.{imm-found}
 use Rattle.lanes_block.specs.Flows.{valued-worth, set-does}
 use Rattle.lanes_block.proofs.Sets.{imm-always, always-worth}
 use borrow.Author.Needs.{needs}
@@ -23,12 +22,12 @@ returns c =
     let a = c .before .before .before .before .before .before .before .before .before .before in
     λ d nx t p.
     let ns = nodesIn (a .args .ws .now) (a .args .val .now) d in
-    set-does (always-worth (toZ-ofZ (a .fits .k)) p) (always-worth refl (imm-always (tree ns (a .args .value)) _ (ap some (toZ-ofZ {w = w32} (record { sfits = c .before .before .before .before .known-told .given .0 .1 })) ∙ ap numberOf (sym (c .before .before .before .before .before .v .given .1)) ∙ (rw (below-root ns (a .args .value)) at (c .before .before .before .before .before .before .before .number-below .ensures d))))) (c .before .store-number .ensures)
+    set-does (always-worth (toZ-ofZ (a .fits .k)) p) (always-worth refl (imm-always (tree ns (a .args .value)) _ (imm-found (tree ns (a .args .value)) (toZ-ofZ {w = w32} (record { sfits = c .before .before .before .before .known-told .given .0 .1 })) (c .before .before .before .before .before .v .given .1) (rw (below-root ns (a .args .value)) at (c .before .before .before .before .before .before .before .number-below .ensures d))))) (c .before .store-number .ensures)
 
 returns-2 : tie.Need-returns-2
 returns-2 c =
     let a = c .before .before .before .before .before .before .before .before .before .before .before .before .before .before in
-    λ d nx t p. set-does (always-worth (toZ-ofZ (a .fits .k)) p) (valued-worth (rw (below-root (nodesIn (a .args .ws .now) (a .args .val .now) d) (a .args .value)) at (c .before .before .before .before .before .evaluate-lanes .ensures d))) (c .before .store-same .ensures)
+    λ d nx t p. set-does (always-worth (toZ-ofZ (a .fits .k)) p) (valued-worth {xs = c .before .before .before .before .before .evaluate-lanes .last .1 .1 .1 .1 .1 .1 .1 .1 .1 .1 .1 .1 .1 .0} (rw (below-root (nodesIn (a .args .ws .now) (a .args .val .now) d) (a .args .value)) at (c .before .before .before .before .before .evaluate-lanes .ensures d))) (c .before .store-same .ensures)
 
 pub set-same-spec : {M : Type 1} → statement M
 set-same-spec =

@@ -1,11 +1,10 @@
 -- `set_variable` meets its contract: the target is an Imm, or is evaluated lane by lane. Assumes nothing.
-use mathlib.Core.Path.{sym, ap, _∙_}
-use mathlib.Core.Option.{some}
 use mir.Facts.{toZ-ofZ}
 use mir.Syntax.{w32}
+use mir.Val.{toZ, ofZ}
 use Rattle.model.specs.Memory.{nodesIn, tree}
-use Rattle.expr.specs.Requirement.{numberOf}
 use Rattle.expr.specs.Tree.{below-root}
+use Rattle.lanes_expr.proofs.Values.{imm-found}
 use Rattle.lanes_block.proofs.Sets.{imm-always}
 use borrow.Author.Needs.{needs}
 use Rattle.lanes_block.proofs.set_variable.Statement.{statement}
@@ -16,7 +15,7 @@ returns c =
     let a = c .before .before .before .before .before .before .before .before .before .before .before in
     λ d nx.
     let ns = nodesIn (a .args .ws .now) (a .args .val .now) d in
-    c .before .set-same .ensures d nx (tree ns (a .args .target)) (imm-always (tree ns (a .args .target)) _ (ap some (toZ-ofZ {w = w32} (record { sfits = c .before .before .before .before .before .known-told .given .0 .1 })) ∙ ap numberOf (sym (c .before .before .before .before .before .before .t .given .1)) ∙ (rw (below-root ns (a .args .target)) at (c .before .before .before .before .before .before .before .before .number-below .ensures d))))
+    c .before .set-same .ensures d nx (tree ns (a .args .target)) (imm-always (tree ns (a .args .target)) (toZ w32 (ofZ w32 (c .before .before .before .before .before .before .t .given .0 .0))) (imm-found (tree ns (a .args .target)) (toZ-ofZ {w = w32} (record { sfits = c .before .before .before .before .before .known-told .given .0 .1 })) (c .before .before .before .before .before .before .t .given .1) (rw (below-root ns (a .args .target)) at (c .before .before .before .before .before .before .before .before .number-below .ensures d))))
 
 pub set-variable-spec : {M : Type 1} → statement M
 set-variable-spec =
