@@ -34,11 +34,12 @@ module _ (h : Model.Sheet) (s : Save) (x : Slot) (w : ItemId) (p : x .item ≡ O
   unfolding meaningOf slotOf
   filled-by = rw (p, q, e)
 
-  pub meaning-unique : l ≤ 1 → uniqueMeaning h s (w .0) (acquired h s (w .0)) r ≡ meaningOf h s (slotOf x)
-  meaning-unique k = sym (filled-by ∙ rw (le-leb l 1 k))
+  -- m is what was answered
+  pub meaning-unique : l ≤ 1 → {m : Meanings.Meaning} → m ≡ uniqueMeaning h s (w .0) (acquired h s (w .0)) r → m ≡ meaningOf h s (slotOf x)
+  meaning-unique k e = e ∙ sym (filled-by ∙ rw (le-leb l 1 k))
 
-  pub meaning-limit : 1 < l → limitMeaning s (w .0) l r ≡ meaningOf h s (slotOf x)
-  meaning-limit k = sym (filled-by ∙ rw (lt-leb l 1 k))
+  pub meaning-limit : 1 < l → {m : Meanings.Meaning} → m ≡ limitMeaning s (w .0) l r → m ≡ meaningOf h s (slotOf x)
+  meaning-limit k e = e ∙ sym (filled-by ∙ rw (lt-leb l 1 k))
 
 -- ---- the pairs, from slot i on
 
@@ -74,10 +75,10 @@ module _ (h : Model.Sheet) (s : Save) where
   shown-start xs p e = record { low = omega arith; is = rw e (shown-all (map slotOf xs)) }
 
   pub shown-more : (xs : List Slot) (i : ℕ) (p : Previewed) → ShownTo xs i p → (d : Slot) → i < length xs
-      → (m : Meanings.Meaning) → m ≡ meaningOf h s (slotOf (getD xs i d)) → (q : Previewed) → q ≡ shown p i m → ShownTo xs (i + 1) q
-  shown-more xs i p t d l m e q f = record {
+      → (x : Slot) → getD xs i d ≡ x → (m : Meanings.Meaning) → m ≡ meaningOf h s (slotOf x) → (q : Previewed) → q ≡ shown p i m → ShownTo xs (i + 1) q
+  shown-more xs i p t d l x k m e q f = record {
     low = omega arith;
-    is = rw (f, e, add-one i) (sym (ap (λ ys. shownFrom i (map (meaningOf h s) (map slotOf ys)) p) (drop-cons xs i d l)) ∙ t .is);
+    is = rw (f, e, ← k, add-one i) (sym (ap (λ ys. shownFrom i (map (meaningOf h s) (map slotOf ys)) p) (drop-cons xs i d l)) ∙ t .is);
   }
 
   pub shown-end : (xs : List Slot) (i : ℕ) (p : Previewed) → ShownTo xs i p → length xs ≤ i → p ≡ previewedOf (meaningsOf h (map slotOf xs) s)

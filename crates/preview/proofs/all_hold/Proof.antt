@@ -6,8 +6,8 @@ use Prim.Native.Nat.{ℕ, _-_, _<_}
 use native.Mathlib.Omega.{arith}
 use lib.IntN.{ℤ}
 use lib.ListN.{length, getD}
-use borrow.Author.Tests.{not-true, not-false}
 use Rattle.model.specs.Meaning.{holds}
+use Rattle.model.specs.Laws.Checks.{is-true, is-false}
 use Rattle.shop_codes.specs.Codes.{requirementOf}
 use Rattle.shop.specs.Shapes.{entries}
 use Rattle.shop.specs.Slots.{entries-length}
@@ -48,7 +48,7 @@ returns c = λ t v.
     let i = c .before .before .before .before .loop .i in
     let p = held (s .args .items .now) (s .args .atcs .now) (s .args .flags .now) t v in
     stop p (listed s) i (c .before .before .before .before .loop .inv t v) 0 (inside (c .before .before .before))
-    (ap p (entry (c .before .before .before)) ∙ sym (ap p (c .before .before .entry-at .ensures)) ∙ sym (c .before .holds .ensures t v) ∙ not-true _ (c .if1 .taken))
+    (ap p (entry (c .before .before .before) ∙ sym (c .before .before .entry-at .ensures)) ∙ is-false (p (c .before .before .entry-at .result)) (c .before .holds .ensures t v) (c .if1 .taken))
     ∙ all-held (saveOf (s .args .items .now) (s .args .atcs .now) (s .args .flags .now) t v) (listed s)
 
 loop-again : tie.Need-loop-again Inv-loop μ-loop
@@ -57,7 +57,7 @@ loop-again c = λ t v.
     let i = c .before .before .before .before .loop .i in
     let p = held (s .args .items .now) (s .args .atcs .now) (s .args .flags .now) t v in
     more p (listed s) i (c .before .before .before .before .loop .inv t v) 0 (inside (c .before .before .before))
-    (ap p (entry (c .before .before .before)) ∙ sym (ap p (c .before .before .entry-at .ensures)) ∙ sym (c .before .holds .ensures t v) ∙ not-false _ (c .if1 .left))
+    (ap p (entry (c .before .before .before) ∙ sym (c .before .before .entry-at .ensures)) ∙ is-true (p (c .before .before .entry-at .result)) (c .before .holds .ensures t v) (c .if1 .left))
 
 returns-2 : tie.Need-returns-2 Inv-loop μ-loop
 returns-2 c = λ t v.

@@ -1,9 +1,13 @@
 -- `meaning_of` meets its contract, by the slot's item and its limit. Assumes nothing.
-use mathlib.Core.Path.{_∙_}
+use mathlib.Core.List.{List}
+use lib.IntN.{ℤ}
 use mir.Syntax.{w16}
 use mir.Facts.{toZ-ofZ}
+use Rattle.model.specs.Save.{Save}
+use Rattle.model.specs.Sheet.{Sheet}
 use Rattle.model.specs.Meaning.{meaningOf}
 use Rattle.shop.specs.Shapes.{sheetOf, slotOf}
+use Rattle.shop.specs.declared.Slot.{Slot}
 use Rattle.checks.specs.Calls.{saveOf}
 use Rattle.preview.specs.Parts.{partsOf}
 use Rattle.preview.proofs.Pairs.{meaning-unique, meaning-limit}
@@ -11,12 +15,21 @@ use borrow.Author.Needs.{needs}
 use Rattle.preview.proofs.meaning_of.Statement.{statement}
 use Rattle.preview.proofs.meaning_of.Tie as tie
 
+-- what the call was given
+abbrev sheet : tie.Start → Sheet
+sheet s = sheetOf (s .args .attached .now) (s .args .sheet)
+
+abbrev save : tie.Start → List ℤ → Save
+save s v = saveOf (s .args .items .now) (s .args .atcs .now) (s .args .flags .now) (s .args .times .now) v
+
+abbrev slot : tie.Start → Slot
+slot s = partsOf (s .args .item) (s .args .limit) (s .args .row .now) (s .args .len)
+
 returns : tie.Need-returns
 unfolding slotOf
 returns c = λ v.
     let s = c .before .before .before .before .before .before .before .before .before .before .before in
-    c .unique-meaning .ensures (s .args .flags .now) v
-    ∙ meaning-unique (sheetOf (s .args .attached .now) (s .args .sheet)) (saveOf (s .args .items .now) (s .args .atcs .now) (s .args .flags .now) (s .args .times .now) v) (partsOf (s .args .item) (s .args .limit) (s .args .row .now) (s .args .len)) _ (c .before .before .before .before .before .item .given .1) _ (c .before .before .before .all-hold .ensures (s .args .times .now) v) _ (rw (toZ-ofZ {w = w16} {z = s .args .limit} (s .fits .limit)) at (c .before .before .limit-of .ensures)) (c .before .if1 .taken)
+    meaning-unique (sheet s) (save s v) (slot s) _ (c .before .before .before .before .before .item .given .1) _ (c .before .before .before .all-hold .ensures (s .args .times .now) v) _ (rw (toZ-ofZ {w = w16} {z = s .args .limit} (s .fits .limit)) at (c .before .before .limit-of .ensures)) (c .before .if1 .taken) (c .unique-meaning .ensures (s .args .flags .now) v)
 
 returns-2 : tie.Need-returns-2
 unfolding meaningOf slotOf
@@ -26,8 +39,7 @@ returns-3 : tie.Need-returns-3
 unfolding slotOf
 returns-3 c = λ v.
     let s = c .before .before .before .before .before .before .before .before .before .before .before in
-    c .limit-meaning .ensures (s .args .atcs .now) (s .args .flags .now) (s .args .times .now) v
-    ∙ meaning-limit (sheetOf (s .args .attached .now) (s .args .sheet)) (saveOf (s .args .items .now) (s .args .atcs .now) (s .args .flags .now) (s .args .times .now) v) (partsOf (s .args .item) (s .args .limit) (s .args .row .now) (s .args .len)) _ (c .before .before .before .before .before .item .given .1) _ (c .before .before .before .all-hold .ensures (s .args .times .now) v) _ (rw (toZ-ofZ {w = w16} {z = s .args .limit} (s .fits .limit)) at (c .before .before .limit-of .ensures)) (c .before .if1 .left)
+    meaning-limit (sheet s) (save s v) (slot s) _ (c .before .before .before .before .before .item .given .1) _ (c .before .before .before .all-hold .ensures (s .args .times .now) v) _ (rw (toZ-ofZ {w = w16} {z = s .args .limit} (s .fits .limit)) at (c .before .before .limit-of .ensures)) (c .before .if1 .left) (c .limit-meaning .ensures (s .args .atcs .now) (s .args .flags .now) (s .args .times .now) v)
 
 pub meaning-of-spec : {M : Type 1} → statement M
 meaning-of-spec =

@@ -1,14 +1,14 @@
 -- `meanings` meets its contract. The loop's invariant: the pairs of the slots passed are shown. Assumes nothing.
-use mathlib.Core.Path.{sym, ap, _∙_}
 use Prim.Native.Nat.{_-_}
 use native.Mathlib.Omega.{arith}
 use mir.Syntax.{w32}
 use mir.Facts.{toZ-ofZ}
 use borrow.Author.Needs.{needs}
 use Rattle.model.specs.Limits.{slotCount}
-use Rattle.model.specs.Meaning.{meaningOf}
-use Rattle.shop.specs.Shapes.{sheetOf, slotOf, slotsOf, noSlot}
-use Rattle.shop_arrays.specs.Arrays.{Arrays, arraysIn, shopFrom}
+use Rattle.model.specs.Save.{Save}
+use Rattle.model.specs.Sheet.{Sheet}
+use Rattle.shop.specs.Shapes.{sheetOf, slotsOf, noSlot}
+use Rattle.shop_arrays.specs.Arrays.{Arrays, arraysIn, slotAt, shopFrom}
 use Rattle.shop_arrays.specs.Slots.{slots-long, slot-in}
 use Rattle.checks.specs.Calls.{saveOf}
 use Rattle.preview.proofs.Pairs.{ShownTo, shown-start, shown-more, shown-end}
@@ -22,27 +22,32 @@ Inv-loop attached sheet sold limits codes lens items atcs flags times vars out�
 abbrev μ-loop : tie.MeasureT-loop
 μ-loop attached sheet sold limits codes lens items atcs flags times vars out₀ i₀ out i = slotCount - i
 
+-- what the call was given
+abbrev sheet : tie.Start Inv-loop μ-loop → Sheet
+sheet s = sheetOf (s .args .attached .now) (s .args .sheet)
+
+abbrev save : tie.Start Inv-loop μ-loop → Save
+save s = saveOf (s .args .items .now) (s .args .atcs .now) (s .args .flags .now) (s .args .times .now) (s .args .vars .now)
+
 abbrev arrays : tie.Start Inv-loop μ-loop → Arrays
 arrays s = arraysIn (s .args .sold .now) (s .args .limits .now) (s .args .codes .now) (s .args .lens .now)
 
 loop-holds : tie.Need-loop-holds Inv-loop μ-loop
-loop-holds c = let s = c .before .before .before .before in shown-start (sheetOf (s .args .attached .now) (s .args .sheet)) (saveOf (s .args .items .now) (s .args .atcs .now) (s .args .flags .now) (s .args .times .now) (s .args .vars .now)) (shopFrom (arrays s) .slots) _ (c .blank .ensures)
+loop-holds c = let s = c .before .before .before .before in shown-start (sheet s) (save s) (shopFrom (arrays s) .slots) _ (c .blank .ensures)
 
 loop-again : tie.Need-loop-again Inv-loop μ-loop
 loop-again c =
     let s = c .before .before .before .before .before .before .before .before .before .before .before in
     let a = c .before .before .before .before .before .before .loop in
     let l = c .before .before .before .before .before .loop-test .taken in
-    let h = sheetOf (s .args .attached .now) (s .args .sheet) in
-    let v = saveOf (s .args .items .now) (s .args .atcs .now) (s .args .flags .now) (s .args .times .now) (s .args .vars .now) in
     let m = c .before .before .before .before .meaning-at .result in
     let told = c .before .before .before .struct-told .given in
     let item = toZ-ofZ {w = w32} {z = m .item} (record { sfits = told .0 .1 }) in
     let count = toZ-ofZ {w = w32} {z = m .count} (record { sfits = told .1 .0 .1 }) in
     let temp = toZ-ofZ {w = w32} {z = c .temp-after .result} (record { sfits = c .temp-after .ok }) in
     let old = toZ-ofZ {w = w32} {z = a .out .temp} (record { sfits = c .before .struct-told3 .given .1 .1 .1 .0 .1 }) in
-    shown-more h v (shopFrom (arrays s) .slots) (a .i) (a .out) (a .inv) noSlot (omega (arith, slots-long (arrays s), l))
-    _ (c .before .before .before .before .meaning-at .ensures (s .args .vars .now) ∙ sym (ap (λ x. meaningOf h v (slotOf x)) (slot-in (arrays s) (a .i) noSlot l)))
+    shown-more (sheet s) (save s) (shopFrom (arrays s) .slots) (a .i) (a .out) (a .inv) noSlot (omega (arith, slots-long (arrays s), l))
+    (slotAt (arrays s) (a .i)) (slot-in (arrays s) (a .i) noSlot l) _ (c .before .before .before .before .meaning-at .ensures (s .args .vars .now))
     _ (rw (item, count, temp, c .temp-after .ensures, old))
 
 returns : tie.Need-returns Inv-loop μ-loop
@@ -50,7 +55,7 @@ unfolding slotsOf
 returns c =
     let s = c .before .before .before .before .before .before in
     let a = c .before .loop in
-    shown-end (sheetOf (s .args .attached .now) (s .args .sheet)) (saveOf (s .args .items .now) (s .args .atcs .now) (s .args .flags .now) (s .args .times .now) (s .args .vars .now)) (shopFrom (arrays s) .slots) (a .i) (a .out) (a .inv) (omega (arith, slots-long (arrays s), c .loop-test .left))
+    shown-end (sheet s) (save s) (shopFrom (arrays s) .slots) (a .i) (a .out) (a .inv) (omega (arith, slots-long (arrays s), c .loop-test .left))
 
 pub meanings-spec : {M : Type 1} → statement M
 meanings-spec =
