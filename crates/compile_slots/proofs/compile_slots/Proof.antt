@@ -19,7 +19,7 @@ Inv-loop attached sheet ws₀ val₀ cw₀ bw₀ items limits codes lens at₀ i
 abbrev μ-loop : tie.MeasureT-loop
 μ-loop attached sheet ws₀ val₀ cw₀ bw₀ items limits codes lens at₀ i₀ ws val cw bw at i = i
 
--- the shop's arrays, the record before the loop and in it
+-- the shop's arrays, the record before the loop, in it and after a slot
 abbrev given : tie.Start Inv-loop μ-loop → Arrays
 given s = arraysIn (s .args .items .now) (s .args .limits .now) (s .args .codes .now) (s .args .lens .now)
 
@@ -28,6 +28,9 @@ first s = memoryOf (s .args .ws .now) (s .args .val .now) (s .args .cw .now) (s 
 
 abbrev here : tie.At-loop Inv-loop μ-loop → Memory
 here l = memoryOf (l .loop .ws) (l .loop .val) (l .loop .cw) (l .loop .bw) (l .loop .at)
+
+abbrev after : tie.After-compile-slot Inv-loop μ-loop → Memory
+after c = memoryOf (c .compile-slot .last .1 .1 .0) (c .compile-slot .last .1 .1 .1 .0) (c .compile-slot .last .1 .1 .1 .1 .0) (c .compile-slot .last .1 .1 .1 .1 .1 .0) (c .compile-slot .result)
 
 loop-holds : tie.Need-loop-holds Inv-loop μ-loop
 loop-holds c = let s = c .before in (none-yet (sheetOf (s .args .attached .now) (s .args .sheet)) (first s) (given s), omega arith)
@@ -44,7 +47,7 @@ loop-again : tie.Need-loop-again Inv-loop μ-loop
 loop-again c =
     let s = c .before .before .before .before .before .before .before .before in
     let l = c .before .before .before .before .before .before .loop in
-    (next-put (sheetOf (s .args .attached .now) (s .args .sheet)) (first s) (here (c .before .before .before .before .before .before)) (given s) (l .i) (c .before .before .before .before .before .loop-test .taken) (l .inv .1) (s .pre .1 .1) (l .inv .0) _ (c .compile-slot .ensures), omega (arith, l .inv .1))
+    (next-put (sheetOf (s .args .attached .now) (s .args .sheet)) (first s) (here (c .before .before .before .before .before .before)) (given s) (l .i) (c .before .before .before .before .before .loop-test .taken) (l .inv .1) (s .pre .1 .1) (l .inv .0) (after c) (c .compile-slot .ensures), omega (arith, l .inv .1))
 
 returns : tie.Need-returns Inv-loop μ-loop
 returns c = let e : c .before .loop .i ≡ 0 = omega arith in rw e at (c .before .loop .inv .0)
