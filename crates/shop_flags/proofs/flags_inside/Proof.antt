@@ -3,13 +3,13 @@ use mathlib.Core.Bool.{Bool}
 use mathlib.Core.Path.{ap, sym, _∙_}
 use Prim.Native.Nat.{_-_}
 use native.Mathlib.Omega.{arith}
-use borrow.Author.Tests.{not-true, not-false}
 use Rattle.model.specs.Limits.{slotCount}
 use Rattle.model.specs.Flags.{slotInside}
+use Rattle.model.specs.Laws.Checks.{is-true, is-false}
 use Rattle.shop.specs.Shapes.{slotOf, slotsOf, noSlot}
 use Rattle.shop.specs.declared.Slot.{Slot}
 use Rattle.shop.proofs.All.{Tested, start, more, stop, done, all-map}
-use Rattle.shop_arrays.specs.Arrays.{Arrays, arraysIn, shopFrom}
+use Rattle.shop_arrays.specs.Arrays.{Arrays, arraysIn, slotAt, shopFrom}
 use Rattle.shop_arrays.specs.Slots.{slots-long, slot-in}
 use borrow.Author.Needs.{needs}
 use Rattle.shop_flags.proofs.flags_inside.Statement.{statement}
@@ -36,7 +36,7 @@ returns c =
     let a = arrays (c .before .before .before .before) in
     let i = c .before .before .before .loop .i in
     let l = c .before .before .loop-test .taken in
-    stop inside (shopFrom a .slots) i (c .before .before .before .loop .inv) noSlot (omega (arith, slots-long a, l)) (ap inside (slot-in a i noSlot l) ∙ sym (c .before .slot-inside .ensures) ∙ not-true _ (c .if1 .taken))
+    stop inside (shopFrom a .slots) i (c .before .before .before .loop .inv) noSlot (omega (arith, slots-long a, l)) (ap inside (slot-in a i noSlot l) ∙ is-false (inside (slotAt a i)) (c .before .slot-inside .ensures) (c .if1 .taken))
     ∙ sym (all-map slotInside slotOf (shopFrom a .slots))
 
 loop-again : tie.Need-loop-again Inv-loop μ-loop
@@ -44,7 +44,7 @@ loop-again c =
     let a = arrays (c .before .before .before .before) in
     let i = c .before .before .before .loop .i in
     let l = c .before .before .loop-test .taken in
-    more inside (shopFrom a .slots) i (c .before .before .before .loop .inv) noSlot (omega (arith, slots-long a, l)) (ap inside (slot-in a i noSlot l) ∙ sym (c .before .slot-inside .ensures) ∙ not-false _ (c .if1 .left))
+    more inside (shopFrom a .slots) i (c .before .before .before .loop .inv) noSlot (omega (arith, slots-long a, l)) (ap inside (slot-in a i noSlot l) ∙ is-true (inside (slotAt a i)) (c .before .slot-inside .ensures) (c .if1 .left))
 
 returns-2 : tie.Need-returns-2 Inv-loop μ-loop
 unfolding slotsOf
