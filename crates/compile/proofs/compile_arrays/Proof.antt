@@ -4,7 +4,10 @@ use lib.ListN.{length}
 use native.Mathlib.Omega.{arith}
 use borrow.Author.Needs.{needs}
 use Rattle.model.specs.Limits.{slotCount}
-use Rattle.memory.specs.View.{bornOf}
+use Rattle.model.specs.Sheet.{Sheet}
+use Rattle.model.specs.Memory.{Memory}
+use Rattle.model.specs.RecordCalls.{Born}
+use Rattle.memory.specs.View.{memoryOf, bornOf}
 use Rattle.shop.specs.declared.Shop.{Shop}
 use Rattle.shop_arrays.specs.Arrays.{arraysIn, shopFrom}
 use Rattle.shop_arrays.specs.Slots.{slots-long}
@@ -12,6 +15,13 @@ use Rattle.shop.specs.Shapes.{sheetOf}
 use Rattle.compile.specs.Checked.{Granted, granted, compiled-refused, compiled-accepted}
 use Rattle.compile.proofs.compile_arrays.Statement.{statement}
 use Rattle.compile.proofs.compile_arrays.Tie as tie
+
+-- what the call was given
+abbrev sheet : tie.Start → Sheet
+sheet s = sheetOf (s .args .attached .now) (s .args .sheet)
+
+abbrev bornIn : tie.Start → Born
+bornIn s = bornOf (s .args .ws .now) (s .args .val .now) (s .args .cw .now) (s .args .bw .now) (s .args .counts) (s .args .births .now) (s .args .compiles)
 
 abbrev given : tie.Start → Shop
 given s = shopFrom (arraysIn (s .args .items .now) (s .args .limits .now) (s .args .codes .now) (s .args .lens .now))
@@ -22,7 +32,7 @@ size s = slots-long _
 
 -- what is known where nothing is refused
 allowed : (c : tie.Else1) → let s = c .before .before .before .before .before .before .before .before in
-    Granted (sheetOf (s .args .attached .now) (s .args .sheet)) (bornOf (s .args .ws .now) (s .args .val .now) (s .args .cw .now) (s .args .bw .now) (s .args .counts) (s .args .births .now) (s .args .compiles)) (s .args .loader) (s .args .setup .0) (given s) (size s)
+    Granted (sheet s) (bornIn s) (s .args .loader) (s .args .setup .0) (given s) (size s)
 allowed c = granted _ _ _ _ _ _ (sym (c .before .check-compile .ensures) ∙ c .if1 .left)
 
 returns : tie.Need-returns
@@ -43,12 +53,17 @@ mark-births-requires c κs =
     let g = allowed (d .before .before .before .before .before) in
     (omega (arith, d .compile-shop .ensures .counted), omega (arith, g .room .blocks, d .compile-shop .ensures .counted))
 
+-- the record with the shop's blocks at its end
+abbrev put : tie.After-compile-shop → Memory
+put d = let l = d .compile-shop .last in memoryOf (l .1 .1 .0) (l .1 .1 .1 .0) (l .1 .1 .1 .1 .0) (l .1 .1 .1 .1 .1 .0) (d .compile-shop .result)
+
 returns-2 : tie.Need-returns-2
 returns-2 c =
     let d = c .before .before .before .before .before .before in
     let a = d .before .before .before .before .before in
+    let s = a .before .before .before .before .before .before .before .before in
     rw (c .mark-births .ensures, c .before .before .one-compile .ensures, c .before .before .before .set-block .ensures)
-    (compiled-accepted _ _ _ _ _ (size (a .before .before .before .before .before .before .before .before)) _ (a .before .check-compile .ensures) (a .if1 .left) _ (d .compile-shop .ensures))
+    (compiled-accepted (sheet s) (bornIn s) (s .args .loader) (s .args .setup .0) (given s) (size s) (a .before .check-compile .result) (a .before .check-compile .ensures) (a .if1 .left) (put d) (d .compile-shop .ensures))
 
 pub compile-arrays-spec : {M : Type 1} → statement M
 compile-arrays-spec =
