@@ -111,8 +111,11 @@ nothing-at (suc n) zero = refl
 nothing-at (suc n) (suc e) = nothing-at n e
 
 -- n keys, l entries; s marks, v words alive
+abbrev pub zeros : (n a c l s v r : ℕ) → Stored
+zeros n a c l s v r = storedIn (replicate n 0) (replicate a 0) (replicate c 0) (replicate l 0) (replicate s false) (replicate v 0) (replicate r 0)
+
 pub start-holds : (known : Known) (n a c l s v r : ℕ) → 0 < n → n ≤ 32767 → 2 * n ≤ a → 2 * n ≤ c → 2 * n ≤ s → l ≤ v → l ≤ 65535
-    → Holding known (storedIn (replicate n 0) (replicate a 0) (replicate c 0) (replicate l 0) (replicate s false) (replicate v 0) (replicate r 0)) startWalk noneYet
+    → Holding known (zeros n a c l s v r) startWalk noneYet
 unfolding has
 start-holds known n a c l s v r p q ka kc ks kv kl = record {
   tables = tables-start n a c p q ka kc;
@@ -141,15 +144,18 @@ start-holds known n a c l s v r p q ka kc ks kv kl = record {
     none-there e = let z : _≡_ {A = ℕ} 0 1 = cc in omega arith
 
 -- the stack, all zeros but for the setup block
+abbrev pub firstStack : (n b : ℕ) → List ℕ
+firstStack n b = set (replicate n 0) 0 b
+
 module _ (n b : ℕ) (l : 2 ≤ n) where
-  pub first-block : getD (set (replicate n 0) 0 b) 0 0 ≡ b
+  pub first-block : getD (firstStack n b) 0 0 ≡ b
   first-block = getD-set-same (replicate n 0) 0 b 0 (simp length-replicate (omega arith))
 
-  pub first-under : getD (set (replicate n 0) 0 b) 1 0 ≡ 0
+  pub first-under : getD (firstStack n b) 1 0 ≡ 0
   first-under = getD-set-other (replicate n 0) 0 1 b 0 (λ e. omega arith) ∙ getD-replicate n 1 0 0 (omega arith)
 
 pub large-start : (m : Memory) → m .count ≤ blockLimit → (n a c l s v r d b : ℕ) → 3 * blockLimit ≤ r → nodeLimit + blockLimit ≤ 3 * l → l < n → 2 * blockLimit + 2 ≤ d
-    → Large m (storedIn (replicate n 0) (replicate a 0) (replicate c 0) (replicate l 0) (replicate s false) (replicate v 0) (replicate r 0)) (set (replicate d 0) 0 b)
+    → Large m (zeros n a c l s v r) (firstStack d b)
 large-start m few n a c l s v r d b kr kl kn kd = record {
   rows = simp length-replicate (omega arith);
   words = simp length-replicate (omega arith);

@@ -1,15 +1,20 @@
 -- The loop's invariant: what is on the stack is still to be walked, from what there is so far; the measure is the number of unmarked blocks. Assumes nothing.
 use mathlib.Core.Path.{_≡_, refl, sym, _∙_}
-use Prim.Native.Nat.{_*_, _-_}
+use mathlib.Core.Bool.{Bool}
+use mathlib.Core.List.{List}
+use Prim.Native.Nat.{ℕ, _*_, _-_}
 use native.Mathlib.Omega.{arith}
 use lib.ListN.{getD, take}
-use borrow.Author.Tests.{not-true, not-false}
+use borrow.Author.Tests.{not-true}
 use Rattle.shop_arrays.specs.Arrays.{arraysIn, shopFrom}
+use Rattle.model.specs.Memory.{Memory}
+use Rattle.model.specs.Laws.Checks.{is-true}
 use Rattle.model.specs.Laws.Marks.{unmarked}
-use Rattle.reach.specs.Stacks.{top-most}
-use Rattle.parse_visit.specs.State.{storedIn}
+use Rattle.shop.specs.declared.Shop.{Shop}
+use Rattle.reach.specs.Stacks.{top-most, isCodeAt}
+use Rattle.parse_visit.specs.State.{Stored, storedIn}
 use Rattle.parse_walk.specs.Walks.{Turning, Lengths}
-use Rattle.parse_walk.proofs.Turns.{few-blocks, is-code, top-fits, top-few}
+use Rattle.parse_walk.proofs.Turns.{few-blocks, Coded, is-code, top-fits, top-few}
 use Rattle.parse_walk.proofs.Loop.{held, ends-none, ends-stopped, ends-full, visit-open, ends-refused, falls, turns}
 use Rattle.parse_walk.proofs.Starts.{turning-start}
 use borrow.Author.Needs.{needs}
@@ -25,6 +30,35 @@ Inv-loop ws val cw bw keys₀ kids₀ companions₀ list₀ seen₀ alive₀ cel
 
 abbrev μ-loop : tie.MeasureT-loop
 μ-loop ws val cw bw keys₀ kids₀ companions₀ list₀ seen₀ alive₀ cells₀ stack₀ marks₀ items₀ limits₀ codes₀ lens₀ k known ids₀ counts₀ w₀ depth₀ keys kids companions list seen alive cells stack marks items limits codes lens ids counts w depth = unmarked (take (k .blocks) marks)
+
+-- the record, and the slots as a turn finds them
+abbrev memory : tie.At-loop Inv-loop μ-loop → Memory
+memory a = let s = a .before .before .before .before .before .before .before .before .before .before in memoryOf (s .args .ws .now) (s .args .val .now) (s .args .cw .now) (s .args .bw .now) (s .args .k)
+
+abbrev slots : tie.At-loop Inv-loop μ-loop → Shop
+slots a = shopFrom (arraysIn (a .loop .items) (a .loop .limits) (a .loop .codes) (a .loop .lens))
+
+-- the block to visit, which is code
+abbrev block : tie.After-top-unmarked Inv-loop μ-loop → ℕ
+block a = getD (a .before .before .before .before .loop .stack) (2 * (a .top-unmarked .result - 1)) 0
+
+coded : (c : tie.Else2 Inv-loop μ-loop) → let a = c .before .before .before .before in Coded (memory (a .before .before .before .before)) (block a)
+coded c =
+    let a = c .before .before .before .before in
+    let m = memory (a .before .before .before .before) in
+    is-code m (block a) (is-true (isCodeAt (m .words) (m .count) (block a)) (c .before .is-code .ensures) (c .if2 .left))
+
+-- the tables, the marks and the slots as a visit leaves them
+abbrev tablesLeft : tie.After-visit Inv-loop μ-loop → Stored
+tablesLeft a =
+    let l = a .visit .last .1 .1 .1 .1 in
+    storedIn (l .0) (l .1 .0) (l .1 .1 .0) (l .1 .1 .1 .0) (l .1 .1 .1 .1 .0) (l .1 .1 .1 .1 .1 .0) (l .1 .1 .1 .1 .1 .1 .0)
+
+abbrev marksLeft : tie.After-visit Inv-loop μ-loop → List Bool
+marksLeft a = a .visit .last .1 .1 .1 .1 .1 .1 .1 .1 .1 .1 .1 .0
+
+abbrev slotsLeft : tie.After-visit Inv-loop μ-loop → Shop
+slotsLeft a = let l = a .visit .last .1 .1 .1 .1 .1 .1 .1 .1 .1 .1 .1 .1 in shopFrom (arraysIn (l .0) (l .1 .0) (l .1 .1 .0) (l .1 .1 .1 .0))
 
 loop-holds : tie.Need-loop-holds Inv-loop μ-loop
 loop-holds c = let a = c .before .before .before .before .before .before .before .before .before .pre in (turning-start _ 4096 (few-blocks _ (a .1 .0)) _ (a .0 .1 .1 .1) _ (a .1 .1) _ (c .start .ensures) _ _ _ _ (a .0 .1 .0) (a .1 .0) (a .0 .1 .1 .0) refl (a .0 .0), record { keys = refl; kids = refl; companions = refl; list = refl; seen = refl; alive = refl; cells = refl; entries = refl })
@@ -135,12 +169,10 @@ returns-3 : tie.Need-returns-3 Inv-loop μ-loop
 returns-3 c =
     let c1 = c .before in
     let c2 = c1 .before in
-    let c3 = c2 .before in
-    let c4 = c3 .before .before in
+    let c4 = c2 .before .before .before in
     let c5 = c4 .before in
     let c6 = c5 .before .before .before .before in
-    ends-full (c6 .loop .inv .0) (c5 .top-unmarked .ensures) (c4 .if1 .left) refl refl (is-code _ _ (sym (c3 .is-code .ensures) ∙ not-false _ (c2 .if2 .left))) (c6 .loop .inv .1)
-    (c1 .if3 .taken) (c .answered2 .ensures)
+    ends-full (c6 .loop .inv .0) (c5 .top-unmarked .ensures) (c4 .if1 .left) refl refl (coded c2) (c6 .loop .inv .1) {s′ = slots c6} (c1 .if3 .taken) (c .answered2 .ensures)
 
 mul-t32-2 : tie.Need-mul-t32-2 Inv-loop μ-loop
 mul-t32-2 c =
@@ -166,14 +198,10 @@ slice-read-t35-2 c = omega (arith, c .before .before .before .before .before .be
 visit-requires : tie.Need-visit-requires Inv-loop μ-loop
 visit-requires c κs =
     let c1 = c .before .before .before .before .before .before .before .before .before .before .before .before .before .before .before .before in
-    let c2 = c1 .before in
-    let c3 = c2 .before .before in
+    let c3 = c1 .before .before .before in
     let c4 = c3 .before in
-    let c5 = c4 .before .before .before .before in (
-      held (c5 .loop .inv .0),
-      visit-open (c5 .loop .inv .0) (c4 .top-unmarked .ensures) (c3 .if1 .left) refl refl (is-code _ _ (sym (c2 .is-code .ensures) ∙ not-false _
-          (c1 .if2 .left))) (c5 .loop .inv .1),
-    )
+    let c5 = c4 .before .before .before .before in
+    (held (c5 .loop .inv .0), visit-open (c5 .loop .inv .0) (c4 .top-unmarked .ensures) (c3 .if1 .left) refl refl (coded c1) (c5 .loop .inv .1))
 
 same-length-25 : tie.Need-same-length-25 Inv-loop μ-loop
 same-length-25 c =
@@ -224,11 +252,10 @@ returns-4 : tie.Need-returns-4 Inv-loop μ-loop
 returns-4 c =
     let c1 = c .before .before .before .before .before .before .before .before .before .before .before .before .before .before .before .before .before in
     let c2 = c1 .before .before .before .before .before .before .before .before .before .before .before .before .before .before .before .before .before in
-    let c3 = c2 .before in
-    let c4 = c3 .before .before in
+    let c4 = c2 .before .before .before in
     let c5 = c4 .before in
     let c6 = c5 .before .before .before .before in
-    ends-refused (c6 .loop .inv .0) (c5 .top-unmarked .ensures) (c4 .if1 .left) refl refl (is-code _ _ (sym (c3 .is-code .ensures) ∙ not-false _ (c2 .if2 .left))) (c6 .loop .inv .1)
+    ends-refused (c6 .loop .inv .0) (c5 .top-unmarked .ensures) (c4 .if1 .left) refl refl (coded c2) (c6 .loop .inv .1) {t′ = tablesLeft c1} {marks′ = marksLeft c1} {s′ = slotsLeft c1} {v = c1 .visit .result}
     (c1 .visit .ensures (c6 .loop .inv .0 .conditions) (c6 .loop .inv .0 .holding)) (c .if4 .taken)
 
 push-requires : tie.Need-push-requires Inv-loop μ-loop
@@ -239,11 +266,10 @@ loop-less c =
     let c1 = c .before .before .before .before in
     let c2 = c1 .before .before .before .before .before .before .before .before .before .before .before .before .before .before .before .before .before in
     let c3 = c2 .before .before .before .before .before .before .before .before .before .before .before .before .before .before .before .before .before in
-    let c4 = c3 .before in
-    let c5 = c4 .before .before in
+    let c5 = c3 .before .before .before in
     let c6 = c5 .before in
     let c7 = c6 .before .before .before .before in
-    falls (c7 .loop .inv .0) (c6 .top-unmarked .ensures) (c5 .if1 .left) refl refl (is-code _ _ (sym (c4 .is-code .ensures) ∙ not-false _ (c3 .if2 .left))) (c7 .loop .inv .1)
+    falls (c7 .loop .inv .0) (c6 .top-unmarked .ensures) (c5 .if1 .left) refl refl (coded c3) (c7 .loop .inv .1) {t′ = tablesLeft c2} {marks′ = marksLeft c2} {s′ = slotsLeft c2} {v = c2 .visit .result}
     (c2 .visit .ensures (c7 .loop .inv .0 .conditions) (c7 .loop .inv .0 .holding)) (c1 .if4 .left)
 
 loop-again : tie.Need-loop-again Inv-loop μ-loop
@@ -261,11 +287,10 @@ loop-again c =
     let c11 = c10 .before in
     let c12 = c11 .before .before .before .before .before .before .before .before .before .before .before .before .before .before .before .before in
     let c13 = c12 .before in
-    let c14 = c13 .before in
-    let c15 = c14 .before .before in
+    let c15 = c13 .before .before .before in
     let c16 = c15 .before in
     let c17 = c16 .before .before .before .before in (
-      turns (c17 .loop .inv .0) (c16 .top-unmarked .ensures) (c15 .if1 .left) refl refl (is-code _ _ (sym (c14 .is-code .ensures) ∙ not-false _ (c13 .if2 .left))) (c17 .loop .inv .1)
+      turns (c17 .loop .inv .0) (c16 .top-unmarked .ensures) (c15 .if1 .left) refl refl (coded c13) (c17 .loop .inv .1) {t′ = tablesLeft c11} {marks′ = marksLeft c11} {s′ = slotsLeft c11} {v = c11 .visit .result}
           (c11 .visit .ensures (c17 .loop .inv .0 .conditions) (c17 .loop .inv .0 .holding)) (c3 .if4 .left) (c2 .push .ensures) (omega (arith, c12 .if3 .left))
           (c1 .stack .given),
       record {

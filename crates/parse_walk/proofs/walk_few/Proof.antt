@@ -1,6 +1,9 @@
 -- Small tables: all zeros, and the setup block on the stack. Assumes nothing.
 use mathlib.Core.Path.{refl}
+use mathlib.Core.Bool.{false}
 use native.Mathlib.Omega.{arith}
+use lib.ListN.{replicate}
+use Rattle.model.specs.Limits.{blockLimit}
 use Rattle.parse_walk.proofs.Turns.{few-blocks}
 use Rattle.parse_walk.proofs.Starts.{start-holds, first-block, first-under, walked-from}
 use borrow.Author.Needs.{needs}
@@ -15,9 +18,9 @@ walk-all-requires c κs =
     let c1 = c .before .before .before .before .before .before .before .before .before .before .before .before .before .before in
     let a = c1 .pre .0 in (
       (
-        start-holds _ 256 512 512 512 512 512 384 (omega arith) (omega arith) (omega arith) (omega arith) (omega arith) (omega arith) (omega arith),
+        start-holds (c1 .args .known) 256 512 512 512 512 512 384 (omega arith) (omega arith) (omega arith) (omega arith) (omega arith) (omega arith) (omega arith),
         (
-          refl,
+          refl {a = replicate blockLimit false},
           (
             search needs,
             first-under 516 (c1 .args .setup .0) (omega arith),
