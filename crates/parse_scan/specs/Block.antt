@@ -1,5 +1,5 @@
 -- A block's commands one by one: what the code's value stands for, and a command's effect on it. Assumes nothing.
-use mathlib.Core.Path.{_≡_, refl, ap, _∙_}
+use mathlib.Core.Path.{_≡_, refl, sym, ap, _∙_}
 use mathlib.Core.Option.{Option, none, some}
 use mathlib.Core.List.{List}
 use Prim.Native.Nat.{ℕ, zero, suc, _+_, _*_, _-_, _≤_, _<_}
@@ -145,11 +145,12 @@ pub scan-start : (co : Coded) (e : Option Expr) (held first : ℕ) (k : Scan) �
 scan-start co e held first k = let q : first ≡ first + (held - held) = omega arith in ap (λ c. scan e (commandsIn co held c) k) q
 
 -- one of them
-pub scan-step : (co : Coded) (e : Option Expr) (held left first : ℕ) (k : Scan) → 0 < left → left ≤ held
-    → scan e (commandsIn co left (first + (held - left))) k ≡ scan e (commandsIn co (left - 1) (first + (held - (left - 1)))) (scanOne e (commandIn co (first + (held - left))) k)
-scan-step co e held left first k p l =
+pub scan-step : (co : Coded) (e : Option Expr) (held left first : ℕ) (k k′ : Scan) → 0 < left → left ≤ held → k′ ≡ scanOne e (commandIn co (first + (held - left))) k
+    → scan e (commandsIn co left (first + (held - left))) k ≡ scan e (commandsIn co (left - 1) (first + (held - (left - 1)))) k′
+scan-step co e held left first k k′ p l s =
     let q : first + (held - left) + 1 ≡ first + (held - (left - 1)) = omega arith in
     first-left co e left (first + (held - left)) k p ∙ ap (λ c. scan e (commandsIn co (left - 1) c) (scanOne e (commandIn co (first + (held - left))) k)) q
+    ∙ ap (scan e (commandsIn co (left - 1) (first + (held - (left - 1))))) (sym s)
 
 -- none of them
 pub scan-done : (co : Coded) (e : Option Expr) (h c : ℕ) (k : Scan) → h ≡ 0 → scan e (commandsIn co h c) k ≡ k

@@ -6,7 +6,7 @@ use mir.Facts.{toZ-ofZ}
 use Rattle.model.specs.Limits.{nodeLimit}
 use Rattle.model.specs.Memory.{Nodes, nodesIn, tree}
 use Rattle.model.specs.Parse.{value, place}
-use Rattle.expr.specs.Tree.{below-in}
+use Rattle.expr.specs.Tree.{treeBelow, below-in}
 use Rattle.expr.specs.Requirement.{numberOf}
 use Rattle.parse_scan.specs.Reads.{targetIs, target-low, count-low}
 use Rattle.parse_scan.specs.Block.{set-first, set-unused, set-item, set-count}
@@ -21,7 +21,7 @@ nodes c n = nodesIn (c .before .before .args .ws .now) (c .before .before .args 
 goes : (c : tie.After-target-of) (n : ℕ) → targetIs (c .target-of .result) ≡ place (value (tree (nodes c n) (c .before .before .args .t)))
 goes c n =
     let s = c .before .before in
-    c .target-of .ensures ∙ ap place (c .before .number-below .ensures n ∙ ap value (below-in (nodes c n) nodeLimit (s .args .t) (s .pre .target)))
+    c .target-of .ensures ∙ ap place (_∙_ {b = value (treeBelow (nodes c n) nodeLimit (s .args .t))} (c .before .number-below .ensures n) (ap value (below-in (nodes c n) nodeLimit (s .args .t) (s .pre .target))))
 
 keep-requires : tie.Need-keep-requires
 keep-requires c κs = let t = c .before .before .before .before .target .given in

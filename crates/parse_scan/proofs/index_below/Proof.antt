@@ -1,7 +1,7 @@
 -- `index_below` meets its contract: the index goes by the kind that was found. Assumes nothing.
-use Rattle.model.specs.Memory.{nodesIn}
-use Rattle.model.specs.Parse.{itemIndex}
-use Rattle.expr.specs.Tree.{below-out}
+use Rattle.model.specs.Memory.{nodesIn, leftAt}
+use Rattle.model.specs.Parse.{value, itemIndex}
+use Rattle.expr.specs.Tree.{treeBelow, below-out}
 use Rattle.parse_scan.specs.Reads.{index-of-one, indexBy}
 use Rattle.parse_scan.proofs.NoneOf.{no-one}
 use mathlib.Core.Path.{ap, sym, _∙_}
@@ -19,8 +19,9 @@ returns-3 : tie.Need-returns-3
 returns-3 c = λ n.
     let a = c .before .before .before .before .before .before .before .before .before .args in
     let k = c .before .before .before .before .k .given in
-    c .index-by .ensures ∙ ap (indexBy (k .0 .0)) (c .before .number-below .ensures n)
-    ∙ index-of-one (nodesIn (a .ws .now) (a .val .now) n) (a .b) (a .i) (c .before .before .before .before .before .before .before .before .if1 .left) _ (c .before .before .before .before .before .before .kind-of .ensures) (k .0 .0) (k .1)
+    let ns = nodesIn (a .ws .now) (a .val .now) n in
+    c .index-by .ensures ∙ ap (indexBy (k .0 .0)) {y = value (treeBelow ns (a .i) (leftAt ns (a .i)))} (c .before .number-below .ensures n)
+    ∙ index-of-one ns (a .b) (a .i) (c .before .before .before .before .before .before .before .before .if1 .left) _ (c .before .before .before .before .before .before .kind-of .ensures) (k .0 .0) (k .1)
 
 pub index-below-spec : {M : Type 1} → statement M
 index-below-spec =

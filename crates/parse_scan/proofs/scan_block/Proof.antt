@@ -50,10 +50,10 @@ loop-again : tie.Need-loop-again Inv-loop μ-loop
 loop-again c = let s = c .before .before .before .before .before .before .before .before .before in
     let l = c .before .before .before .before .loop in
     let t = c .before .before .before .loop-test .taken in
-    let r = c .scan-one .ensures in (
-      (omega (arith, l .inv .0 .0), last-step (s .args .cw .now) (s .args .held) (l .left) (s .args .first) (l .s .«last_if») _ t (l .inv .0 .0) (l .inv .0 .1) (r .last)),
-      λ n m e. l .inv .1 n m e ∙ scan-step (coded s n m) e (s .args .held) (l .left) (s .args .first) _ t (l .inv .0 .0)
-          ∙ ap (scan e (commandsIn (coded s n m) (l .left - 1) (s .args .first + (s .args .held - (l .left - 1))))) (sym (r .is n m e)),
+    let x = c .scan-one in (
+      (omega (arith, l .inv .0 .0), last-step (s .args .cw .now) (s .args .held) (l .left) (s .args .first) (l .s .«last_if») _ t (l .inv .0 .0) (l .inv .0 .1) (x .ensures .last)),
+      λ n m e. l .inv .1 n m e ∙ scan-step (coded s n m) e (s .args .held) (l .left) (s .args .first) (scanOf (coded s n m .nodes) e (l .s) (l .ids) (l .counts))
+          (scanOf (coded s n m .nodes) e (x .result) (x .last .1 .1 .1 .0) (x .last .1 .1 .1 .1 .0)) t (l .inv .0 .0) (x .ensures .is n m e),
     )
 
 returns : tie.Need-returns Inv-loop μ-loop

@@ -11,7 +11,7 @@ use borrow.Author.Tests.{not-true, not-false}
 use Rattle.model.specs.Limits.{slotCount}
 use Rattle.shop.specs.Good.{beyond, GoodSlot}
 use Rattle.shop.specs.declared.Shop.{Shop}
-use Rattle.shop_arrays.specs.Arrays.{arraysIn, slotAt, shopFrom}
+use Rattle.shop_arrays.specs.Arrays.{Arrays, arraysIn, slotAt, shopFrom}
 use Rattle.shop_arrays.specs.Slots.{slots-long, slot-in}
 use Rattle.parse_scan.specs.Table.{tableOf, table-long, nextTouched, untouched-by}
 use Rattle.parse_scan.specs.Slots.{Stands}
@@ -73,12 +73,16 @@ returns c = let l = c .before .before .before in
 update-slot-requires : tie.Need-update-slot-requires Inv-loop μ-loop
 update-slot-requires c κs = let e = c .before .before .before .before .before .before in (e .if1 .left, good-there e)
 
+-- the arrays as the turn leaves them
+abbrev after : tie.After-update-slot Inv-loop μ-loop → Arrays
+after c = let l = c .update-slot .last in arraysIn (l .0) (l .1 .0) (l .1 .1 .0) (l .1 .1 .1 .0)
+
 returns-2 : tie.Need-returns-2 Inv-loop μ-loop
 returns-2 c = let e = c .before .before .before .before .before .before .before .before in
     let s = e .before .before .before .before .before .before .before in
     let i = e .before .next-touched .result in
     let u = c .before .update-slot .ensures in
-    record { by = half-refused (first s) (s .args .known) (ms s) (ns s) (Stands (s .args .more .now) (s .args .n)) (s .pre) (slots-long _) (turn (e .before .before .before)) i (up-to e) (e .if1 .left) _ _ _ _ _ (c .before .before .before .before .before .before .before .value-at .ensures) (c .before .before .before .before .before .before .value-at2 .ensures) (sym (slot-in _ i beyond (e .if1 .left))) (u .became) (table-long _ _ (c .before .before .before .before .before .before .before .before .before .before .before .before .before .before .size .ensures)) (table-long _ _ (c .before .before .before .before .before .before .before .before .before .before .before .before .before .size2 .ensures)) _ (not-true _ (c .if2 .taken)) }
+    record { by = half-refused (first s) (s .args .known) (ms s) (ns s) (Stands (s .args .more .now) (s .args .n)) (s .pre) (slots-long _) (turn (e .before .before .before)) i (up-to e) (e .if1 .left) _ (slotAt (after (c .before)) i) _ _ _ (c .before .before .before .before .before .before .before .value-at .ensures) (c .before .before .before .before .before .before .value-at2 .ensures) (sym (slot-in _ i beyond (e .if1 .left))) (u .became) (table-long _ _ (c .before .before .before .before .before .before .before .before .before .before .before .before .before .before .size .ensures)) (table-long _ _ (c .before .before .before .before .before .before .before .before .before .before .before .before .before .size2 .ensures)) _ (not-true _ (c .if2 .taken)) }
 
 loop-less : tie.Need-loop-less Inv-loop μ-loop
 loop-less c = let e = c .before .before .before .before .before .before .before .before in
@@ -91,7 +95,7 @@ loop-again c = let e = c .before .before .before .before .before .before .before
     let i = e .before .next-touched .result in
     let u = c .before .update-slot .ensures in
     let t = not-false _ (c .if2 .left) in
-    half-next (first s) (s .args .known) (ms s) (ns s) (Stands (s .args .more .now) (s .args .n)) (s .pre) (slots-long _) (turn (e .before .before .before)) i (up-to e) (e .if1 .left) _ _ _ _ _ (c .before .before .before .before .before .before .before .value-at .ensures) (c .before .before .before .before .before .before .value-at2 .ensures) (sym (slot-in _ i beyond (e .if1 .left))) (u .became) _ (u .others t) t
+    half-next (first s) (s .args .known) (ms s) (ns s) (Stands (s .args .more .now) (s .args .n)) (s .pre) (slots-long _) (turn (e .before .before .before)) i (up-to e) (e .if1 .left) _ (slotAt (after (c .before)) i) _ _ _ (c .before .before .before .before .before .before .before .value-at .ensures) (c .before .before .before .before .before .before .value-at2 .ensures) (sym (slot-in _ i beyond (e .if1 .left))) (u .became) (shopFrom (after (c .before))) (u .others t) t
 
 returns-3 : tie.Need-returns-3 Inv-loop μ-loop
 returns-3 c = let l = c .before in

@@ -3,8 +3,10 @@ use mathlib.Core.Option.{Option, some}
 use lib.IntN.{ℤ}
 use mir.Syntax.{w16, w32}
 use mir.Facts.{toZ-ofZ}
-use Rattle.model.specs.Memory.{nodesIn}
-use Rattle.parse_scan.specs.Reads.{wrote-two, wrote-one, wrote-imm16, wrote-imm32, wrote-other, code-imm16}
+use Rattle.model.specs.Memory.{nodesIn, leftAt}
+use Rattle.model.specs.Parse.{value}
+use Rattle.expr.specs.Tree.{treeBelow}
+use Rattle.parse_scan.specs.Reads.{readsFirst, wrote-two, wrote-one, wrote-imm16, wrote-imm32, wrote-other, code-imm16}
 use mathlib.Core.Path.{ap, _∙_}
 use borrow.Author.Needs.{needs}
 use Rattle.parse_scan.proofs.written_by.Statement.{statement}
@@ -19,8 +21,10 @@ returns-2 : tie.Need-returns-2
 returns-2 c = λ n.
     let s = c .before .before .before .before .before .before .before .before in
     let a = s .args in
-    (rw (toZ-ofZ (s .fits .limit), c .before .number-below .ensures n) at (c .first-of .ensures))
-    ∙ wrote-one (nodesIn (a .ws .now) (a .val .now) n) (a .v) (a .limit) _ (c .before .before .before .before .before .before .kind-of .ensures) _ (c .before .before .before .before .k .given .1)
+    let ns = nodesIn (a .ws .now) (a .val .now) n in
+    let k = c .before .before .before .before .k .given in
+    _∙_ {b = readsFirst (k .0 .0) (value (treeBelow ns (a .v) (leftAt ns (a .v)))) (a .limit)} (rw (toZ-ofZ (s .fits .limit), c .before .number-below .ensures n) at (c .first-of .ensures))
+    (wrote-one ns (a .v) (a .limit) _ (c .before .before .before .before .before .before .kind-of .ensures) (k .0 .0) (k .1))
 
 returns-3 : tie.Need-returns-3
 returns-3 c = λ n.
