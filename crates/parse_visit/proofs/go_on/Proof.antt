@@ -33,7 +33,7 @@ returns-2 c =
     let c5 = c4 .before in
     let c6 = c5 .before in
     let c7 = c6 .before .before .before .before .before .before in (
-      (λ seen alive f hold low. left-joined _ _ _ _ _ _ _ _ f hold low (c7 .pre .1 .0) _ _ _ _ _ _ (c4 .reads-on .ensures .yes (not-false _ (c3 .if1 .left)) .1 .0) (rw
+      (λ seen alive f hold low. left-joined (c7 .args .ws .now) (c7 .args .val .now) _ _ _ _ _ _ f hold low (c7 .pre .1 .0) _ _ _ _ _ _ (c4 .reads-on .ensures .yes (not-false _ (c3 .if1 .left)) .1 .0) (rw
           (c2 .index-of .ensures) at (c1 .join .ensures)) _ _ _ _ (omega arith) (omega arith)),
       (c6 .block-word .ensures, c5 .block-word2 .ensures),
     )

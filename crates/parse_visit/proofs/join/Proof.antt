@@ -1,8 +1,9 @@
 -- `join` meets its contract: no room for a cell, no room for the entries, or one cell more. Assumes nothing.
 use mathlib.Core.Path.{sym, ap, _∙_}
 use native.Mathlib.Omega.{arith}
+use Rattle.parse_conditions.specs.Listing.{usedOf}
+use Rattle.parse_visit.specs.Joins.{withCell}
 use Rattle.parse_visit.specs.declared.Walk.{Walk}
-use mathlib.Core.Path.{ap}
 use borrow.Author.Needs.{needs}
 use Rattle.parse_visit.proofs.join.Statement.{statement}
 use Rattle.parse_visit.proofs.join.Tie as tie
@@ -31,8 +32,7 @@ returns-3 c =
         place = c3 .read-condition .result;
         added = rw (c4 .place .ensures) at (c3 .read-condition .ensures .added (c2 .if2 .left));
         rows = omega (arith, c5 .if1 .left, c6 .index-of .ensures);
-        cell =
-            c1 .add-cell .ensures ∙ rw (c6 .index-of .ensures);
+        cell = _∙_ {b = withCell (c7 .args .cells .now) (c6 .index-of .result) (c7 .args .c .0) (c7 .args .w .used) (usedOf (c3 .read-condition .result))} (c1 .add-cell .ensures) (rw (c6 .index-of .ensures));
         walk = c .one-cell-more .ensures;
       };
       limit = rw (c .one-cell-more .ensures);

@@ -2,6 +2,8 @@
 use mathlib.Core.Bool.{true}
 use mathlib.Core.Path.{ap, _∙_}
 use native.Mathlib.Omega.{arith}
+use Rattle.shop.specs.declared.Shop.{Shop}
+use Rattle.shop_arrays.specs.Arrays.{arraysIn, shopFrom}
 use Rattle.shop_arrays.specs.Slots.{slots-long}
 use Rattle.parse_scan.specs.Table.{tableOf, table-none}
 use Rattle.parse_scan.specs.AllSlots.{none-counted}
@@ -9,6 +11,13 @@ use Rattle.parse_visit.specs.Slots.{moved-by, refusal-low}
 use borrow.Author.Needs.{needs}
 use Rattle.parse_visit.proofs.slots_after.Statement.{statement}
 use Rattle.parse_visit.proofs.slots_after.Tie as tie
+
+-- the slots as the call finds them and as they are updated
+abbrev given : tie.Start → Shop
+given s = shopFrom (arraysIn (s .args .items .now) (s .args .limits .now) (s .args .codes .now) (s .args .lens .now))
+
+abbrev after : tie.After-update-slots → Shop
+after c = let l = c .update-slots .last in shopFrom (arraysIn (l .0) (l .1 .0) (l .1 .1 .0) (l .1 .1 .1 .0))
 
 returns : tie.Need-returns
 returns c =
@@ -38,7 +47,7 @@ returns-2 c =
       most = p .most;
       fine = rw (c .refusal .ensures) (refusal-low (c1 .update-slots .result));
       moved = λ h rs i mean. rw (c .refusal .ensures)
-          (moved-by (p .updated _ _ (s .counts .now) _ _ (c3 .size .ensures) (c1 .update-slots .ensures) h rs i mean));
+          (moved-by {shop = given c4} {ms = tableOf (s .s .«item_mask») (s .ids .now)} (p .updated (given c4) _ (s .counts .now) _ (after c1) (c3 .size .ensures) (c1 .update-slots .ensures) h rs i mean));
     }
 
 pub slots-after-spec : {M : Type 1} → statement M

@@ -3,6 +3,8 @@ use mathlib.Core.Path.{sym, ap, _∙_}
 use native.Mathlib.Omega.{arith}
 use mir.Syntax.{w16}
 use mir.Facts.{toZ-ofZ}
+use Rattle.shop.specs.declared.Shop.{Shop}
+use Rattle.shop_arrays.specs.Arrays.{arraysIn, shopFrom}
 use Rattle.parse_visit.specs.Slots.{bounds}
 use Rattle.parse_visit.specs.Ways.{holds-place}
 use Rattle.parse_visit.specs.Entering.{open-block, open-cells, open-nodes, open-ready, visits}
@@ -56,6 +58,10 @@ same-length-5 c = c .before .before .before .before .before .before .before .bef
 same-length-6 : tie.Need-same-length-6
 same-length-6 c = c .before .before .before .before .before .before .before .before .before .before .before .before .before .before .before .before .before .before .before .alive .given
 
+-- the slots after the block
+abbrev slotsLeft : tie.After-slots-after → Shop
+slotsLeft c = let l = c .slots-after .last .1 .1 .1 .1 .1 .1 in shopFrom (arraysIn (l .0) (l .1 .0) (l .1 .1 .0) (l .1 .1 .1 .0))
+
 returns : tie.Need-returns
 returns c =
     let c1 = c .before .before .before .before .before .before .before .before .before .before in
@@ -73,7 +79,7 @@ returns c =
     let a = c12 .args in
     λ f hold. visits (c12 .pre .1) _ _ _ f hold _ _ (c10 .block-word2 .ensures) (c11 .block-word .ensures) _ (toZ-ofZ {w = w16} {z = a .w .limit} (record {
       sfits = c9 .struct-told .given .0 .1;
-    })) (c8 .scan-block .result) _ _ (c8 .scan-block .ensures) _ _ _ (c6 .slots-after .result) (rw (c7 .index-of .ensures) at (c6 .slots-after .ensures))
+    })) (c8 .scan-block .result) _ _ (c8 .scan-block .ensures) (c6 .slots-after .last .1 .1 .1 .0) (c6 .slots-after .last .1 .1 .1 .1 .0) (slotsLeft c6) (c6 .slots-after .result) (rw (c7 .index-of .ensures) at (c6 .slots-after .ensures))
     (c5 .seen .given) (c4 .alive .given) _ _ _ _ _ _ (c1 .go-on .result) (c3 .index-of2 .ensures) (rw (c2 .scanned .ensures) at (c1 .go-on .ensures .0))
     (c1 .go-on .ensures .1 .0) (c1 .go-on .ensures .1 .1)
 
