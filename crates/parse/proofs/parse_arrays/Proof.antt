@@ -5,7 +5,7 @@ use borrow.Author.Needs.{needs}
 use Rattle.model.specs.Memory.{Memory, memoryIn}
 use Rattle.model.specs.Sheet as Model
 use Rattle.shop.specs.Shapes.{sheetOf}
-use Rattle.shop_arrays.specs.Arrays.{shopFrom}
+use Rattle.shop_arrays.specs.Arrays.{Arrays, arraysIn, shopFrom}
 use Rattle.shop_arrays.specs.Slots.{shop-none}
 use Rattle.model.specs.RecordCalls.{callIn}
 use Rattle.checks.specs.Passed.{call-passed}
@@ -20,12 +20,22 @@ memory s = memoryIn (s .args .ws .now) (s .args .val .now) (s .args .cw .now) (s
 abbrev sheet : tie.Start → Model.Sheet
 sheet s = sheetOf (s .args .attached .now) (s .args .sheet)
 
+-- the arrays as they were cleared, as the walk leaves them, and as they were cleared after it
+abbrev cleared : tie.After-clear-arrays → Arrays
+cleared c = let l = c .clear-arrays .last in arraysIn (l .0) (l .1 .0) (l .1 .1 .0) (l .1 .1 .1 .0)
+
+abbrev walked : tie.After-walk → Arrays
+walked c = let l = c .walk .last .1 .1 .1 .1 in arraysIn (l .0) (l .1 .0) (l .1 .1 .0) (l .1 .1 .1 .0)
+
+abbrev cleared2 : tie.After-clear-arrays2 → Arrays
+cleared2 c = let l = c .clear-arrays2 .last in arraysIn (l .0) (l .1 .0) (l .1 .1 .0) (l .1 .1 .1 .0)
+
 -- no check refuses
 passes : (c : tie.Else1) → let s = c .before .before .before .before .before .before .before .before in callIn (sheet s) (memory s) (s .args .setup .0) ≡ 0
 passes c = sym (c .before .check-call .ensures) ∙ c .if1 .left
 
 returns : tie.Need-returns
-returns c = let s = c .before .before .before .before .before .before .before .before in parse-refused (sheet s) (memory s) (s .args .setup .0) _ (c .before .check-call .ensures) (c .if1 .taken) _ (c .before .before .clear-arrays .ensures)
+returns c = let s = c .before .before .before .before .before .before .before .before in parse-refused (sheet s) (memory s) (s .args .setup .0) _ (c .before .check-call .ensures) (c .if1 .taken) (cleared (c .before .before)) (c .before .before .clear-arrays .ensures)
 
 cast-t23 : tie.Need-cast-t23
 cast-t23 c = let s = c .before .before .before .before .before .before .before .before in record { fits = omega (arith, items-low (s .args .attached .now) (s .args .sheet) (memory s) (s .args .setup .0) (passes (c))) }
@@ -37,7 +47,7 @@ walk-requires c κs =
     let c3 = c2 .before .before .before .before .before .before in
     let s = c3 in
     let p = call-passed (sheet s) (memory s) (s .args .setup .0) (passes (c1)) in
-    ((record { blocks = p .blocks; rest = p .rest; is = p .judged }, ap shopFrom (c2 .clear-arrays .ensures) ∙ shop-none), p .inside)
+    ((record { blocks = p .blocks; rest = p .rest; is = p .judged }, ap shopFrom {x = cleared c2} (c2 .clear-arrays .ensures) ∙ shop-none), p .inside)
 
 returns-2 : tie.Need-returns-2
 returns-2 c =
@@ -47,7 +57,7 @@ returns-2 c =
     let c4 = c3 .before .before .before .before .before .before .before .before in
     let s = c4 in
     let w = c2 .walk .ensures (sheet s) (record { items = items-counted (s .args .attached .now) (s .args .sheet); atcs = atcs-counted (s .args .attached .now) (s .args .sheet) }) in
-    parse-stopped (sheet s) (memory s) (s .args .setup .0) _ (passes (c3)) (w .answer) (c1 .if2 .taken) _ (c .clear-arrays2 .ensures)
+    parse-stopped (sheet s) (memory s) (s .args .setup .0) _ (passes (c3)) (w .answer) (c1 .if2 .taken) (cleared2 c) (c .clear-arrays2 .ensures)
 
 returns-3 : tie.Need-returns-3
 returns-3 c =
@@ -58,7 +68,7 @@ returns-3 c =
     let s = c4 in
     let o = c1 .if2 .left in
     let w = c2 .walk .ensures (sheet s) (record { items = items-counted (s .args .attached .now) (s .args .sheet); atcs = atcs-counted (s .args .attached .now) (s .args .sheet) }) in
-    parse-read (sheet s) (memory s) (s .args .setup .0) _ _ (passes (c3)) (w .answer) o (w .slots o) (c .sizes .ensures) (w .good o)
+    parse-read (sheet s) (memory s) (s .args .setup .0) _ (walked c2) (passes (c3)) (w .answer) o (w .slots o) (c .sizes .ensures) (w .good o)
 
 pub parse-arrays-spec : {M : Type 1} → statement M
 parse-arrays-spec =
