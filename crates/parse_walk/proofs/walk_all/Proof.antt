@@ -1,5 +1,5 @@
 -- The loop's invariant: what is on the stack is still to be walked, from what there is so far; the measure is the number of unmarked blocks. Assumes nothing.
-use mathlib.Core.Path.{_≡_, refl, sym, _∙_}
+use mathlib.Core.Path.{refl, sym, _∙_}
 use mathlib.Core.Bool.{Bool}
 use mathlib.Core.List.{List}
 use Prim.Native.Nat.{ℕ, _*_, _-_}
@@ -169,10 +169,10 @@ returns-3 : tie.Need-returns-3 Inv-loop μ-loop
 returns-3 c =
     let c1 = c .before in
     let c2 = c1 .before in
-    let c4 = c2 .before .before .before in
-    let c5 = c4 .before in
-    let c6 = c5 .before .before .before .before in
-    ends-full (c6 .loop .inv .0) (c5 .top-unmarked .ensures) (c4 .if1 .left) refl refl (coded c2) (c6 .loop .inv .1) {s′ = slots c6} (c1 .if3 .taken) (c .answered2 .ensures)
+    let c3 = c2 .before .before .before in
+    let c4 = c3 .before in
+    let c5 = c4 .before .before .before .before in
+    ends-full (c5 .loop .inv .0) (c4 .top-unmarked .ensures) (c3 .if1 .left) refl refl (coded c2) (c5 .loop .inv .1) {s′ = slots c5} (c1 .if3 .taken) (c .answered2 .ensures)
 
 mul-t32-2 : tie.Need-mul-t32-2 Inv-loop μ-loop
 mul-t32-2 c =
@@ -198,10 +198,10 @@ slice-read-t35-2 c = omega (arith, c .before .before .before .before .before .be
 visit-requires : tie.Need-visit-requires Inv-loop μ-loop
 visit-requires c κs =
     let c1 = c .before .before .before .before .before .before .before .before .before .before .before .before .before .before .before .before in
-    let c3 = c1 .before .before .before in
-    let c4 = c3 .before in
-    let c5 = c4 .before .before .before .before in
-    (held (c5 .loop .inv .0), visit-open (c5 .loop .inv .0) (c4 .top-unmarked .ensures) (c3 .if1 .left) refl refl (coded c1) (c5 .loop .inv .1))
+    let c2 = c1 .before .before .before in
+    let c3 = c2 .before in
+    let c4 = c3 .before .before .before .before in
+    (held (c4 .loop .inv .0), visit-open (c4 .loop .inv .0) (c3 .top-unmarked .ensures) (c2 .if1 .left) refl refl (coded c1) (c4 .loop .inv .1))
 
 same-length-25 : tie.Need-same-length-25 Inv-loop μ-loop
 same-length-25 c =
@@ -252,11 +252,11 @@ returns-4 : tie.Need-returns-4 Inv-loop μ-loop
 returns-4 c =
     let c1 = c .before .before .before .before .before .before .before .before .before .before .before .before .before .before .before .before .before in
     let c2 = c1 .before .before .before .before .before .before .before .before .before .before .before .before .before .before .before .before .before in
-    let c4 = c2 .before .before .before in
-    let c5 = c4 .before in
-    let c6 = c5 .before .before .before .before in
-    ends-refused (c6 .loop .inv .0) (c5 .top-unmarked .ensures) (c4 .if1 .left) refl refl (coded c2) (c6 .loop .inv .1) {t′ = tablesLeft c1} {marks′ = marksLeft c1} {s′ = slotsLeft c1} {v = c1 .visit .result}
-    (c1 .visit .ensures (c6 .loop .inv .0 .conditions) (c6 .loop .inv .0 .holding)) (c .if4 .taken)
+    let c3 = c2 .before .before .before in
+    let c4 = c3 .before in
+    let c5 = c4 .before .before .before .before in
+    ends-refused (c5 .loop .inv .0) (c4 .top-unmarked .ensures) (c3 .if1 .left) refl refl (coded c2) (c5 .loop .inv .1) {t′ = tablesLeft c1} {marks′ = marksLeft c1} {s′ = slotsLeft c1}
+    (c1 .visit .ensures (c5 .loop .inv .0 .conditions) (c5 .loop .inv .0 .holding)) (c .if4 .taken)
 
 push-requires : tie.Need-push-requires Inv-loop μ-loop
 push-requires c κs = omega (arith, c .before .before .before .before .before .before .before .before .before .before .before .before .before .before .before .before .before .before .before .before .before .before .before .before .before .before .before .before .before .before .before .before .before .before .if3 .left)
@@ -266,11 +266,11 @@ loop-less c =
     let c1 = c .before .before .before .before in
     let c2 = c1 .before .before .before .before .before .before .before .before .before .before .before .before .before .before .before .before .before in
     let c3 = c2 .before .before .before .before .before .before .before .before .before .before .before .before .before .before .before .before .before in
-    let c5 = c3 .before .before .before in
-    let c6 = c5 .before in
-    let c7 = c6 .before .before .before .before in
-    falls (c7 .loop .inv .0) (c6 .top-unmarked .ensures) (c5 .if1 .left) refl refl (coded c3) (c7 .loop .inv .1) {t′ = tablesLeft c2} {marks′ = marksLeft c2} {s′ = slotsLeft c2} {v = c2 .visit .result}
-    (c2 .visit .ensures (c7 .loop .inv .0 .conditions) (c7 .loop .inv .0 .holding)) (c1 .if4 .left)
+    let c4 = c3 .before .before .before in
+    let c5 = c4 .before in
+    let c6 = c5 .before .before .before .before in
+    falls (c6 .loop .inv .0) (c5 .top-unmarked .ensures) (c4 .if1 .left) refl refl (coded c3) (c6 .loop .inv .1) {t′ = tablesLeft c2} {marks′ = marksLeft c2} {s′ = slotsLeft c2}
+    (c2 .visit .ensures (c6 .loop .inv .0 .conditions) (c6 .loop .inv .0 .holding)) (c1 .if4 .left)
 
 loop-again : tie.Need-loop-again Inv-loop μ-loop
 loop-again c =
@@ -287,22 +287,22 @@ loop-again c =
     let c11 = c10 .before in
     let c12 = c11 .before .before .before .before .before .before .before .before .before .before .before .before .before .before .before .before in
     let c13 = c12 .before in
-    let c15 = c13 .before .before .before in
-    let c16 = c15 .before in
-    let c17 = c16 .before .before .before .before in (
-      turns (c17 .loop .inv .0) (c16 .top-unmarked .ensures) (c15 .if1 .left) refl refl (coded c13) (c17 .loop .inv .1) {t′ = tablesLeft c11} {marks′ = marksLeft c11} {s′ = slotsLeft c11} {v = c11 .visit .result}
-          (c11 .visit .ensures (c17 .loop .inv .0 .conditions) (c17 .loop .inv .0 .holding)) (c3 .if4 .left) (c2 .push .ensures) (omega (arith, c12 .if3 .left))
+    let c14 = c13 .before .before .before in
+    let c15 = c14 .before in
+    let c16 = c15 .before .before .before .before in (
+      turns (c16 .loop .inv .0) (c15 .top-unmarked .ensures) (c14 .if1 .left) refl refl (coded c13) (c16 .loop .inv .1) {t′ = tablesLeft c11} {marks′ = marksLeft c11} {s′ = slotsLeft c11}
+          (c11 .visit .ensures (c16 .loop .inv .0 .conditions) (c16 .loop .inv .0 .holding)) (c3 .if4 .left) (c2 .push .ensures) (omega (arith, c12 .if3 .left))
           (c1 .stack .given),
       record {
-        keys = c10 .keys .given ∙ c17 .loop .inv .1 .keys;
-        kids = c9 .kids .given ∙ c17 .loop .inv .1 .kids;
+        keys = c10 .keys .given ∙ c16 .loop .inv .1 .keys;
+        kids = c9 .kids .given ∙ c16 .loop .inv .1 .kids;
         companions = c8 .companions .given
-            ∙ c17 .loop .inv .1 .companions;
-        list = c7 .list .given ∙ c17 .loop .inv .1 .list;
-        seen = c6 .seen .given ∙ c17 .loop .inv .1 .seen;
-        alive = c5 .alive .given ∙ c17 .loop .inv .1 .alive;
-        cells = c4 .cells .given ∙ c17 .loop .inv .1 .cells;
-        entries = c1 .stack .given ∙ c17 .loop .inv .1 .entries;
+            ∙ c16 .loop .inv .1 .companions;
+        list = c7 .list .given ∙ c16 .loop .inv .1 .list;
+        seen = c6 .seen .given ∙ c16 .loop .inv .1 .seen;
+        alive = c5 .alive .given ∙ c16 .loop .inv .1 .alive;
+        cells = c4 .cells .given ∙ c16 .loop .inv .1 .cells;
+        entries = c1 .stack .given ∙ c16 .loop .inv .1 .entries;
       },
     )
 
