@@ -31,13 +31,13 @@ weight-some requirementsField = omega arith
 -- ---- by the field that a match met
 
 module _ (h : Model.Sheet) (f : code.Field) (x : Slot) where
-  pub item-ok : f ≡ Item → itemKnown h (itemOf (x .item)) ≡ contentOk h (contentOf f x)
+  pub item-ok : f ≡ Item → (r : Bool) → r ≡ itemKnown h (itemOf (x .item)) → r ≡ contentOk h (contentOf f x)
   unfolding slotOf
-  item-ok e = rw e
+  item-ok e r q = rw e q
 
-  pub requirements-ok : f ≡ Requirements → entriesOk h (entries (x .len) (x .requirements)) ≡ contentOk h (contentOf f x)
+  pub requirements-ok : f ≡ Requirements → (r : Bool) → r ≡ entriesOk h (entries (x .len) (x .requirements)) → r ≡ contentOk h (contentOf f x)
   unfolding slotOf
-  requirements-ok e = rw e
+  requirements-ok e r q = rw e q
 
 content-field : (f : code.Field) (x : Slot) → fieldOf (contentOf f x) ≡ fieldIs f
 content-field Item x = refl

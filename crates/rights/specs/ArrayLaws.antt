@@ -1,5 +1,6 @@
 -- The calls that edit and show arrays, by the number of the field and by the answers of what they call. Assumes nothing.
 use mathlib.Core.Path.{_≡_, refl, sym, ap, _∙_}
+use mathlib.Core.Bool.{true, false}
 use mathlib.Core.List.{List}
 use Prim.Native.Nat.{ℕ, zero, suc, _+_, _*_, _≤_, _<_}
 use native.Mathlib.Omega.{arith}
@@ -11,12 +12,12 @@ use lib.Seq.{paste}
 use Rattle.model.specs.Limits.{entryLimit, slotCount, userCount}
 use Rattle.model.specs.Refusal.{noUser}
 use Rattle.model.specs.Sheet as Model
-use Rattle.rights_model.specs.Rights.{Table, editRefusal}
+use Rattle.rights_model.specs.Rights.{Rights, Table, editRefusal}
 use Rattle.rights_model.specs.Fields.{allowed}
 use Rattle.shop.specs.declared.Slot.{Slot}
 use Rattle.shop_arrays.specs.Arrays.{Arrays, arraysIn}
 use Rattle.shop_arrays.specs.Slots.{noArrays}
-use Rattle.rights.specs.InArrays.{Contents, arraysEdited, arraysShown, arraysWith, editedAs, fieldFrom, firstShown, placeFor, shownAt, slotBy}
+use Rattle.rights.specs.InArrays.{Contents, arraysEdited, arraysShown, arraysWith, editedAs, emptied, fieldFrom, firstShown, placeFor, shownAt, slotBy}
 use Rattle.rights.specs.Values.{editOf}
 use Rattle.rights.specs.declared.Field.{Field}
 use Rattle.rights.specs.declared.Field.the-variants.{Item, Limit, Requirements}
@@ -81,6 +82,15 @@ module _ (t : Table) (h : Model.Sheet) (a : Arrays) (u i n : ℕ) (x : Contents)
   arrays-now q b w =
       ap (λ (c : Arrays). record { refusal = 0; arrays = c }) (w ∙ ap (λ m. arraysWith (fieldFrom n) x m a) e)
       ∙ ap (λ m. editedAs m (arraysWith (fieldFrom n) x (placeFor n i) a) a) (sym q ∙ known)
+
+-- ---- one slot shown
+
+module _ (r : Rights) (i : ℕ) (a : Arrays) where
+  pub slot-seen : r .see ≡ true → a ≡ shownAt r i a
+  slot-seen e = rw e
+
+  pub slot-hidden : r .see ≡ false → (b : Arrays) → b ≡ emptied i a → b ≡ shownAt r i a
+  slot-hidden e b q = rw e q
 
 -- ---- the loop over the slots that are shown
 

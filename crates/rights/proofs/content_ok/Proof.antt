@@ -1,5 +1,4 @@
 -- `content_ok` meets its contract. Assumes nothing.
-use mathlib.Core.Path.{_∙_}
 use Rattle.shop.specs.Shapes.{sheetOf}
 use Rattle.rights.specs.Answers.{item-ok, requirements-ok}
 use borrow.Author.Needs.{needs}
@@ -9,12 +8,12 @@ use Rattle.rights.proofs.content_ok.Tie as tie
 returns : tie.Need-returns
 returns c =
     let s = c .before .before .before .before in
-    c .item-known .ensures ∙ item-ok (sheetOf (s .args .attached .now) (s .args .sheet)) (s .args .field) (s .args .content) (c .before .enum-told .given .1)
+    item-ok (sheetOf (s .args .attached .now) (s .args .sheet)) (s .args .field) (s .args .content) (c .before .enum-told .given .1) (c .item-known .result) (c .item-known .ensures)
 
 returns-3 : tie.Need-returns-3
 returns-3 c =
     let s = c .before .before .before .before .before .before in
-    c .check-parts .ensures ∙ requirements-ok (sheetOf (s .args .attached .now) (s .args .sheet)) (s .args .field) (s .args .content) (c .before .before .before .enum-told3 .given .1)
+    requirements-ok (sheetOf (s .args .attached .now) (s .args .sheet)) (s .args .field) (s .args .content) (c .before .before .before .enum-told3 .given .1) (c .check-parts .result) (c .check-parts .ensures)
 
 pub content-ok-spec : {M : Type 1} → statement M
 content-ok-spec =

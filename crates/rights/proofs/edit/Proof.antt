@@ -6,6 +6,7 @@ use native.Mathlib.Omega.{arith}
 use lib.IntN.{pos}
 use lib.ListN.{length}
 use Rattle.model.specs.Limits.{slotCount}
+use Rattle.model.specs.Laws.Checks.{answered}
 use Rattle.rights_model.specs.Rights.{editRefusal}
 use Rattle.rights_model.specs.Fields.{allowed}
 use Rattle.shop.specs.Shapes.{noSlot, placed, sheetOf}
@@ -40,12 +41,12 @@ returns c =
     edited-not (tableOf (s .args .rights .now)) (sheetOf (s .args .attached .now) (s .args .sheet)) (s .args .t4) (s .args .user) (s .args .slot) (s .args .field) (s .args .content) _ (c .before .refusal-of .ensures) (c .if1 .taken)
 
 element-copy-out-changed : tie.Need-element-copy-out-changed
-element-copy-out-changed c = let s = c .before .before .before in inside s (sym (c .before .refusal-of .ensures) ∙ c .if1 .left)
+element-copy-out-changed c = let s = c .before .before .before in inside s (answered (refusal s) (c .before .refusal-of .ensures) (c .if1 .left))
 
 returns-2 : tie.Need-returns-2
 returns-2 c =
     let s = c .before .before .before .before .before .before in
-    let e : refusal s ≡ 0 = sym (c .before .before .before .before .refusal-of .ensures) ∙ c .before .before .before .if1 .left in
+    let e = answered (refusal s) (c .before .before .before .before .refusal-of .ensures) (c .before .before .before .if1 .left) in
     ap (λ (x : Shop). record { refusal = 0; shop = x })
     (c .with-slot .ensures ∙ ap (λ (x : Slot). placed (s .args .t4) (s .args .slot) x) (c .before .changed .ensures)
     ∙ ap (λ (x : Slot). placed (s .args .t4) (s .args .slot) (changedSlot (s .args .field) (s .args .content) x)) (any-default (s .args .t4 .slots) (s .args .slot) beyond noSlot (omega (arith, size s, inside s e))))

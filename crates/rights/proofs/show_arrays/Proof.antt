@@ -18,10 +18,17 @@ abbrev μ-loop : tie.MeasureT-loop
 abbrev arrays : tie.Start Inv-loop μ-loop → Arrays
 arrays s = arraysIn (s .args .items .now) (s .args .limits .now) (s .args .codes .now) (s .args .lens .now)
 
+-- what the calls left
+abbrev cleared : tie.After-clear-arrays Inv-loop μ-loop → Arrays
+cleared c = arraysIn (c .clear-arrays .last .0) (c .clear-arrays .last .1 .0) (c .clear-arrays .last .1 .1 .0) (c .clear-arrays .last .1 .1 .1 .0)
+
+abbrev hidden : tie.After-hide-slot Inv-loop μ-loop → Arrays
+hidden c = arraysIn (c .hide-slot .last .1 .0) (c .hide-slot .last .1 .1 .0) (c .hide-slot .last .1 .1 .1 .0) (c .hide-slot .last .1 .1 .1 .1 .0)
+
 returns : tie.Need-returns Inv-loop μ-loop
 returns c =
     let s = c .before .before .before .before .before .before in
-    shown-not (tableOf (s .args .rights .now)) (s .args .user) (arrays s) _ (c .clear-arrays .ensures) (c .before .before .before .before .before .if1 .taken)
+    shown-not (tableOf (s .args .rights .now)) (s .args .user) (arrays s) (cleared c) (c .clear-arrays .ensures) (c .before .before .before .before .before .if1 .taken)
 
 loop-holds : tie.Need-loop-holds Inv-loop μ-loop
 loop-holds c = let s = c .before in shown-start (tableOf (s .args .rights .now)) (s .args .user) (arrays s)
@@ -30,7 +37,7 @@ loop-again : tie.Need-loop-again Inv-loop μ-loop
 loop-again c =
     let s = c .before .before .before .before .before .before .before .before in
     let l = c .before .before .before .before .before .before .loop in
-    shown-more (tableOf (s .args .rights .now)) (s .args .user) (arrays s) (l .i) _ (l .inv) (c .before .before .before .before .before .loop-test .taken) _ (c .hide-slot .ensures)
+    shown-more (tableOf (s .args .rights .now)) (s .args .user) (arrays s) (l .i) _ (l .inv) (c .before .before .before .before .before .loop-test .taken) (hidden c) (c .hide-slot .ensures)
 
 returns-2 : tie.Need-returns-2 Inv-loop μ-loop
 returns-2 c =
