@@ -8,7 +8,7 @@ use native.Mathlib.Numerals.{add-one}
 use lib.Dec.{eqb}
 use borrow.Author.Tests.{eq-eqb, ne-eqb}
 use lib.ListN.{getD, length, take, drop, drop-of-length-le}
-use lib.Seq.{drop-cons, take-suc}
+use lib.Seq.{drop-cons, getD-take, take-suc, take-take}
 use Rattle.model.specs.Sheet.{Sheet}
 use Rattle.model.specs.Requirement.{Requirement, member, negateReq, sameReq}
 use Rattle.model.specs.Normal.{acquiredOf}
@@ -82,7 +82,7 @@ module _ (one : Bool) (own : ℕ) (cs : List ℕ) where
   pub start : Counted one own cs 0 0
   start = record { low = omega arith; few = omega arith; is = omega arith }
 
-  pub more : (i n : ℕ) → Counted one own cs i n → i < length cs → (r : ℕ) → r ≡ n + bit (newCode one own (take i cs) (getD cs i 0)) → Counted one own cs (i + 1) r
+  more : (i n : ℕ) → Counted one own cs i n → i < length cs → (r : ℕ) → r ≡ n + bit (newCode one own (take i cs) (getD cs i 0)) → Counted one own cs (i + 1) r
   unfolding countCodes
   more i n k l r e = rw (add-one i) (record { low = l; few = omega (arith, bit-most (newCode one own (take i cs) (getD cs i 0)), e, k .few); is = sum })
     where
@@ -101,6 +101,11 @@ module _ (one : Bool) (own : ℕ) (cs : List ℕ) where
   end i n k l =
       let z : countCodes one own (take i cs) (drop i cs) ≡ 0 = rw (drop-of-length-le cs l) in
       omega (arith, k .is, z)
+
+-- of the first codes of a row, read in the row
+pub more-taken : (one : Bool) (own : ℕ) (row : List ℕ) (len : ℕ) → length (take len row) ≡ len → (i n : ℕ) → Counted one own (take len row) i n → i < len → (r : ℕ) → r ≡ n + bit (newCode one own (take i row) (getD row i 0))
+    → Counted one own (take len row) (i + 1) r
+more-taken one own row len k i n c l r e = more one own (take len row) i n c (omega arith) r (rw (take-take i len row (omega arith), getD-take len row i 0 l) e)
 
 -- ---- the tests by their answers
 

@@ -1,12 +1,10 @@
 -- `count_subjects` meets its contract. The loop's invariant: what is counted and what is left are all. Assumes nothing.
-use mathlib.Core.Path.{_≡_, refl, sym, ap, _∙_}
-use mathlib.Core.List.{List}
-use Prim.Native.Nat.{ℕ, _+_, _-_}
+use mathlib.Core.Path.{_≡_}
+use Prim.Native.Nat.{_-_}
 use native.Mathlib.Omega.{arith}
-use lib.ListN.{length, take, getD}
-use lib.Seq.{length-take-le, getD-take, take-take}
-use Rattle.settings_model.specs.Closed.{bit}
-use Rattle.settings.specs.Counting.{Counted, end, more, newCode, start}
+use lib.ListN.{length, take}
+use lib.Seq.{length-take-le}
+use Rattle.settings.specs.Counting.{Counted, end, more-taken, start}
 use borrow.Author.Needs.{needs}
 use Rattle.settings.proofs.count_subjects.Statement.{statement}
 use Rattle.settings.proofs.count_subjects.Tie as tie
@@ -31,11 +29,7 @@ loop-again : tie.Need-loop-again Inv-loop μ-loop
 loop-again c =
     let s = c .before .before .before .before .before in
     let l = c .before .before .before .loop in
-    let t = c .before .before .loop-test .taken in
-    let cs : List ℕ = take (s .args .len) (s .args .row .now) in
-    more (s .args .one) (s .args .own) cs (l .i) (l .n) (l .inv) (omega (arith, size (c .before .before .before .before), t)) _
-    (c .one-more .ensures ∙ ap (λ (x : List ℕ). l .n + bit (newCode (s .args .one) (s .args .own) x (getD (s .args .row .now) (l .i) 0))) (sym (take-take (l .i) (s .args .len) (s .args .row .now) (omega arith)))
-    ∙ ap (λ (x : ℕ). l .n + bit (newCode (s .args .one) (s .args .own) (take (l .i) cs) x)) (sym (getD-take (s .args .len) (s .args .row .now) (l .i) 0 t)))
+    more-taken (s .args .one) (s .args .own) (s .args .row .now) (s .args .len) (size (c .before .before .before .before)) (l .i) (l .n) (l .inv) (c .before .before .loop-test .taken) (c .one-more .result) (c .one-more .ensures)
 
 returns : tie.Need-returns Inv-loop μ-loop
 returns c =
