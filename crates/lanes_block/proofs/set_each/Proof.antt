@@ -1,5 +1,4 @@
 -- `set_each` meets its contract: target, value and write, lane by lane. Assumes nothing.
-use native.Mathlib.Omega.{arith}
 use Rattle.model.specs.Memory.{nodesIn}
 use Rattle.expr.specs.Tree.{below-root}
 use Rattle.lanes_block.specs.Flows.{valued-worth, set-does}
