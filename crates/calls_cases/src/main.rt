@@ -36,6 +36,7 @@ use memory::NODE_WORDS;
 use memory::NODES;
 use memory::NodeWords;
 use memory::Values;
+use model::INPUT;
 use reclaims::reclaimed;
 
 // What goes from a line to the next: the counts of the script and of its accepted compiles, the length of the image, and the tally.
@@ -46,7 +47,7 @@ struct Held {
 }
 
 fn main() {
-    let mut input: [u8; 65536] = [0; 65536];
+    let mut input: [u8; INPUT] = [0; INPUT];
     let mut image: [u8; 65600] = [0; 65600];
     let mut ws: NodeWords = [0; NODE_WORDS];
     let mut val: Values = [0; NODES];
