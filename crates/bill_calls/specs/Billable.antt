@@ -1,6 +1,6 @@
 -- The bill after a run of a compiled shop (02, A.11): any list of lk_compile and lk_reclaim as they were made and answered, then lk_run, then lk_bill with the counts that it left. Each call comes in by its own promise. Assumes nothing.
-use mathlib.Core.Path.{_≡_, refl, sym, ap, _∙_, subst}
-use mathlib.Core.Bool.{Bool, true, false, cond, _&&_, true≢false}
+use mathlib.Core.Path.{_≡_, refl, sym, _∙_, subst}
+use mathlib.Core.Bool.{Bool, true, false, cond, true≢false}
 use mathlib.Core.Option.{Option, none, some}
 use mathlib.Core.List.{List}
 use Prim.Native.Nat.{ℕ, _≤_}
@@ -10,8 +10,8 @@ use lib.ListN.{length, length-map}
 use borrow.Author.Tests.{eqb-true}
 use Rattle.model.specs.Limits.{slotCount}
 use Rattle.model.specs.Save.{Save}
-use Rattle.model.specs.Sheet.{Sheet, all, saveRefusal, sheetRefusal}
-use Rattle.model.specs.Shop.{Slot, slotOk, withSlots}
+use Rattle.model.specs.Sheet.{Sheet, all, saveRefusal}
+use Rattle.model.specs.Shop.{Slot, slotOk}
 use Rattle.model.specs.Memory.{scriptOf}
 use Rattle.model.specs.RecordCalls.{Born, bornAt, compileRefusalIn, recordRefusal, runIn}
 use Rattle.model.specs.Lists.{Along, acceptedAt, afterAll, lastAt, latest, nowAt}

@@ -12,7 +12,7 @@ use Rattle.model.specs.Limits.{entryLimit, slotCount}
 use Rattle.model.specs.Sheet as Model
 use Rattle.rights_model.specs.Rights.{Table, editRefusal}
 use Rattle.rights_model.specs.Fields.{allowed}
-use Rattle.shop_arrays.specs.Arrays.{Arrays, arraysIn, rowAt}
+use Rattle.shop_arrays.specs.Arrays.{Arrays, arraysIn}
 use Rattle.shop_arrays.specs.Back.{Full}
 use Rattle.shop_arrays.specs.Slots.{row-at}
 use Rattle.rights.specs.InArrays.{Answer, Contents, arraysEdited, arraysShown, arraysWith, editedAs, fieldFrom, firstShown, placeFor}

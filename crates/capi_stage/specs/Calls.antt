@@ -1,6 +1,6 @@
 -- Over lk_read_heading and lk_write_heading, each by its own promise: a heading read and written again, and one written and read again. Assumes nothing.
 use mathlib.Core.Path.{_≡_, refl, ap, ap₂, sym, _∙_}
-use mathlib.Core.Bool.{Bool, true, false, cond, not, _&&_}
+use mathlib.Core.Bool.{Bool, true, false, not, _&&_}
 use mathlib.Core.Option.{Option}
 use mathlib.Core.List.{List, [], _∷_, map, _++_}
 use Prim.Native.Nat.{ℕ, zero, suc, _-_, _≤_, _<_}
@@ -15,7 +15,7 @@ use Rattle.model.specs.Reading.{Answer, got, refused, onward, refusalOf, number
 use Rattle.model.specs.Laws.Reading.{passed}
 use Rattle.model.specs.Laws.Checks.{first-passed}
 use Rattle.model.specs.Laws.Checks as Checks
-use Rattle.model.specs.Laws.Refused.{Proper, Accepts, accepts, proper-onward, proper-cond, proper-number}
+use Rattle.model.specs.Laws.Refused.{Proper, accepts, proper-onward, proper-cond, proper-number}
 use Rattle.model.specs.Sheet
 use Rattle.model.specs.Sheet.{itemCount, sheetOk, sheetRefusal}
 use Rattle.model.specs.Files.{Wrote, wroteOf, over}

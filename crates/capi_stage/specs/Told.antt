@@ -7,17 +7,16 @@ use borrow.Author.Tests.{le-leb, lt-leb}
 use lib.ListN.{length, take, drop, replicate, length-map, length-drop, take-append-drop}
 use lib.Seq.{length-take-le}
 use Rattle.model.specs.Limits.{mostItems, inputLimit}
-use Rattle.model.specs.Refusal.{overLimit}
 use Rattle.model.specs.Reading.{Answer, got, refused}
 use Rattle.model.specs.Sheet.{itemCount}
 use Rattle.model.specs.Printer.{atcEntry}
 use Rattle.shop.specs.Shapes.{sheetOf}
 use Rattle.slots_sheet.specs.declared.Heading.{Heading}
-use Rattle.slots_sheet.specs.Outcome.{Head, readHead, noHeading, headOf, held, nothing, by, into, outcome, readInto, Within}
+use Rattle.slots_sheet.specs.Outcome.{Head, readHead, noHeading, headOf, by, into, outcome, readInto, Within}
 use Rattle.slots_heading.specs.Bytes.{entryOf}
 use Rattle.slots_heading.specs.RoundTrip.{entry-number}
 use Rattle.capi_stage.specs.declared.Headed.{Headed}
-use Rattle.capi_stage.specs.Answers.{stageHead, told, noHead, numbersOf, toldOf, headTold}
+use Rattle.capi_stage.specs.Answers.{stageHead, told, noHead, toldOf, headTold}
 
 -- the reader's answer by its numbers
 abbrev pub headedOf : Heading → Headed

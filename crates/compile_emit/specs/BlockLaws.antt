@@ -1,17 +1,17 @@
 -- How appended expressions and command words make up commands, commands a block, and blocks a list; and the room for each. Assumes nothing.
-use Prim.Native.Nat.{ℕ, suc, _+_, _-_, _≤_, _<_}
-use mathlib.Core.Path.{_≡_, refl, ap, sym, _∙_}
+use Prim.Native.Nat.{ℕ, _+_, _-_, _≤_, _<_}
+use mathlib.Core.Path.{_≡_, refl, ap, _∙_}
 use mathlib.Core.Bool.{Bool, true, false}
-use mathlib.Core.Option.{Option, none, some}
-use mathlib.Core.List.{List, [], _∷_, _++_}
+use mathlib.Core.Option.{Option}
+use mathlib.Core.List.{List, [], _∷_}
 use lib.ListN.{length}
 use lib.IntN.{ℤ}
 use native.Mathlib.Numerals.{add-one}
 use native.Mathlib.Omega.{arith}
 use Rattle.model.specs.Limits.{nodeLimit, commandLimit, blockLimit, itemFirst, countFirst}
 use Rattle.model.specs.Expr.{Expr, size}
-use Rattle.model.specs.Script.{Command, return, setVariable, ifElse, endIf, Block, code, commandNodes, commandsNodes, blockCommands, blockNodes, sumOf}
-use Rattle.model.specs.Memory.{Nodes, Coded, Memory, nodesIn, putExpr, commandWords, pushCommand, putCommand, putCommands, blockWords, linkWord, pushBlock, putBlock, putBlocks}
+use Rattle.model.specs.Script.{Command, return, setVariable, ifElse, endIf, Block, code, commandNodes, commandsNodes, blockCommands, blockNodes}
+use Rattle.model.specs.Memory.{Nodes, Coded, Memory, nodesIn, putExpr, commandWords, putCommand, putCommands, blockWords, linkWord, putBlock, putBlocks}
 use Rattle.model.specs.Compile.{emitSet, ifBlock}
 use Rattle.memory.specs.View.{codedOf, memoryOf}
 use Rattle.memory.specs.declared.Counts.{Counts}

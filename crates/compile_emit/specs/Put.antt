@@ -1,7 +1,7 @@
 -- What the functions that append commands and blocks promise. The counts follow from the rest. Assumes nothing: these are definitions.
 use mathlib.Core.Path.{_≡_}
 use mathlib.Core.List.{List}
-use Prim.Native.Nat.{ℕ, _+_}
+use Prim.Native.Nat.{_+_}
 use lib.ListN.{length}
 use Rattle.model.specs.Script.{Command, Block, commandsNodes, blockCommands, blockNodes, sumOf}
 use Rattle.model.specs.Memory.{Coded, Memory, putCommands, putBlocks}

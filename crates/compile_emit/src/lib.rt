@@ -1,5 +1,4 @@
 // Commands and blocks appended to a script in lent arrays, each as the compiler's definitions have them.
-ghost use mathlib.Core.Path.{_≡_};
 ghost use mathlib.Core.List.{[], _∷_};
 ghost use Prim.Native.Nat.{_+_, _-_, _≤_, _<_};
 ghost use Rattle.model.specs.Limits.{blockLimit, commandLimit, entryLimit, half16, nodeLimit, slotCount};

@@ -3,18 +3,15 @@ use mathlib.Core.Path.{_≡_}
 use mathlib.Core.Bool.{cond}
 use mathlib.Core.Option.{Option, none, some}
 use mathlib.Core.List.{List, [], _∷_}
-use Prim.Native.Nat.{ℕ, zero, suc, _+_, _-_, _*_, _≤_, _<_}
+use Prim.Native.Nat.{ℕ, zero, suc, _+_, _-_, _*_, _≤_}
 use lib.Dec.{leb}
 use lib.IntN.{ℤ}
-use lib.ListN.{length, getD}
+use lib.ListN.{length}
 use Rattle.model.specs.Limits.{entryLimit}
 use Rattle.model.specs.Script.{Block, sumOf, blockCommands, blockNodes}
 use Rattle.model.specs.Requirement.{Requirement, haveItem, missingItem, haveAtc, missingAtc, haveFlag, missingFlag, sorted}
 use Rattle.model.specs.Sheet.{Sheet}
 use Rattle.model.specs.Shop.{Slot, Timer, plain, five, ten, fifteen, timerOf, limitOf}
-use Rattle.shop.specs.declared.Slot as Given
-use Rattle.shop.specs.declared.Shop.{Shop}
-use Rattle.shop.specs.Sets.{Exact}
 use Rattle.compile_sizes.specs.declared.Size.{Size}
 
 -- what some blocks take

@@ -4,7 +4,6 @@ use mathlib.Core.List.{List}
 use Prim.Native.Nat.{ℕ, zero, suc, _≤_}
 use native.Mathlib.Omega.{arith}
 use lib.ListN.{length}
-use Rattle.model.specs.Script.{Block}
 use Rattle.compile_slots.specs.declared.ItemContext.{ItemContext}
 use Rattle.compile_slots.specs.Parts.{onceBy, onceOf, beforeBy, limitBy, limitIn, filledBy, filledOf}
 

@@ -2,11 +2,11 @@
 use mathlib.Core.Path.{_≡_, refl, ap, sym, _∙_}
 use mathlib.Core.Bool.{Bool}
 use mathlib.Core.Option.{Option, none, some}
-use mathlib.Core.List.{List, [], _∷_, _++_, map}
-use Prim.Native.Nat.{ℕ, zero, suc, _+_, _-_, _≤_, _<_}
+use mathlib.Core.List.{List, [], _∷_, map}
+use Prim.Native.Nat.{ℕ, zero, suc, _-_, _≤_, _<_}
 use native.Mathlib.Omega.{arith}
 use lib.IntN.{ℤ}
-use lib.ListN.{length, replicate, length-append, length-replicate}
+use lib.ListN.{length, length-append, length-replicate}
 use Rattle.model.specs.Limits.{entryLimit, half16}
 use Rattle.model.specs.declared.Op1.the-variants.{Item, Atc}
 use Rattle.model.specs.Requirement.{Requirement, sorted}
@@ -19,7 +19,7 @@ use Rattle.shop.specs.declared.Reqs.{Reqs}
 use Rattle.shop.specs.declared.Timer as Kinds
 use Rattle.shop_codes.specs.Codes.{codeOf, requirementOf}
 use Rattle.shop.specs.Shapes.{sheetOf, atcAt, timerIs, rateWord, entries, slotOf}
-use Rattle.shop.specs.Sets.{held, reqsOf, sortedReqs, sortedCodes, Exact}
+use Rattle.shop.specs.Sets.{reqsOf, sortedReqs, Exact}
 use Rattle.shop_codes.specs.Laws.{codes-narrow, codes-stand}
 use Rattle.shop.specs.Codes.{sorted-narrow, sorted-code}
 use Rattle.shop.specs.SetLaws.{held-set, sorted-few}

@@ -1,13 +1,13 @@
 -- The blocks of a context are those of the definition. Assumes nothing.
-use mathlib.Core.Path.{_≡_, refl, ap, ap₂, sym, _∙_}
+use mathlib.Core.Path.{_≡_, refl, ap, ap₂, _∙_}
 use mathlib.Core.Bool.{Bool, true, false, cond}
 use mathlib.Core.List.{List, [], _∷_, map}
-use Prim.Native.Nat.{ℕ, zero, suc, _+_, _-_, _≤_, _<_}
+use Prim.Native.Nat.{ℕ, zero, suc, _+_, _-_}
 use native.Mathlib.Numerals.{add-one}
 use native.Mathlib.Omega.{arith}
 use lib.Dec.{leb}
 use lib.IntN.{ℤ}
-use lib.ListN.{length, take, drop, getD}
+use lib.ListN.{length, take, getD}
 use Rattle.model.specs.Limits.{entryLimit}
 use Rattle.model.specs.Expr.{Expr, two, negate}
 use Rattle.model.specs.declared.Op2.the-variants.{BitAnd}
@@ -15,12 +15,12 @@ use Rattle.model.specs.Script.{Block}
 use Rattle.model.specs.Requirement.{Requirement}
 use Rattle.model.specs.Sheet as Model
 use Rattle.model.specs.Shop.{Timer, plain, five, ten, fifteen, timerOf, limitOf}
-use Rattle.model.specs.Compile.{itemTest, test, joinTests, acquiredExpr, noTimerExpr, hideBlock, enableBlocks, uniqueBlocks, limitBlocks, filledBlocks}
+use Rattle.model.specs.Compile.{itemTest, test, joinTests, acquiredExpr, hideBlock, enableBlocks, uniqueBlocks, limitBlocks, filledBlocks}
 use Rattle.shop_codes.specs.Codes.{requirementOf}
-use Rattle.expr_build.specs.Tests.{codesRest, joinCodes, acquiredOf, missingAnd, bothMissing}
-use Rattle.expr_build.specs.AcquiredLaws.{missing-none, missing-some}
+use Rattle.expr_build.specs.Tests.{codesRest, joinCodes, acquiredOf, missingAnd}
+use Rattle.expr_build.specs.AcquiredLaws.{missing-none}
 use Rattle.compile_slots.specs.declared.ItemContext.{ItemContext}
-use Rattle.compile_slots.specs.Parts.{isFive, enableOf, enableBy, uniqueBy, uniqueOf, limitBy, limitIn, soldOf, filledBy, filledOf, Stands, Listed}
+use Rattle.compile_slots.specs.Parts.{isFive, enableOf, uniqueBy, uniqueOf, limitBy, limitIn, soldOf, filledBy, filledOf, Stands, Listed}
 
 plus2 : (n : ℕ) → n + 2 ≡ suc (suc n)
 plus2 n = omega arith

@@ -1,16 +1,14 @@
 -- The tree of a node: it is its node over its operands' trees, and hangs on nothing above them. Assumes nothing.
-use mathlib.Core.Path.{_≡_, refl, sym, ap₂, _∙_}
+use mathlib.Core.Path.{_≡_, refl, ap₂, _∙_}
 use mathlib.Core.Bool.{Bool, true, false}
-use mathlib.Core.List.{List}
 use Prim.Native.Nat.{ℕ, zero, suc, _+_, _≤_, _<_}
 use native.Mathlib.Nat.{lt-of-lt-of-le, le-of-suc-le-suc, le-refl, not-suc-le-zero}
 use native.Mathlib.Omega.{arith}
 use borrow.Author.Tests.{ltb-true, lt-ltb, le-ltb}
 use lib.Dec.{ltb}
-use lib.IntN.{ℤ}
-use Rattle.model.specs.Expr.{Expr, two, one, imm16, imm32, other, size}
+use Rattle.model.specs.Expr.{Expr, two, one, imm16, imm32, other}
 use Rattle.model.specs.Image.{kindOf}
-use Rattle.model.specs.Memory.{Nodes, nodesIn, codeAt, leftAt, rightAt, valueAt, nodeOf, operand, treeTo, tree, putExpr}
+use Rattle.model.specs.Memory.{Nodes, codeAt, leftAt, rightAt, valueAt, nodeOf, operand, treeTo, tree}
 use Rattle.model.specs.declared.Op2.{Op2}
 use Rattle.model.specs.declared.Op1.{Op1}
 use Rattle.model.specs.declared.Kind.{Kind}
@@ -84,31 +82,3 @@ module _ (ns : Nodes) (b i : ℕ) (lt : i < b) (k : Kind) (found : k ≡ kindOf 
   pub below-other : k ≡ Other → treeBelow ns b i ≡ other
   unfolding nodeOf
   below-other e = below-node Other e
-
--- ---- what lies below stays
-
--- node j is the same in both
-record Same (s t : Nodes) (j : ℕ) : Type 0 where
-  pub code : codeAt s j ≡ codeAt t j
-  pub left : leftAt s j ≡ leftAt t j
-  pub right : rightAt s j ≡ rightAt t j
-  pub value : valueAt s j ≡ valueAt t j
-
-abbrev Agree : ℕ → Nodes → Nodes → Type 0
-Agree n s t = (j : ℕ) → j < n → Same s t j
-
-frame-to : (n : ℕ) (s t : Nodes) → Agree n s t → (k j : ℕ) → j < n → treeTo s k j ≡ treeTo t k j
-unfolding treeTo
-frame-to n s t f zero j h = refl
-frame-to n s t f (suc k) j h =
-    let e = f j h in
-    rw (e .code, e .left, e .right, e .value)
-    (ap₂ (λ (a b : Expr). nodeOf (kindOf (codeAt t j)) a b (valueAt t j))
-    (operand-eq j (leftAt t j) _ _ (λ lt. frame-to n s t f k (leftAt t j) (omega arith)))
-    (operand-eq j (rightAt t j) _ _ (λ lt. frame-to n s t f k (rightAt t j) (omega arith))))
-
-tree-frame : (n : ℕ) (s t : Nodes) → Agree n s t → (j : ℕ) → j < n → tree s j ≡ tree t j
-unfolding tree
-tree-frame n s t f j h = frame-to n s t f (suc j) j h
-
--- ---- how many nodes

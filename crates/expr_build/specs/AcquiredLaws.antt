@@ -1,9 +1,9 @@
 -- Laws of acquired and its negation: with a rate and without, and how many nodes they take. Assumes nothing.
-use Prim.Native.Nat.{ℕ, zero, suc, _+_, _≤_, _<_}
-use mathlib.Core.Path.{_≡_, refl, ap}
+use Prim.Native.Nat.{ℕ, zero, suc, _+_, _≤_}
+use mathlib.Core.Path.{_≡_, refl}
 use mathlib.Core.List.{List}
 use native.Mathlib.Omega.{arith}
-use lib.IntN.{ℤ, pos}
+use lib.IntN.{pos}
 use Rattle.model.specs.Expr.{Expr, two, size, negate}
 use Rattle.model.specs.declared.Op2.the-variants.{Equal, NotEqual, BitAnd, BitOr}
 use Rattle.model.specs.declared.Op1.the-variants.{Item}

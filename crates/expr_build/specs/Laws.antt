@@ -1,22 +1,18 @@
 -- How appended nodes make up appended expressions. Assumes nothing.
-use Prim.Native.Nat.{ℕ, suc, _+_, _-_, _≤_, _<_}
-use mathlib.Core.Path.{_≡_, refl, ap, sym, _∙_}
+use Prim.Native.Nat.{ℕ, _-_, _<_}
+use mathlib.Core.Path.{_≡_, refl, ap, _∙_}
 use mathlib.Core.Bool.{Bool, true, false, cond}
-use mathlib.Core.List.{List, [], _∷_, _++_}
-use lib.ListN.{length}
 use lib.IntN.{ℤ, pos, negsuc}
 use lib.Signed.{ltZ}
-use lib.Dec.{ltb}
 use borrow.Author.Tests.{ltb-true, ltb-false, lt-ltb, le-ltb}
 use native.Mathlib.Omega.{arith}
 use mir.Syntax.{w16}
 use Rattle.model.specs.Limits.{half16}
 use Rattle.model.specs.Signed.{inRange}
-use Rattle.model.specs.Image.{code2, code1}
-use Rattle.model.specs.Expr.{Expr, two, one, imm16, imm32, other, size, imm}
+use Rattle.model.specs.Image.{code2}
+use Rattle.model.specs.Expr.{Expr, two, imm16, imm32, size, imm}
 use Rattle.model.specs.declared.Op2.{Op2}
-use Rattle.model.specs.declared.Op1.{Op1}
-use Rattle.model.specs.Memory.{Nodes, Coded, Memory, pushNode, putExpr}
+use Rattle.model.specs.Memory.{Nodes, pushNode, putExpr}
 use Rattle.memory.specs.Pushed.{PushedNode, PutExpr}
 use Rattle.expr_build.specs.Put.{PutImm}
 use Rattle.memory.specs.PutNodes.{size-pos}

@@ -1,6 +1,6 @@
 -- What the function that appends a number promises. The count follows from the rest. Assumes nothing: this is a definition.
 use mathlib.Core.Path.{_≡_}
-use Prim.Native.Nat.{ℕ, _+_}
+use Prim.Native.Nat.{_+_}
 use lib.IntN.{ℤ}
 use Rattle.model.specs.Expr.{imm}
 use Rattle.model.specs.Memory.{Nodes, putExpr}

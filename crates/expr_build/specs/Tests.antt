@@ -1,6 +1,5 @@
 -- The parts of tests: an id compared, what a requirement is about, an array of codes joined, acquired. Assumes nothing: these are definitions.
-use mathlib.Core.Bool.{Bool, true, false}
-use mathlib.Core.List.{List, [], _∷_, map}
+use mathlib.Core.List.{List, map}
 use Prim.Native.Nat.{ℕ, zero, suc, _-_}
 use lib.IntN.{ℤ, pos}
 use lib.ListN.{take, drop, getD}
@@ -9,7 +8,7 @@ use Rattle.model.specs.declared.Op2.{Op2}
 use Rattle.model.specs.declared.Op1.{Op1}
 use Rattle.model.specs.declared.Op2.the-variants.{Equal, NotEqual, BitAnd, BitOr}
 use Rattle.model.specs.declared.Op1.the-variants.{Item, Time}
-use Rattle.model.specs.Requirement.{Requirement, haveItem, missingItem, haveAtc, missingAtc, haveFlag, missingFlag}
+use Rattle.model.specs.Requirement.{Requirement}
 use Rattle.model.specs.Compile.{test, joinTests}
 use Rattle.shop_codes.specs.Codes.{requirementOf}
 use Rattle.expr_build.specs.declared.Acquired.{Acquired}

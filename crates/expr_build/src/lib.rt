@@ -1,5 +1,4 @@
 // Expressions appended to the nodes of a script in lent arrays: Expr::imm, tests of requirements and their joins, acquired, and what the compiler counts with.
-ghost use mathlib.Core.Path.{_≡_};
 ghost use Prim.Native.Nat.{_+_, _≤_, _<_};
 ghost use lib.IntN.{pos};
 ghost use Rattle.model.specs.Limits.{entryLimit, half16, nodeLimit};

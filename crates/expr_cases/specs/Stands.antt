@@ -7,7 +7,7 @@ use native.Mathlib.Omega.{arith}
 use lib.Dec.{ltb, eqb}
 use lib.IntN.{ℤ, pos}
 use Rattle.model.specs.Limits.{nodeLimit}
-use Rattle.model.specs.Expr.{Expr, two, one, imm16, imm32, other, size, negate}
+use Rattle.model.specs.Expr.{Expr, two, one, imm16, imm32, other, size}
 use Rattle.model.specs.Image.{code2, code1}
 use Rattle.model.specs.Memory.{Nodes, nodesIn, pushNode, putExpr}
 use Rattle.model.specs.Parse.{isJoin}

@@ -2,10 +2,10 @@
 use mathlib.Core.Path.{_≡_, refl, ap, ap₂, sym, _∙_, subst}
 use mathlib.Core.Bool.{Bool, true, false, cond}
 use mathlib.Core.List.{List}
-use Prim.Native.Nat.{ℕ, suc, _+_, _-_, _*_, _≤_, _<_}
+use Prim.Native.Nat.{ℕ, _+_, _-_, _*_, _≤_, _<_}
 use native.Mathlib.Omega.{arith}
 use lib.IntN.{ℤ, pos}
-use lib.ListN.{getD, set, length, length-set}
+use lib.ListN.{getD, set, length-set}
 use lib.Seq.{set-set, set-comm, getD-set-other}
 use Rattle.model.specs.Limits.{nodeLimit}
 use Rattle.model.specs.Expr.{Expr, two, one, imm16, imm32, other, size, negate}
@@ -14,13 +14,13 @@ use Rattle.model.specs.declared.Op1.{Op1}
 use Rattle.model.specs.declared.Op1.the-variants.{Not}
 use Rattle.model.specs.Image.{kindOf, codeOf, code2, code1}
 use Rattle.model.specs.Parse.{isJoin}
-use Rattle.model.specs.Memory.{Nodes, nodesIn, codeAt, pushNode, putExpr}
+use Rattle.model.specs.Memory.{Nodes, nodesIn, pushNode, putExpr}
 use Rattle.model.specs.Laws.ImageExpr.{kind-code}
 use Rattle.model.specs.declared.Kind.{Kind}
 use Rattle.model.specs.declared.Kind.the-variants.{Two, One, Imm16, Imm32, Other}
 use Rattle.memory.specs.Pushed.{PushedNode, PutExpr}
 use Rattle.memory.specs.Sound.{LongNodes}
-use Rattle.memory.specs.PutNodes.{PutTree, push-grown, push-holds, put-tree, size-pos, count-put}
+use Rattle.memory.specs.PutNodes.{push-grown, push-holds, put-tree, size-pos, count-put}
 use Rattle.expr_negate.specs.Turns.{flip, flipCode, isSum, operatorOf, rootKind, Flips, compared, joined, Turns, flips, gains, negate-compared, negate-joined, negate-gains, flips-root, gains-root, flips-size, turns-size, flip-code, compare-code, join-code, join-no-sum}
 
 -- the nodes of e from node c on, with the operators of its negation

@@ -1,12 +1,11 @@
 -- Counts: what is put after a script counts as many nodes, commands and blocks as it holds. Assumes nothing.
 use mathlib.Core.Path.{_≡_, refl}
 use mathlib.Core.List.{List, [], _∷_}
-use Prim.Native.Nat.{_+_, _<_}
+use Prim.Native.Nat.{_+_}
 use native.Mathlib.Omega.{arith}
 use lib.ListN.{length}
-use Rattle.model.specs.Expr.{Expr, two, one, imm16, imm32, other, size}
 use Rattle.model.specs.Script.{Command, return, goto, setVariable, setOther, ifElse, endIf, otherCommand, commandNodes, commandsNodes, Block, placeholder, code, dataBlock, blockNodes, blockCommands, sumOf}
-use Rattle.model.specs.Memory.{Nodes, putExpr, Coded, putCommand, putCommands, Memory, putBlock, putBlocks}
+use Rattle.model.specs.Memory.{putExpr, Coded, putCommand, putCommands, Memory, putBlock, putBlocks}
 use Rattle.memory.specs.PutNodes.{count-put}
 
 pub nodes-command : (s : Coded) (c : Command) → putCommand s c .nodes .count ≡ s .nodes .count + commandNodes c

@@ -1,5 +1,4 @@
 -- What reading an image promises: the script record that it leaves, or its refusal and nothing in the arrays (01, Image and printer and Refusals). Assumes nothing: these are definitions.
-use mathlib.Core.Path.{_≡_}
 use mathlib.Core.List.{List}
 use Prim.Native.Nat.{ℕ, _*_}
 use lib.IntN.{ℤ, pos}

@@ -1,20 +1,20 @@
 -- Laws of wrapping, at any width. Assumes nothing.
 use mathlib.Core.Path.{_≡_, sym, ap, _∙_, subst}
 use mathlib.Core.Bool.{true, false}
-use Prim.Native.Nat.{ℕ, suc, _+_, _-_, _%_, _^_, _≤_, _<_}
+use Prim.Native.Nat.{ℕ, suc, _+_, _-_, _^_, _≤_, _<_}
 use native.Mathlib.Nat.{mod-eq-of-lt}
 use native.Mathlib.Omega.{arith}
-use lib.Dec.{T, leb}
+use lib.Dec.{T}
 use lib.IntN.{ℤ, pos, negsuc, _+ℤ_, _-ℤ_}
 use lib.Pow.{pow-pos}
 use lib.Signed.{mag, ltZ}
 use mir.Syntax.{Width}
-use mir.Val.{SFits, toZ, ofZ, bits, hbits}
-use mir.ValLaws.{pow-bits, toZ-ofZ, ofZ-toZ, toZ-fits, toZ-pos}
+use mir.Val.{SFits, toZ, bits, hbits}
+use mir.ValLaws.{pow-bits, toZ-fits, toZ-pos}
 use borrow.Author.Tests.{ltb-true, ltb-false}
 use Rattle.model.specs.Laws.Signed as Laws
 use Rattle.model.specs.Signed.{lowBits, wrap}
-use Rattle.ints.specs.Bits.{lowBits-own, lowBits-fit, lowBits-of, lowBits-lower, upper-less, add-more}
+use Rattle.ints.specs.Bits.{lowBits-fit, upper-less, add-more}
 
 -- a number of that width stays
 pub wrap-id : (w : Width) (z : ℤ) → SFits w z → wrap w z ≡ z

@@ -1,10 +1,9 @@
 -- A list that is read piece by piece: what was seen, and what is left. Assumes nothing.
-use mathlib.Core.Path.{_≡_, refl, ap, sym, _∙_}
+use mathlib.Core.Path.{_≡_, ap, _∙_}
 use mathlib.Core.List.{List, [], _∷_, _++_, append-nil}
 use Prim.Native.Nat.{ℕ, suc, _+_, _-_, _≤_, _<_}
 use native.Mathlib.Omega.{arith}
 use lib.ListN.{length}
-use lib.Seq.{append-snoc}
 use Rattle.model.specs.Reading.{Answer, got, refused, onward}
 use Rattle.image_numbers.specs.Answers.{seen-more, seen-none}
 

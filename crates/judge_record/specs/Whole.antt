@@ -161,14 +161,3 @@ module _ (me : Memory) where
   pub held-past : {b : Bool} → b ≡ heldKept me → b ≡ false → JudgedAs me (No 3)
   unfolding JudgedAs
   held-past p q = past-judged me (sym p ∙ q)
-
--- ---- the statement determines the answer
-
-abbrev pub judgement : Answer (List Block) → Judged
-judgement (got bs r) = Fine (length (image bs))
-judgement (refused k) = No k
-
-pub judged-is : (me : Memory) (r : Judged) → JudgedAs me r → r ≡ judgement (judgedRecord me)
-unfolding JudgedAs
-judged-is me (Fine len) a = rw (a .judged) (ap Fine (a .bytes))
-judged-is me (No k) e = rw e

@@ -1,5 +1,5 @@
 -- A node is judged as its image would be read. Assumes nothing.
-use mathlib.Core.Path.{_≡_, refl, ap, ap₂, sym}
+use mathlib.Core.Path.{_≡_, refl}
 use mathlib.Core.Bool.{Bool, true, false, cond}
 use mathlib.Core.List.{List, _++_, append-assoc}
 use Prim.Native.Nat.{ℕ, zero, suc, _+_, _-_, _≤_, _<_}
@@ -13,7 +13,7 @@ use Rattle.model.specs.Reading.{got, refused, onward, number, word, zig, zag}
 use Rattle.model.specs.Expr.{Expr, two, one, imm16, imm32, other, size}
 use Rattle.model.specs.Image.{Limits, kindOf, readKind, readOperands, readExpr, readTerm}
 use Rattle.model.specs.Memory.{Nodes, codeAt, leftAt, rightAt, valueAt}
-use Rattle.model.specs.Record.{followImage, nodeImageTo, nodeImage, rootImage}
+use Rattle.model.specs.Record.{followImage, nodeImage, rootImage}
 use Rattle.model.specs.Laws.Reading.{read-word}
 use Rattle.model.specs.declared.Op2.{Op2}
 use Rattle.model.specs.declared.Op1.{Op1}

@@ -4,13 +4,11 @@ use mathlib.Core.Bool.{cond}
 use mathlib.Core.List.{List, _++_}
 use Prim.Native.Nat.{ℕ, _+_, _*_, _≤_}
 use lib.Dec.{ltb}
-use lib.IntN.{ℤ}
 use lib.ListN.{length}
 use Rattle.memory.specs.declared.Counts.{Counts}
 use Rattle.model.specs.Limits.{nodeLimit, commandLimit, blockLimit, depthLimit}
 use Rattle.model.specs.Reading.{Answer, got, refused, word}
 use Rattle.model.specs.Image.{Limits, limits}
-use Rattle.model.specs.Memory.{Nodes, nodesIn}
 use Rattle.judge_terms.specs.declared.Step.{Step}
 use Rattle.judge_terms.specs.declared.Step.the-variants.{Fine, No}
 

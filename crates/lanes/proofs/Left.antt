@@ -3,24 +3,23 @@ use mathlib.Core.Path.{_≡_, refl, sym, ap, _∙_}
 use mathlib.Core.Logic.{_⊎_, inl, inr, ⊎-elim}
 use mathlib.Core.List.{List, [], _∷_, _++_, map, append-nil}
 use Prim.Native.Nat.{ℕ, zero, suc, _+_, _*_, _≤_, _<_}
-use native.Mathlib.Nat.{add-zero, suc-mul, zero-add}
 use native.Mathlib.Decide.{decLe}
 use native.Mathlib.Omega.{arith}
-use lib.ListN.{getD, set, length, take, drop, length-set, length-map, take-append-drop, drop-of-length-le}
+use lib.ListN.{getD, set, length, drop, length-set, length-map, take-append-drop, drop-of-length-le}
 use lib.Seq.{sets, sets-eq, length-sets, getD-set-same, getD-set-other, ext-getD, drop-drop}
 use lib.IntN.{ℤ}
-use Rattle.model.specs.Limits.{variableCount, mostSaves, laneBudget}
+use Rattle.model.specs.Limits.{variableCount, laneBudget}
 use Rattle.model.specs.Save.{Save}
-use Rattle.model.specs.Sheet.{Sheet, itemCount}
+use Rattle.model.specs.Sheet.{Sheet}
 use Rattle.model.specs.Run.{Ran, run}
 use Rattle.model.specs.Memory.{Memory, scriptOf}
-use Rattle.model.specs.RecordCalls.{callIn, runIn}
+use Rattle.model.specs.RecordCalls.{runIn}
 use Rattle.expr.specs.Value.{reads}
 use Rattle.runner.proofs.Rest.{run-rest}
 use Rattle.shop.specs.Shapes.{sheetOf}
 use Rattle.shop.specs.declared.Sheet as code
 use Rattle.lanes_model.specs.Walk.{Walked, unlessRefused, blocksEntered}
-use Rattle.lanes_model.specs.Flat.{part, savesFrom, savesIn, Left, joined, leftBy, walkIn, walkRefusalIn}
+use Rattle.lanes_model.specs.Flat.{part, savesFrom, savesIn, joined, leftBy, walkIn, walkRefusalIn}
 use Rattle.lanes_model.specs.Laws.Walks.{byLanes, PassedIn, walk-passed-in, walk-in}
 use Rattle.lanes.specs.Alone.{Alone, one-walked}
 use Rattle.lanes.specs.Calls.{leftOf}

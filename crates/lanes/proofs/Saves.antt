@@ -5,7 +5,7 @@ use mathlib.Core.List.{List, [], _∷_, _++_}
 use Prim.Native.Nat.{ℕ, zero, suc, _+_, _-_, _*_, _≤_, _<_}
 use native.Mathlib.Nat.{add-zero, zero-mul, suc-mul, add-mul, mul-le-mul-right}
 use native.Mathlib.Omega.{arith}
-use lib.Dec.{eqb, leb}
+use lib.Dec.{eqb}
 use lib.ListN.{length, take, drop, length-drop, length-map, take-append-drop, drop-of-length-le}
 use lib.Seq.{drop-drop, length-take-le, take-all}
 use lib.IntN.{ℤ}
@@ -15,7 +15,7 @@ use Rattle.model.specs.Limits.{flagCount, timeCount, variableCount, mostSaves, 
 use Rattle.model.specs.Refusal.{firstOf, check}
 use Rattle.model.specs.Signed.{inRange}
 use Rattle.model.specs.Save.{Save}
-use Rattle.model.specs.Sheet.{Sheet, all, isCount, isBit, itemCount, saveOk, sheetOk}
+use Rattle.model.specs.Sheet.{Sheet, all, isCount, isBit, saveOk}
 use Rattle.model.specs.Script.{Block}
 use Rattle.model.specs.Memory.{Memory, scriptOf}
 use Rattle.model.specs.RecordCalls.{callIn}
@@ -31,7 +31,7 @@ use Rattle.reclaim_reach.specs.Words.{Safe}
 use Rattle.reclaim_reach.specs.Judged.{safe}
 use Rattle.lanes_model.specs.Falls.{falls}
 use Rattle.lanes_model.specs.Walk.{walkOk, walkChecks}
-use Rattle.lanes_model.specs.Flat.{part, saveIn, savesFrom, savesIn, lengthsOk, savesOk, walkRefusalIn}
+use Rattle.lanes_model.specs.Flat.{part, saveIn, savesFrom, lengthsOk, savesOk, walkRefusalIn}
 use Rattle.lanes.specs.Calls.{lengthsAre, valuesOk}
 use Rattle.lanes.specs.Walks.{Lying}
 

@@ -2,20 +2,18 @@
 use mathlib.Core.Path.{_≡_, refl, sym, ap, _∙_}
 use mathlib.Core.Bool.{Bool, true, false}
 use mathlib.Core.List.{List, [], _∷_, map}
-use Prim.Native.Nat.{ℕ, zero, suc, _+_, _≤_, _<_}
+use Prim.Native.Nat.{ℕ, zero, suc, _+_, _<_}
 use native.Mathlib.Omega.{arith}
 use lib.Dec.{eqb}
 use lib.ListN.{set, length}
 use lib.IntN.{ℤ}
-use borrow.Author.Tests.{eqb-true, eq-eqb}
 use Rattle.model.specs.Limits.{laneBudget}
 use Rattle.model.specs.Save.{Save}
 use Rattle.model.specs.Script.{Block, Script}
 use Rattle.model.specs.Judge.{scriptRefusal}
 use Rattle.model.specs.Run.{Outcome, next, done, halt, step, Ran, run}
 use Rattle.lanes_model.specs.Falls.{Falls}
-use Rattle.lanes_model.specs.Walk.{Walked}
-use Rattle.lanes_model.specs.Lanes.{State, at, ended, Lane, moved, isAt, stepState, stepLane, anyAt, Walk, oneRead, walk, startLane, walkAll, ranOf}
+use Rattle.lanes_model.specs.Lanes.{State, at, ended, moved, Walk, walk, walkAll, ranOf}
 use Rattle.lanes_model.specs.Laws.Walks.{byLanes, lanes-run}
 
 -- what the walk of one save with those variables, whose run is x, leaves

@@ -1,14 +1,13 @@
 -- The loop over the blocks where lanes stand is the walk of the definition. Assumes nothing.
 use mathlib.Core.Path.{_≡_, refl, sym, ap, _∙_}
-use mathlib.Core.Logic.{_⊎_, inl, inr, ⊎-elim}
+use mathlib.Core.Logic.{_⊎_, ⊎-elim}
 use mathlib.Core.Bool.{Bool, true, false, cond, _||_}
 use mathlib.Core.List.{List, [], _∷_, map}
-use Prim.Native.Nat.{ℕ, zero, suc, _+_, _-_, _*_, _≤_, _<_}
+use Prim.Native.Nat.{ℕ, zero, suc, _+_, _-_, _≤_, _<_}
 use native.Mathlib.Omega.{arith}
 use native.Mathlib.Numerals.{add-one}
 use native.Mathlib.Nat.{add-zero, zero-add}
 use native.Mathlib.Decide.{decLe, ℕ-discrete}
-use lib.Dec.{eqb}
 use lib.ListN.{getD, length}
 use lib.IntN.{ℤ}
 use borrow.Author.Tests.{eq-eqb, ne-eqb}
@@ -20,12 +19,10 @@ use Rattle.model.specs.Run.{Ran, step}
 use Rattle.model.specs.Memory.{Memory, scriptOf}
 use Rattle.memory.specs.RecordLaws.{length-blocksIn}
 use Rattle.lanes_model.specs.Flat.{part, saveIn, savesFrom}
-use Rattle.lanes_model.specs.Walk.{any}
-use Rattle.lanes_model.specs.Lanes.{State, at, ended, Lane, moved, isAt, stepState, stepLane, anyAt, Walk, oneRead, walk, startLane, walkAll, ranOf}
-use Rattle.lanes_model.specs.Laws.Runs.{visit-is}
+use Rattle.lanes_model.specs.Lanes.{State, at, Lane, moved, isAt, stepState, stepLane, anyAt, Walk, oneRead, walk, startLane, walkAll, ranOf}
 use Rattle.lanes_expr.specs.Lanes.{Lies, Stand}
 use Rattle.lanes_expr.specs.Each.{Each}
-use Rattle.lanes_block.specs.Ways.{Rising, Absent, Countable, Visited, stateOf, stateIn}
+use Rattle.lanes_block.specs.Ways.{Absent, Countable, Visited, stateOf, stateIn}
 use Rattle.lanes.specs.Standing.{Gathered, Highest}
 
 pub script-length : (m : Memory) → m .count ≡ length (scriptOf m .blocks)

@@ -3,7 +3,7 @@ use mathlib.Core.Path.{_≡_, refl, sym, ap, _∙_, subst}
 use mathlib.Core.Bool.{Bool, true, false, cond}
 use mathlib.Core.Option.{Option}
 use mathlib.Core.List.{List, _∷_}
-use Prim.Native.Nat.{ℕ, zero, suc, _+_, _-_, _*_, _≤_, _<_}
+use Prim.Native.Nat.{ℕ, zero, suc, _+_, _-_, _≤_, _<_}
 use native.Mathlib.Omega.{arith}
 use native.Mathlib.Numerals.{add-one}
 use lib.ListN.{getD, replicate}
@@ -11,19 +11,18 @@ use lib.IntN.{ℤ, pos}
 use Rattle.model.specs.Limits.{variableCount}
 use Rattle.model.specs.Signed.{isZero}
 use Rattle.model.specs.Save.{Save}
-use Rattle.model.specs.Expr.{Expr, Value, ok, stop, eval}
+use Rattle.model.specs.Expr.{Expr, stop, eval}
 use Rattle.model.specs.Script.{Command, setVariable, ifElse, Block}
-use Rattle.model.specs.Run.{Outcome, next, done, halt, follow, store, orHalt, execute, step}
+use Rattle.model.specs.Run.{Outcome, next, halt, follow, store, orHalt, execute, step}
 use Rattle.model.specs.Memory.{Coded, codedIn, commandIn, commandsIn, linkIn}
-use Rattle.expr.specs.Tree.{treeBelow}
 use Rattle.lanes_model.specs.Flat.{part}
-use Rattle.lanes_model.specs.Lanes.{State, moved}
+use Rattle.lanes_model.specs.Lanes.{moved}
 use Rattle.lanes_expr.specs.Lanes.{laneValue, firstStop, Valued, Stand}
 use Rattle.lanes_block.specs.declared.Way.{Way}
 use Rattle.lanes_block.specs.declared.Exit.{Exit}
 use Rattle.lanes_block.specs.declared.Flow.{Flow}
 use Rattle.lanes_block.specs.declared.Flow.the-variants.{On, Out}
-use Rattle.lanes_block.specs.Ways.{Absent, Kept, KeptParts, carry, goes, wayOf, leave, followed, chosen, sameWay, storedPart, Worth, StoredAll, onward, Flows, Does, Leaves, stateOf, stateIn, Written, Settled, Visited}
+use Rattle.lanes_block.specs.Ways.{KeptParts, carry, goes, wayOf, leave, followed, chosen, sameWay, storedPart, Worth, StoredAll, onward, Flows, Does, Leaves, stateOf, Settled, Visited}
 use Rattle.lanes_block.specs.Laws.{parts-same, parts-on}
 
 -- ---- one lane

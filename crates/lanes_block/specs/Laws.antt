@@ -17,7 +17,7 @@ use Rattle.lanes_model.specs.Flat.{part}
 use Rattle.model.specs.Signed.{isZero}
 use Rattle.lanes_block.specs.declared.Way.{Way}
 use Rattle.lanes_block.specs.declared.Exit.{Exit}
-use Rattle.lanes_block.specs.Ways.{Rising, Absent, Kept, KeptParts, storedPart, storedIn, StoredAll, followed, chosen, Countable, Written, Settled}
+use Rattle.lanes_block.specs.Ways.{Rising, Absent, KeptParts, storedPart, storedIn, StoredAll, followed, chosen, Countable, Written, Settled}
 
 -- ---- the variables of one lane
 

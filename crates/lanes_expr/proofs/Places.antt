@@ -6,7 +6,7 @@ use Prim.Native.Nat.{ℕ, _+_, _*_, _≤_, _<_}
 use native.Mathlib.Nat.{not-suc-le-zero}
 use native.Mathlib.Omega.{arith}
 use lib.Dec.{T, ltb}
-use lib.ListN.{getD, length, drop, length-take, List·getD-eq-default}
+use lib.ListN.{getD, drop, length-take, List·getD-eq-default}
 use lib.Seq.{getD-take, getD-drop}
 use lib.IntN.{ℤ, pos, negsuc, natAbs}
 use lib.Signed.{ltZ}
@@ -14,7 +14,6 @@ use borrow.Author.Tests.{ltb-true, ltb-false, lt-ltb, le-ltb}
 use Rattle.model.specs.Save.{natAt, intAt}
 use Rattle.lanes_model.specs.Flat.{part}
 use Rattle.lanes_expr.specs.Lanes.{placeIn}
-use Rattle.lanes_expr.specs.declared.MaybePlace.{MaybePlace}
 use Rattle.lanes_expr.specs.declared.MaybePlace.the-variants.{At, Nothing}
 
 -- ---- where element x of part l stands

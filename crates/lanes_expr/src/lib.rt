@@ -5,7 +5,7 @@ ghost use lib.ListN.{getD, length, replicate};
 ghost use lib.IntN.{pos};
 ghost use Rattle.model.specs.Limits.{nodeLimit, mostSaves};
 ghost use Rattle.model.specs.Save.{natAt, intAt};
-ghost use Rattle.model.specs.Expr.{apply2, apply1};
+ghost use Rattle.model.specs.Expr.{apply2};
 ghost use Rattle.model.specs.Memory.{nodesIn};
 ghost use Rattle.expr.specs.Tree.{treeBelow};
 ghost use Rattle.expr.specs.Value.{reads};

@@ -1,5 +1,5 @@
 -- Both round trips over lk_read and lk_write, each call by its own promise: an accepted image read and written again, a script written and read again. Assumes nothing.
-use mathlib.Core.Path.{_≡_, refl, sym, ap, _∙_, subst}
+use mathlib.Core.Path.{_≡_, refl, sym, ap, _∙_}
 use mathlib.Core.List.{List, [], _∷_, _++_}
 use Prim.Native.Nat.{ℕ, zero, suc, _≤_, _<_}
 use native.Mathlib.Omega.{arith}
@@ -18,12 +18,12 @@ use Rattle.model.specs.Files.{Wrote, wroteOf, over, writeChecked}
 use Rattle.model.specs.RecordCalls.{writeIn}
 use Rattle.model.specs.Laws.Checks.{first-passed}
 use Rattle.model.specs.Laws.Image.{same-bytes}
-use Rattle.model.specs.Laws.Refused.{Accepts, accepts}
+use Rattle.model.specs.Laws.Refused.{accepts}
 use Rattle.memory.specs.View.{memoryOf}
 use Rattle.memory.specs.Sound.{Long}
 use Rattle.memory.specs.RecordLaws.{proper-record}
 use Rattle.memory.specs.ReadRecord.{Empty, read-blocks}
-use Rattle.image_read.specs.Outcome.{Outcome, held, nothing, readInto}
+use Rattle.image_read.specs.Outcome.{held, readInto}
 use Rattle.image_write.specs.Call.{wrote, lengthOf, lengthIn}
 use Rattle.capi.specs.declared.Kept.{Kept}
 use Rattle.capi.specs.declared.Written.{Written}

@@ -1,11 +1,7 @@
 -- Nodes that were appended: those below stay as they were, and the last is the root of the expression. Assumes nothing.
 use mathlib.Core.Path.{_≡_, refl, ap, ap₂, sym, _∙_, subst}
-use mathlib.Core.Bool.{Bool, true, false, cond}
-use mathlib.Core.List.{List, _++_}
 use Prim.Native.Nat.{ℕ, zero, suc, _+_, _-_, _*_, _≤_, _<_}
 use native.Mathlib.Omega.{arith}
-use lib.Dec.{ltb}
-use borrow.Author.Tests.{ltb-true}
 use lib.ListN.{getD, set, length-set}
 use lib.Seq.{getD-set-same, getD-set-other}
 use lib.IntN.{ℤ, pos}
@@ -13,12 +9,8 @@ use Rattle.model.specs.Limits.{nodeLimit}
 use Rattle.model.specs.Expr.{Expr, two, one, imm16, imm32, other, size}
 use Rattle.model.specs.declared.Op2.{Op2}
 use Rattle.model.specs.declared.Op1.{Op1}
-use Rattle.model.specs.declared.Kind.{Kind}
-use Rattle.model.specs.declared.Kind.the-variants.{Two, One, Imm16, Imm32, Other}
-use Rattle.model.specs.Reading.{word}
 use Rattle.model.specs.Image.{kindOf, code2, code1}
 use Rattle.model.specs.Memory.{Nodes, codeAt, leftAt, rightAt, valueAt, nodeOf, treeTo, tree, pushNode, putExpr}
-use Rattle.model.specs.Record.{followImage, nodeImageTo, nodeImage}
 use Rattle.memory.specs.Sound.{Well, well-two, well-one, well-imm16, well-imm32, well-other, Root, LongNodes}
 use Rattle.memory.specs.NodeLaws.{operand-same, tree-two, tree-one, tree-imm16, tree-imm32, tree-other}
 
@@ -71,28 +63,6 @@ module _ (s t : Nodes) (g : Grown s t) where
 
   pub root-frame : (i : ℕ) → Root s i → Root t i
   root-frame i r = let h = r .low in let gc = g .count in record { low = omega arith; well = well-frame h (r .well) }
-
-  follow-frame : (f f′ : ℕ → ℕ → List ℕ) (i : ℕ) → i < s .count → ((j : ℕ) → f i j ≡ f′ i j) → (k : Kind) → followImage f t i k ≡ followImage f′ s i k
-  unfolding followImage
-  follow-frame f f′ i h e (Two o) = rw (g .words (3 * i + 1) (omega arith), g .words (3 * i + 2) (omega arith)) (ap₂ (λ (x y : List ℕ). x ++ y) (e (leftAt s i)) (e (rightAt s i)))
-  follow-frame f f′ i h e (One o) = rw (g .words (3 * i + 1) (omega arith)) (e (leftAt s i))
-  follow-frame f f′ i h e Imm16 = rw (g .values i h)
-  follow-frame f f′ i h e Imm32 = rw (g .values i h)
-  follow-frame f f′ i h e Other = refl
-
-  image-frame-to : (d b i : ℕ) → b ≤ s .count → nodeImageTo t d b i ≡ nodeImageTo s d b i
-  unfolding nodeImageTo
-  image-frame-to zero b i h = refl
-  image-frame-to (suc d) b i h = go (ltb i b) refl (λ j l. image-frame-to d i j (omega arith))
-    where
-      go : (x : Bool) → ltb i b ≡ x → ((j : ℕ) → i < b → nodeImageTo t d i j ≡ nodeImageTo s d i j)
-          → cond x (word (codeAt t i) ++ followImage (nodeImageTo t d) t i (kindOf (codeAt t i))) (word 19)
-          ≡ cond x (word (codeAt s i) ++ followImage (nodeImageTo s d) s i (kindOf (codeAt s i))) (word 19)
-      go false e ih = refl
-      go true e ih =
-          let l = ltb-true i b e in
-          rw (g .words (3 * i) (omega arith))
-          (ap (λ (x : List ℕ). word (codeAt s i) ++ x) (follow-frame (nodeImageTo t d) (nodeImageTo s d) i (omega arith) (λ j. ih j l) (kindOf (codeAt s i))))
 
 -- ---- one node more
 

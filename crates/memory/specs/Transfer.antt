@@ -1,5 +1,5 @@
 -- The judgement of a sound record is its script's, and so a compile that is accepted on trees leaves an accepted record. Assumes nothing.
-use mathlib.Core.Path.{_≡_, refl, ap, sym, _∙_, subst}
+use mathlib.Core.Path.{_≡_, ap, sym, _∙_, subst}
 use mathlib.Core.Bool.{and-true}
 use mathlib.Core.List.{List, [], _++_}
 use Prim.Native.Nat.{ℕ, _+_, _≤_, _<_}
@@ -48,9 +48,6 @@ judged-script m bs r p =
 
 pub accepted-script : (m : Memory) (bs : List Block) (r : List ℕ) → judgedRecord m ≡ got bs r → scriptRefusal (scriptOf m) ≡ 0
 accepted-script m bs r p = ap refusalOf (judged-script m bs r p)
-
-pub judged-is : (m : Memory) (bs : List Block) (r : List ℕ) → judgedRecord m ≡ got bs r → scriptOf m ≡ record { blocks = bs; commands = m .coded .count; nodes = m .coded .nodes .count }
-judged-is m bs r p = script-from m bs (m .coded .count) (m .coded .nodes .count) (judged-sound m bs r p .blocks-are) refl refl
 
 -- its kept counts are within their limits
 pub judged-kept : (m : Memory) (bs : List Block) (r : List ℕ) → judgedRecord m ≡ got bs r → (m .count ≤ blockLimit) × (m .coded .count ≤ commandLimit) × (m .coded .nodes .count ≤ nodeLimit)

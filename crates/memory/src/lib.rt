@@ -3,7 +3,7 @@ ghost use mathlib.Core.Path.{_≡_};
 ghost use Prim.Native.Nat.{_+_, _<_};
 ghost use Rattle.model.specs.Limits.{blockLimit, commandLimit, nodeLimit};
 ghost use Rattle.model.specs.Image.{kindOf, code2, code1};
-ghost use Rattle.model.specs.Memory.{nodesIn, commandWords, blockWords};
+ghost use Rattle.model.specs.Memory.{nodesIn, blockWords};
 ghost use Rattle.memory.specs.Pushed.{PushedNode, PushedCommand, PushedBlock};
 use model::Kind;
 use model::Op1;

@@ -1,17 +1,17 @@
 -- The blocks of each shape of slot, written out as document 01 lists them and compared with what the definitions give. Assumes nothing.
 use mathlib.Core.Path.{_≡_, refl}
-use mathlib.Core.Option.{Option, none, some}
+use mathlib.Core.Option.{none, some}
 use mathlib.Core.List.{List, [], _∷_}
 use Prim.Native.Nat.{ℕ}
-use lib.IntN.{ℤ, pos, negsuc}
+use lib.IntN.{pos, negsuc}
 use Rattle.model.specs.Limits.{itemFirst, countFirst}
-use Rattle.model.specs.Expr.{Expr, two, one, imm16, imm32, imm}
+use Rattle.model.specs.Expr.{Expr, two, one, imm16, imm32}
 use Rattle.model.specs.declared.Op2.the-variants.{Equal, NotEqual, Less, Subtract, BitAnd, BitOr}
 use Rattle.model.specs.declared.Op1.the-variants.{Not, Flag, Variable, Item, Atc, Time}
-use Rattle.model.specs.Requirement.{Requirement, haveItem, missingAtc, haveFlag, missingFlag, insert, sorted}
-use Rattle.model.specs.Shop.{Slot, limitOf}
+use Rattle.model.specs.Requirement.{haveItem, missingAtc, haveFlag, missingFlag}
+use Rattle.model.specs.Shop.{Slot}
 use Rattle.model.specs.Script.{Command, setVariable, ifElse, endIf, Block, code}
-use Rattle.model.specs.Compile.{slotBlocks, uniqueBlocks, limitBlocks, acquiredExpr, itemTest, atcTest, flagTest, test, joinTests}
+use Rattle.model.specs.Compile.{slotBlocks, acquiredExpr}
 use Rattle.model.specs.Cases.{sheet, slotOf, opened}
 
 -- slot 0 after block 4, which is End

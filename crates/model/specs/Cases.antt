@@ -1,12 +1,10 @@
 -- Document 01's proved cases P1 to P10 as one table, its worked input of slots, and the blocks of each slot shape, all computed from the definitions. Assumes nothing.
 use mathlib.Core.Path.{_≡_, refl}
-use mathlib.Core.Bool.{Bool, true, false}
 use mathlib.Core.Option.{Option, none, some}
 use mathlib.Core.List.{List, [], _∷_, _++_}
 use Prim.Native.Nat.{ℕ, zero, suc, _+_}
 use lib.ListN.{getD, set, length, replicate}
 use lib.IntN.{ℤ, pos, negsuc}
-use lib.Dec.{ltb, leb, eqb}
 use Rattle.model.specs.Limits.{itemFirst, countFirst}
 use Rattle.model.specs.Signed.{wrap, bitsOf}
 use Rattle.model.specs.Save.{Save}
@@ -17,14 +15,14 @@ use Rattle.model.specs.Sheet.{Sheet, sheetOk, saveOk}
 use Rattle.model.specs.Requirement.{Requirement, haveItem, missingFlag, haveFlag, insert, sorted, member, settled}
 use Rattle.model.specs.Requirement as Req
 use Rattle.model.specs.Shop.{Slot, emptySlot, padded, limitOf}
-use Rattle.model.specs.Script.{Command, Block, placeholder, code, dataBlock, Script, blockAt, return, ifElse, commandNodes, commandsNodes, blockNodes, blockCommands}
-use Rattle.model.specs.Reading.{Answer, got, refused, refusalOf, number, more, groups, under, word, wordTo, zig, zag}
-use Rattle.model.specs.Image.{image, blocksImage, blockImage, commandsImage, commandImage, exprImage, linkImage, code2, code1, kinds, kindOf, readKind, readOperands, readExpr, readTerm, setOf, commandOf, readCommand, readCommands, readCode, blockOf, readBlock, readBlocks, readBlockNo, linkOf, readLink, ended, readWithin, readImage}
+use Rattle.model.specs.Script.{Command, Block, placeholder, code, dataBlock, Script, blockAt, ifElse, commandNodes, commandsNodes, blockNodes, blockCommands}
+use Rattle.model.specs.Reading.{refusalOf, number, more, groups, under, word, wordTo, zig, zag}
+use Rattle.model.specs.Image.{image, blocksImage, blockImage, commandsImage, commandImage, exprImage, linkImage, kinds, kindOf, readKind, readOperands, readExpr, readTerm, setOf, commandOf, readCommand, readCommands, readCode, blockOf, readBlock, readBlocks, readBlockNo, linkOf, readLink, ended, readWithin, readImage}
 use Rattle.model.specs.Judge.{counted, countsOk, judged, sharedRefusal}
-use Rattle.model.specs.Compile.{Call, compiled, compileChecks, compileRefusal, appended, redirect, roomRefusal, hasRoom, shopBlocks, slotsBlocks, slotBlocks, limitBlocks, uniqueBlocks, returnBlock, acquiredExpr, itemTest, atcTest, flagTest, test, joinTests, emitSet}
+use Rattle.model.specs.Compile.{compiled, compileChecks, compileRefusal, appended, redirect, roomRefusal, hasRoom, shopBlocks, slotsBlocks, slotBlocks, limitBlocks, uniqueBlocks, returnBlock, acquiredExpr, itemTest, atcTest, flagTest, test, joinTests, emitSet}
 use Rattle.model.specs.Run.{Ran, runBy, stepBy, runCall, runCheckedBy}
-use Rattle.model.specs.Parse.{Parsed, parseCall, parseChecked, parse, parseBlock, visited, parseRequirements, gather, placeOf}
-use Rattle.model.specs.Printer.{slots, readSheet, readAtcs, readTimers, digitsTo, decimal, signedDecimal, letter, requirementsText, itemText, slotLine, slotLines, refusedText, Input, readInput, parsedText, inputText}
+use Rattle.model.specs.Parse.{parseCall, parseChecked, parse, parseBlock, visited, parseRequirements, gather, placeOf}
+use Rattle.model.specs.Printer.{slots, readSheet, readAtcs, readTimers, digitsTo, decimal, signedDecimal, letter, requirementsText, itemText, slotLine, slotLines, refusedText, readInput, parsedText, inputText}
 
 -- sixteen items: 0, 1 and 2 the timers, 3 with atc 0, item 7 plain
 unfoldable pub sheet : Sheet

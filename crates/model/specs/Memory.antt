@@ -1,5 +1,5 @@
 -- The script record in memory: its arrays and kept counts, the trees that they stand for, what appending leaves (01, Boxes, sets and the borrowed script). Assumes nothing: these are definitions.
-use mathlib.Core.Bool.{Bool, true, false, cond}
+use mathlib.Core.Bool.{Bool, true, false}
 use mathlib.Core.Option.{Option, none, some}
 use mathlib.Core.List.{List, [], _∷_}
 use Prim.Native.Nat.{ℕ, zero, suc, _+_, _-_, _*_}

@@ -1,7 +1,7 @@
 -- The image of a script record, whatever its arrays hold, and its judgement in the place of 2 to 5 (01, Script). Assumes nothing: these are definitions.
 -- What is not there is written as a code that no image may have: 19 for a node, 6 for a command, 3 for a block.
-use mathlib.Core.Bool.{Bool, true, false, cond, _&&_}
-use mathlib.Core.List.{List, [], _∷_, _++_}
+use mathlib.Core.Bool.{Bool, true, cond, _&&_}
+use mathlib.Core.List.{List, [], _++_}
 use Prim.Native.Nat.{ℕ, zero, suc, _+_}
 use lib.Dec.{ltb, leb}
 use Rattle.model.specs.Limits.{blockLimit, commandLimit, nodeLimit}
@@ -9,7 +9,7 @@ use Rattle.model.specs.Refusal.{overLimit}
 use Rattle.model.specs.declared.Kind.{Kind}
 use Rattle.model.specs.declared.Kind.the-variants.{Two, One, Imm16, Imm32, Other}
 use Rattle.model.specs.Script.{Block}
-use Rattle.model.specs.Reading.{Answer, got, refused, word, zig}
+use Rattle.model.specs.Reading.{Answer, refused, word, zig}
 use Rattle.model.specs.Image.{kindOf, readWithin}
 use Rattle.model.specs.Memory.{Nodes, Coded, Memory, codeAt, leftAt, rightAt, valueAt, commandWord, blockWord}
 

@@ -17,7 +17,6 @@ use Rattle.model.specs.Files.{Wrote, writeChecked}
 use Rattle.model.specs.Compile.{Call, compileChecks, freshBlocks, rootOf}
 use Rattle.model.specs.Run.{Ran, runChecked}
 use Rattle.model.specs.Parse.{Parsed, parseChecked}
-use Rattle.model.specs.Lists.{Step, compiling}
 
 abbrev pub recordRefusal : Memory → ℕ
 recordRefusal m = refusalOf (judgedRecord m)
@@ -71,7 +70,3 @@ parseIn h m b = parseChecked h (recordRefusal m) (scriptOf m) b
 
 unfoldable pub writeIn : Memory → List ℕ → Wrote
 writeIn m out = writeChecked (recordRefusal m) (scriptOf m) out
-
--- for lists of compiles on a record
-abbrev pub compilesIn : Sheet → Step Born Call
-compilesIn h = compiling (λ k c. compileRefusalIn h k c) (λ k c. compiledIn h k c) (λ c. c .setup) (λ c. withSlots (c .shop)) (λ k. k .memory .count)

@@ -1,5 +1,5 @@
 -- Signed numbers: cutting to a width and bits in two's complement, ranges, tests, and the larger of 0 and a number. Assumes nothing: these are definitions.
-use mathlib.Core.Bool.{Bool, true, false, not}
+use mathlib.Core.Bool.{Bool, true, false}
 use Prim.Native.Nat.{ℕ, suc, _-_, _%_, _^_}
 use lib.Dec.{ltb, eqb}
 use lib.Bits.{bitAnd, bitOr}

@@ -13,7 +13,6 @@ use Rattle.model.specs.Save.{Save}
 use Rattle.model.specs.Sheet.{Sheet, saveRefusal}
 use Rattle.model.specs.Shop.{Slot}
 use Rattle.model.specs.Flags.{flagAnswer}
-use Rattle.model.specs.Run as model
 use Rattle.model.specs.RecordCalls.{Born, runIn}
 use Rattle.model.specs.Lists.{Along, afterAll, following, lastAt, lastFrom, nowAt}
 use Rattle.model.specs.Laws.Lists.{none≢some}

@@ -1,7 +1,7 @@
 -- The value that a parse answers: the refusal, and the slots as the code keeps them. Assumes nothing: these are definitions.
 use mathlib.Core.Path.{_≡_}
 use mathlib.Core.Option.{Option, none, some}
-use mathlib.Core.List.{List, map}
+use mathlib.Core.List.{map}
 use Prim.Native.Nat.{ℕ}
 use Rattle.model.specs.Shop.{withSlots}
 use Rattle.model.specs.Shop as Model
@@ -9,7 +9,6 @@ use Rattle.model.specs.Parse.{Parsed}
 use Rattle.shop.specs.declared.SlotItem.{SlotItem}
 use Rattle.shop.specs.declared.SlotItem.the-variants.{Nothing, Of}
 use Rattle.shop.specs.declared.Slot.{Slot}
-use Rattle.shop.specs.declared.Shop.{Shop}
 use Rattle.shop.specs.declared.Reqs.{Reqs}
 use Rattle.shop_codes.specs.Codes.{codeOf}
 use Rattle.shop.specs.Shapes.{slotsOf}

@@ -8,7 +8,7 @@ use Rattle.model.specs.Limits.{slotCount, mostItems}
 use Rattle.model.specs.Sheet as Model
 use Rattle.model.specs.Sheet.{itemCount}
 use Rattle.model.specs.Printer.{atcEntry}
-use Rattle.model.specs.Shop.{padded, withSlots}
+use Rattle.model.specs.Shop.{padded}
 use Rattle.model.specs.Memory.{Memory, scriptOf}
 use Rattle.model.specs.Parse.{State, Parsed, afterChecks, parse, parseChecked}
 use Rattle.model.specs.RecordCalls.{callIn, parseIn}

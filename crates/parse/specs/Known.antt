@@ -15,7 +15,7 @@ use Rattle.model.specs.Requirement.{Requirement}
 use Rattle.model.specs.Script.{Command, Block, placeholder, code, dataBlock, blockAt}
 use Rattle.model.specs.Sheet.{Sheet, itemCount}
 use Rattle.model.specs.Shop.{Slot, emptySlot}
-use Rattle.model.specs.Parse.{fillItem, updateItem, updateSlot, updateSlots, State, scanned, parseRequirements, visited, passedOver, parseBlock, start, parse}
+use Rattle.model.specs.Parse.{fillItem, updateSlot, updateSlots, State, scanned, parseRequirements, visited, passedOver, parseBlock, start, parse}
 use Rattle.shop.specs.Shapes.{entries, itemOf, slotOf, slotsOf, noSlot}
 use Rattle.shop.specs.declared.SlotItem.the-variants.{Of}
 use Rattle.shop_arrays.specs.Arrays.{Arrays, noSuchItem, slotAt, shopFrom, arraysOf}

@@ -1,5 +1,4 @@
 // The call parse: its checks in 01's order, then the walk from the setup block and the slots that it read.
-ghost use mathlib.Core.Path.{_≡_};
 ghost use Rattle.model.specs.RecordCalls.{parseIn};
 ghost use Rattle.memory.specs.View.{memoryOf};
 ghost use Rattle.shop.specs.Shapes.{sheetOf};
@@ -13,7 +12,6 @@ use memory::NodeWords;
 use memory::Values;
 use model::BlockNo;
 use parse_keys::Known;
-use parse_visit::Walk;
 use parse_walk::walk;
 use shop::CODES;
 use shop::Codes;

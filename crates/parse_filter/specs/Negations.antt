@@ -2,12 +2,11 @@
 use mathlib.Core.Path.{_≡_, refl, sym, ap, _∙_}
 use mathlib.Core.Bool.{Bool, true, false, not, cond, _&&_, _||_, true≢false}
 use mathlib.Core.List.{List, [], _∷_, map}
-use Prim.Native.Nat.{ℕ, _+_, _/_, _≤_, _<_}
+use Prim.Native.Nat.{ℕ, _/_, _≤_, _<_}
 use native.Mathlib.Omega.{arith}
 use lib.Dec.{eqb}
 use lib.ListN.{getD}
 use borrow.Author.Tests.{eqb-true}
-use Rattle.model.specs.Limits.{wide}
 use Rattle.model.specs.Requirement.{Requirement, haveItem, missingItem, haveAtc, missingAtc, haveFlag, missingFlag, sameReq, negateReq, insert, sorted, member, keep, settled, extend}
 use Rattle.model.specs.Laws.Checks.{and-right}
 use Rattle.model.specs.Laws.Sets.{same-refl, Sorted, insert-sorted, sorted-sorted, member-insert, member-keep, ext}
@@ -28,9 +27,6 @@ use Rattle.parse_filter.specs.Companions.{filtered-has}
 use Rattle.model.specs.Laws.Normal.{same-move, both-ways}
 
 -- ---- negated requirements
-
-neg-eq : (a b : Requirement) → negateReq a ≡ b → a ≡ negateReq b
-neg-eq a b e = sym (negate-twice a) ∙ ap negateReq e
 
 entry-narrow : (ks : List ℕ) (k : ℕ) → Narrow (entryReq ks k)
 entry-narrow ks k = by-parity k

@@ -1,6 +1,6 @@
 -- A turn of the parser's loop: the walk of what is on the stack stays the parse from the setup block. Assumes nothing.
 use mathlib.Core.Path.{_≡_, refl, sym, ap, ap₂, subst, _∙_}
-use mathlib.Core.Bool.{Bool, true, false, not, cond, _||_}
+use mathlib.Core.Bool.{Bool, true, false, cond, _||_}
 use mathlib.Core.Option.{Option, none, some}
 use mathlib.Core.List.{List, [], _∷_, map}
 use Prim.Native.Nat.{ℕ, zero, suc, _+_, _*_, _-_, _≤_, _<_}
@@ -9,7 +9,7 @@ use native.Mathlib.Omega.{arith}
 use lib.Dec.{ltb, eqb}
 use lib.ListN.{length, getD, set, take, length-set, List·getD-eq-default}
 use borrow.Author.Tests.{eq-eqb, ltb-true, ltb-false, eqb-true, eqb-false}
-use Rattle.model.specs.Limits.{blockLimit, nodeLimit}
+use Rattle.model.specs.Limits.{blockLimit}
 use Rattle.model.specs.Refusal.{parseNotCode}
 use Rattle.model.specs.Expr.{Expr}
 use Rattle.model.specs.Sheet.{Sheet}
@@ -32,9 +32,6 @@ use Rattle.parse_filter.specs.Members.{or-left}
 
 pub few-blocks : (m : Memory) → Accepted m → m .count ≤ blockLimit
 few-blocks m a = judged-kept m (a .blocks) (a .rest) (a .is) .0
-
-pub few-nodes : (m : Memory) → Accepted m → m .coded .nodes .count ≤ nodeLimit
-few-nodes m a = judged-kept m (a .blocks) (a .rest) (a .is) .2
 
 or-both : (a b : Bool) → a ≡ false → b ≡ false → a || b ≡ false
 or-both a b p q = rw (p, q)

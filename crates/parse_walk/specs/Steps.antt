@@ -3,16 +3,15 @@ use mathlib.Core.Path.{_≡_, refl, sym, ap, _∙_}
 use mathlib.Core.Bool.{Bool, true, false, not, _||_}
 use mathlib.Core.Option.{Option, none, some}
 use mathlib.Core.List.{List, [], _∷_}
-use Prim.Native.Nat.{ℕ, zero, suc, _+_, _-_, _≤_, _<_}
+use Prim.Native.Nat.{ℕ, zero, suc, _+_, _-_, _<_}
 use native.Mathlib.Omega.{arith}
-use native.Mathlib.Decide.{decLe}
 use lib.Dec.{eqb}
-use lib.ListN.{length, getD, set, length-set, length-replicate, List·getD-eq-default}
+use lib.ListN.{length, getD, set, length-set}
 use borrow.Author.Tests.{ne-eqb}
 use Rattle.model.specs.Refusal.{parseNotCode}
 use Rattle.model.specs.Expr.{Expr}
 use Rattle.model.specs.Sheet.{Sheet}
-use Rattle.model.specs.Script.{Command, Block, placeholder, code, dataBlock, blockAt}
+use Rattle.model.specs.Script.{Block, placeholder, code, dataBlock, blockAt}
 use Rattle.model.specs.Parse.{State, refuse, scanned, visited, passedOver, parseBlock, start, parse}
 use Rattle.reach.specs.Dfs.{Entry, entry, Ways, nowhere, to, to-both, waysBy, Stepped, walkA, walksA, pushed, Goes, enough-more, walks-skip, walks-visit, walks-off}
 use Rattle.model.specs.Laws.Marks.{unmarked, unmarked-set, unmarked-most}
@@ -99,10 +98,6 @@ module _ (h : Sheet) (bs : List Block) where
       ∙ ap (λ n. walk h bs n (entry b c) st) e
       ∙ enough-more (Option Expr) State skip (step h bs) left (Good bs) keeps falls (f - suc (length bs)) (suc (length bs)) (entry b c) st o (omega arith)
       ∙ sym (parse-walks h bs (suc (length bs)) b c st)
-
-  pub parse-enough : (f b : ℕ) → length bs < f → parseBlock h bs f b none (start bs) ≡ parse h bs b
-  unfolding parse
-  parse-enough f b l = depth-enough f b none (start bs) (length-replicate (length bs) false) l
 
   -- ---- a stack: an entry that is marked, one that is visited, and the rest once there is a refusal
 

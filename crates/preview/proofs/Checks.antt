@@ -6,13 +6,11 @@ use Rattle.model.specs.Limits.{slotCount}
 use Rattle.model.specs.Save.{Save}
 use Rattle.model.specs.Sheet as Model
 use Rattle.model.specs.Sheet.{sheetOk, saveOk, all}
-use Rattle.model.specs.Shop as Shops
 use Rattle.model.specs.Shop.{withSlots, slotOk}
 use Rattle.model.specs.Flags.{shopInside}
 use Rattle.model.specs.Preview.{previewCall}
 use Rattle.shop.specs.Shapes.{slotOf, slotsOf}
 use Rattle.shop.specs.declared.Sheet.{Sheet}
-use Rattle.shop.specs.declared.Slot.{Slot}
 use Rattle.shop.specs.declared.Shop.{Shop}
 use Rattle.preview.specs.Accepted.{with-all}
 use Rattle.preview.specs.Checked.{checked}

@@ -10,7 +10,7 @@ use Rattle.model.specs.Shop.{Slot, withSlots}
 use Rattle.model.specs.Script.{Script}
 use Rattle.model.specs.Judge.{counted, scriptRefusal}
 use Rattle.model.specs.Compile.{Call, appended, compileChecks, freshBlocks}
-use Rattle.model.specs.Lists.{Step, nowAt}
+use Rattle.model.specs.Lists.{Step}
 use Rattle.model.specs.RecordCalls.{oneCompile}
 use Rattle.reclaim_model.specs.Reclaim.{keptBlocks, newNumber, reached, reclaimChecks, survivors}
 

@@ -4,7 +4,7 @@ use mathlib.Core.Logic.{_≢_}
 use mathlib.Core.List.{List, [], _∷_}
 use Prim.Native.Nat.{ℕ, zero, suc}
 use borrow.Author.Tests.{ne-eqb}
-use Rattle.model.specs.Refusal.{bornLater, check, firstOf}
+use Rattle.model.specs.Refusal.{bornLater, firstOf}
 use Rattle.model.specs.Sheet.{Sheet}
 use Rattle.model.specs.Shop.{shopRefusal}
 use Rattle.model.specs.Memory.{scriptOf}

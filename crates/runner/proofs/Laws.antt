@@ -1,8 +1,8 @@
 -- Single steps of the runner over plain variables: stores, links, and where each command and block leads. Assumes nothing.
 use mathlib.Core.Path.{_≡_, refl, sym, ap, _∙_, subst}
-use mathlib.Core.Bool.{Bool, true, false, cond}
-use mathlib.Core.Option.{Option, none, some}
-use mathlib.Core.List.{List, [], _∷_}
+use mathlib.Core.Bool.{true, false, cond}
+use mathlib.Core.Option.{Option}
+use mathlib.Core.List.{List, _∷_}
 use Prim.Native.Nat.{ℕ, zero, suc, _+_, _-_, _*_, _≤_, _<_}
 use native.Mathlib.Nat.{not-suc-le-zero}
 use native.Mathlib.Omega.{arith}
@@ -10,15 +10,15 @@ use lib.Dec.{T}
 use lib.ListN.{getD, set, length, List·getD-eq-default}
 use lib.Seq.{set-out}
 use lib.IntN.{ℤ, pos, negsuc, natAbs}
-use lib.Signed.{ltZ, nonNeg}
+use lib.Signed.{ltZ}
 use borrow.Author.Tests.{ltb-true, ne-eqb}
 use mir.Syntax.{w32}
 use mir.Val.{SFits, ofZ}
 use Rattle.model.specs.Signed.{isZero}
 use Rattle.model.specs.Save.{Save}
 use Rattle.model.specs.Expr.{Expr, ok, stop, eval}
-use Rattle.model.specs.Script.{Command, return, goto, setVariable, setOther, ifElse, endIf, otherCommand, placeholder, code, dataBlock, blockAt}
-use Rattle.model.specs.Run.{Outcome, next, done, halt, follow, store, orHalt, execute, enter, step, stepBy}
+use Rattle.model.specs.Script.{Command, return, goto, setVariable, setOther, ifElse, endIf, otherCommand, placeholder}
+use Rattle.model.specs.Run.{Outcome, next, halt, follow, store, orHalt, execute, enter, step, stepBy}
 use Rattle.model.specs.Memory.{Coded, codedIn, Memory, tree, commandWord, setIn, commandBy, commandIn, commandsIn, blockWord, linkIn, blockBy, blockIn, scriptOf}
 use Rattle.model.specs.declared.BlockNo.{BlockNo}
 use Rattle.memory.specs.RecordLaws.{length-blocksIn, block-at}
@@ -27,7 +27,7 @@ use Rattle.expr.specs.declared.Value.{Value}
 use Rattle.expr.specs.declared.Value.the-variants.{Is, Refused}
 use Rattle.runner.specs.Steps.{outcomeOf, after, Flows}
 use Rattle.runner.specs.declared.Step.{Step}
-use Rattle.runner.specs.declared.Step.the-variants.{Next, Done, Halt}
+use Rattle.runner.specs.declared.Step.the-variants.{Next, Halt}
 use Rattle.runner.specs.declared.Flow.{Flow}
 use Rattle.runner.specs.declared.Flow.the-variants.{On, Out}
 

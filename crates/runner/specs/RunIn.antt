@@ -1,18 +1,14 @@
 -- The run of a script record with its checks, and that it is the definition's call of the script in it. Assumes nothing.
-use mathlib.Core.Path.{_≡_, refl, ap, sym, _∙_}
+use mathlib.Core.Path.{_≡_, refl}
 use mathlib.Core.List.{List, [], _∷_}
 use Prim.Native.Nat.{ℕ}
 use lib.IntN.{ℤ}
 use Rattle.model.specs.Refusal.{firstOf}
 use Rattle.model.specs.Save.{Save}
 use Rattle.model.specs.Sheet.{Sheet, saveRefusal}
-use Rattle.model.specs.Script.{Block}
-use Rattle.model.specs.Reading.{got, refusalOf}
 use Rattle.model.specs.Run.{Ran, run, unlessRefused, runCheckedBy}
 use Rattle.model.specs.Memory.{Memory, scriptOf}
-use Rattle.model.specs.Record.{judgedRecord}
 use Rattle.model.specs.RecordCalls.{callIn, runIn}
-use Rattle.memory.specs.Transfer.{accepted-script}
 use Rattle.runner.specs.declared.Ran as code
 
 -- the definition's answer for the code's, with the variables of that moment

@@ -2,10 +2,10 @@
 ghost use mathlib.Core.Path.{_≡_};
 ghost use mathlib.Core.Option.{Option};
 ghost use mathlib.Core.List.{List};
-ghost use Prim.Native.Nat.{ℕ, _≤_, _<_};
+ghost use Prim.Native.Nat.{ℕ, _<_};
 ghost use lib.IntN.{ℤ};
 ghost use lib.ListN.{length};
-ghost use Rattle.model.specs.Limits.{nodeLimit, blockLimit};
+ghost use Rattle.model.specs.Limits.{nodeLimit};
 ghost use Rattle.model.specs.Script.{setVariable, ifElse};
 ghost use Rattle.model.specs.Run.{execute, follow, step, store, run};
 ghost use Rattle.model.specs.Memory.{nodesIn, codedIn, tree, commandIn, commandsIn, linkIn, scriptOf};

@@ -24,7 +24,7 @@ use Rattle.shop_codes.specs.Codes.{AllNarrow, Narrow, codeOf, shift}
 use Rattle.shop_codes.specs.Laws.{same-code, shift-most}
 use Rattle.shop_codes.specs.Subjects.{negate-narrow}
 use Rattle.shop.specs.Shapes.{atcAt, itemOf, sheetOf, slotOf}
-use Rattle.shop.specs.Slots.{atc-for, atcs-few, entries-take, items-few, slot-exact, slot-narrow}
+use Rattle.shop.specs.Slots.{atc-for, atcs-few, entries-take, items-few, slot-exact}
 use Rattle.model.specs.declared.ItemId.{ItemId}
 use Rattle.shop.specs.declared.Sheet.{Sheet}
 use Rattle.shop.specs.declared.Slot.{Slot}

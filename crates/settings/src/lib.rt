@@ -1,6 +1,6 @@
 // How many settings list a slot (02, A.9): its subjects are counted on the codes of its requirements, and the closed form gives what a count over all combinations comes to.
 ghost use mathlib.Core.Path.{_≡_};
-ghost use mathlib.Core.Bool.{Bool, true};
+ghost use mathlib.Core.Bool.{true};
 ghost use mathlib.Core.List.{List, []};
 ghost use Prim.Native.Nat.{ℕ, _+_, _-_, _^_, _≤_};
 ghost use lib.ListN.{take};

@@ -1,11 +1,11 @@
 -- Settings over the calls of the library (02, A.9): any list of lk_compile and lk_reclaim as they were made and answered, then lk_settings of a slot of the shop that was accepted last at a block, and lk_run from there. Each call comes in by its own promise. Assumes nothing.
 use mathlib.Core.Path.{_≡_, refl, sym, ap, _∙_}
 use mathlib.Core.Bool.{Bool, true, false, not, cond}
-use mathlib.Core.Option.{Option, none, some}
+use mathlib.Core.Option.{none, some}
 use mathlib.Core.List.{List}
 use Prim.Native.Nat.{ℕ, _+_, _^_, _≤_, _<_}
 use lib.IntN.{ℤ, pos, negsuc}
-use lib.ListN.{getD, length, List·getD-map}
+use lib.ListN.{getD, length}
 use borrow.Author.Tests.{eq-eqb}
 use Rattle.model.specs.Limits.{itemFirst, slotCount}
 use Rattle.model.specs.Signed.{eqZ}
@@ -15,10 +15,8 @@ use Rattle.model.specs.Shop.{Slot, emptySlot}
 use Rattle.model.specs.Meaning.{meaningOf}
 use Rattle.model.specs.RecordCalls.{Born, runIn}
 use Rattle.model.specs.Lists.{Along, afterAll, lastAt, nowAt}
-use Rattle.shop.specs.Shapes.{noSlot, slotOf, slotsOf}
-use Rattle.shop.specs.Slots.{empty-slot}
-use Rattle.shop_arrays.specs.Arrays.{Arrays, rowAt, shopFrom, slotAt, slotIn}
-use Rattle.shop_arrays.specs.Slots.{slot-in}
+use Rattle.shop.specs.Shapes.{slotOf}
+use Rattle.shop_arrays.specs.Arrays.{slotIn}
 use Rattle.reclaim_record.specs.Stands.{LongBorn}
 use Rattle.settings_model.specs.Settings.{combos, count, listedBy, settingOf, settingsCall, subjects}
 use Rattle.settings_model.specs.Combos.{each-once, sameList}
@@ -28,13 +26,7 @@ use Rattle.settings.specs.declared.Settings.{Settings}
 use Rattle.settings.specs.Answer.{settingsOf}
 use Rattle.capi.specs.declared.Ran.{Ran}
 use Rattle.capi.specs.Answers.{ranAs}
-use Rattle.library.specs.Delivered.{AsPromised, Made, means-of, made, shopOf}
-
--- slot i of the shop that four arrays stand for is the one that lk_settings takes by its item, limit, codes and length
-pub slot-of-arrays : (a : Arrays) (i : ℕ) → i < slotCount
-    → slotOf (slotIn (getD (a .items) i (pos 0)) (getD (a .limits) i (pos 0)) (rowAt (a .codes) i) (getD (a .lens) i 0)) ≡ getD (shopOf a) i emptySlot
-unfolding slotsOf slotAt
-slot-of-arrays a i l = sym (ap (λ d. getD (shopOf a) i d) (sym empty-slot) ∙ List·getD-map slotOf (shopFrom a .slots) i noSlot ∙ ap slotOf (slot-in a i noSlot l))
+use Rattle.library.specs.Delivered.{AsPromised, Made, means-of, made}
 
 -- lk_settings answered q for the slot x, without a refusal: each number is the plain count over all combinations
 pub record Counted (h : Sheet) (x : Slot) (q : Settings) : Type 0 where

@@ -1,11 +1,11 @@
 -- Settings of small slots, by the plain count and by the closed form. Assumes nothing.
-use mathlib.Core.Path.{_≡_, refl, sym, _∙_}
+use mathlib.Core.Path.{_≡_, refl}
 use mathlib.Core.Option.{none, some}
-use mathlib.Core.List.{List, [], _∷_}
+use mathlib.Core.List.{[], _∷_}
 use Prim.Native.Nat.{ℕ}
-use lib.IntN.{ℤ, pos}
+use lib.IntN.{pos}
 use Rattle.model.specs.Sheet.{Sheet}
-use Rattle.model.specs.Requirement.{Requirement, haveItem, missingItem, haveAtc, missingAtc, haveFlag, missingFlag, member}
+use Rattle.model.specs.Requirement.{haveItem, missingItem, haveFlag, missingFlag, member}
 use Rattle.model.specs.Shop.{Slot, limitOf}
 use Rattle.model.specs.Normal.{acquiredOf, filledSlot}
 use Rattle.faithful_model.specs.Faithful.{noPair}

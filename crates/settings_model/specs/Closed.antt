@@ -3,14 +3,14 @@ use mathlib.Core.Path.{_≡_, refl, sym, ap, _∙_}
 use mathlib.Core.Bool.{Bool, true, false, not, cond, _&&_, _||_, and-true, true≢false}
 use mathlib.Core.Option.{Option, none, some}
 use mathlib.Core.List.{List, [], _∷_, _++_, map}
-use Prim.Native.Nat.{ℕ, zero, suc, _+_, _-_, _^_}
+use Prim.Native.Nat.{ℕ, suc, _+_, _-_, _^_}
 use native.Mathlib.Omega.{arith}
 use lib.Dec.{leb}
 use borrow.Author.Tests.{not-true}
 use lib.ListN.{length, length-map}
-use lib.IntN.{ℤ, pos}
+use lib.IntN.{ℤ}
 use Rattle.model.specs.Sheet.{Sheet, all, atcFor}
-use Rattle.model.specs.Requirement.{Requirement, haveItem, missingItem, haveAtc, missingAtc, haveFlag, missingFlag, member, negateReq, sameReq}
+use Rattle.model.specs.Requirement.{Requirement, haveItem, missingItem, haveAtc, missingAtc, haveFlag, missingFlag, member, negateReq}
 use Rattle.model.specs.Shop.{Slot, limitOf, timerOf}
 use Rattle.model.specs.Compile.{acquiredReq, rateOf}
 use Rattle.model.specs.Normal.{acquiredOf}
@@ -20,7 +20,7 @@ use Rattle.faithful_model.specs.Faithful.{faithfulFilled, noPair}
 use Rattle.faithful_model.specs.Lists.{all-member, all-of, is-false, of-pairs, or-right, pair-own, pairs}
 use Rattle.settings_model.specs.Settings.{Subject, rateIs, agree, answerIn, combos, count, distinct, hiddenCount, listedBy, listedCount, listedFilled, listedFor, listedWith, meets, memberS, orRate, rates, sameSubject, subjectOf, subjects, subjectsFilled, subjectsFor, wanted, without}
 use Rattle.settings_model.specs.Combos.{count-all, count-more, count-none, count-same, count-split, each-once, same-own, same-true, sameList}
-use Rattle.settings_model.specs.Subjects.{Apart, Asks, asks, differs-sym, distinct-apart, distinct-member, member-without, no-rate, req-other, req-own, reqOf, subject-in, subject-neg, subject-own, subject-true}
+use Rattle.settings_model.specs.Subjects.{Apart, Asks, asks, differs-sym, distinct-apart, distinct-member, member-without, no-rate, req-other, req-own, reqOf, subject-in, subject-neg, subject-own}
 use Rattle.settings_model.specs.Listed.{look-up}
 
 -- ---- the closed form

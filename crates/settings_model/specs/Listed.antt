@@ -1,19 +1,19 @@
 -- The combination that a save gives is listed exactly where the slot's meaning under the save has the item. Assumes nothing.
 use mathlib.Core.Path.{_≡_, refl, sym, ap, _∙_}
-use mathlib.Core.Bool.{Bool, true, false, not, cond, _&&_, _||_, true≢false}
+use mathlib.Core.Bool.{Bool, true, false, not, cond, _||_, true≢false}
 use mathlib.Core.Option.{Option, none, some}
 use mathlib.Core.List.{List, [], _∷_, _++_, map}
-use Prim.Native.Nat.{ℕ, zero, suc}
+use Prim.Native.Nat.{ℕ}
 use lib.Dec.{leb}
 use lib.ListN.{length, length-map}
-use lib.IntN.{ℤ, pos, negsuc}
+use lib.IntN.{pos, negsuc}
 use Rattle.model.specs.Signed.{isZero}
 use Rattle.model.specs.Save.{Save, natAt}
 use Rattle.model.specs.Sheet.{Sheet, all, atcFor}
 use Rattle.model.specs.Requirement.{Requirement, haveItem, missingItem, haveAtc, missingAtc, haveFlag, missingFlag, member, sameReq}
 use Rattle.model.specs.Shop.{Slot, limitOf, timerOf}
 use Rattle.model.specs.Compile.{acquiredReq, rateOf}
-use Rattle.model.specs.Meaning.{acquired, allHold, atRate, filledMeaning, held, holds, limitMeaning, meaningOf, uniqueMeaning}
+use Rattle.model.specs.Meaning.{acquired, allHold, atRate, held, holds, limitMeaning, meaningOf, uniqueMeaning}
 use Rattle.model.specs.Normal.{acquiredOf}
 use Rattle.model.specs.Laws.Sets.{same-refl}
 use Rattle.faithful_model.specs.Lists.{or-right}

@@ -1,23 +1,22 @@
 -- Sheets, slots and shops as values: what check 8 tells of the entries, and slots put into a shop one by one. Assumes nothing.
 use mathlib.Core.Path.{_≡_, refl, sym, ap, _∙_}
 use mathlib.Core.Bool.{Bool, true, false, cond, _&&_}
-use mathlib.Core.List.{List, [], _∷_, _++_, map}
+use mathlib.Core.List.{List, [], _∷_, map}
 use Prim.Native.Nat.{ℕ, zero, suc, _+_, _*_, _-_, _/_, _%_, _≤_, _<_}
 use native.Mathlib.Omega.{arith}
 use lib.Dec.{ltb, leb}
 use lib.IntN.{pos, negsuc}
-use lib.ListN.{length, take, getD, set, replicate, List·getD-map, length-map, length-append}
-use lib.Seq.{set-at, set-out, append-snoc}
+use lib.ListN.{length, take, getD, set, List·getD-map, length-map}
 use borrow.Author.Tests.{ltb-true, ltb-false, leb-true}
 use Rattle.model.specs.Limits.{fewestItems, mostItems, mostAtcs, entryLimit, slotCount, wide}
 use Rattle.model.specs.Sheet as Model
 use Rattle.model.specs.Sheet.{sheetOk, timersOk, atcKnown, itemCount, atcFor, all}
 use Rattle.model.specs.Shop as Shops
-use Rattle.model.specs.Shop.{slotOk, itemKnown, reqKnown, emptySlot, padded, withSlots}
+use Rattle.model.specs.Shop.{slotOk, itemKnown, reqKnown, padded, withSlots}
 use Rattle.model.specs.Printer.{atcEntry}
 use Rattle.model.specs.Laws.Checks.{and-left, and-right}
 use Rattle.shop_codes.specs.Codes.{half, codeOf, idOf, ofKind, unshift, requirementOf, AllNarrow}
-use Rattle.shop.specs.Shapes.{sheetOf, atcAt, entries, itemOf, partsOk, slotOf, slotsOf, noSlot, noShop, placed}
+use Rattle.shop.specs.Shapes.{sheetOf, atcAt, entries, itemOf, partsOk, slotOf, slotsOf, placed}
 use Rattle.shop.specs.Sets.{Exact, AllExact}
 use Rattle.shop_codes.specs.Laws.{shift-unshift, codes-narrow}
 use Rattle.shop.specs.declared.Sheet.{Sheet}
@@ -124,14 +123,6 @@ module _ (h : Model.Sheet) (e : sheetOk h ≡ true) where
 
 -- ---- slots put into a shop
 
-pub empty-slot : slotOf noSlot ≡ emptySlot
-unfolding slotOf entries
-empty-slot = refl
-
-map-replicate : (n : ℕ) → map slotOf (replicate n noSlot) ≡ replicate n emptySlot
-map-replicate zero = refl
-map-replicate (suc n) = rw (empty-slot, map-replicate n)
-
 map-set : (l : List Slot) (i : ℕ) (x : Slot) → map slotOf (set l i x) ≡ set (map slotOf l) i (slotOf x)
 map-set [] i x = refl
 map-set (y ∷ l) zero x = refl
@@ -140,37 +131,6 @@ map-set (y ∷ l) (suc i) x = ap (λ t. slotOf y ∷ t) (map-set l i x)
 pub slots-placed : (s : Shop) (i : ℕ) (x : Slot) → slotsOf (placed s i x) ≡ set (slotsOf s) i (slotOf x)
 unfolding slotsOf
 slots-placed s i x = map-set (s .slots) i x
-
--- xs as the slots i, i + 1, ..
-abbrev pub placedFrom : ℕ → List Slot → Shop → Shop
-placedFrom i [] s = s
-placedFrom i (x ∷ xs) s = placedFrom (suc i) xs (placed s i x)
-
-abbrev setFrom : ℕ → List Shops.Slot → List Shops.Slot → List Shops.Slot
-setFrom i [] l = l
-setFrom i (x ∷ xs) l = setFrom (suc i) xs (set l i x)
-
-placed-from : (i : ℕ) (xs : List Slot) (s : Shop) → slotsOf (placedFrom i xs s) ≡ setFrom i (map slotOf xs) (slotsOf s)
-placed-from i [] s = refl
-placed-from i (x ∷ xs) s = placed-from (suc i) xs (placed s i x) ∙ ap (setFrom (suc i) (map slotOf xs)) (slots-placed s i x)
-
-past : (i : ℕ) (xs l : List Shops.Slot) → length l ≤ i → setFrom i xs l ≡ l
-past i [] l h = refl
-past i (x ∷ xs) l h = rw (set-out l i x h) (past (suc i) xs l (omega arith))
-
-pad-empty : (n : ℕ) → replicate n emptySlot ≡ padded n []
-unfolding padded
-pad-empty zero = refl
-pad-empty (suc n) = ap (λ l. emptySlot ∷ l) (pad-empty n)
-
--- p is filled already
-fill : (n i : ℕ) (p xs : List Shops.Slot) → length p ≡ i → setFrom i xs (p ++ replicate n emptySlot) ≡ p ++ padded n xs
-unfolding padded
-fill n i p [] e = ap (λ l. p ++ l) (pad-empty n)
-fill zero i p (x ∷ xs) e = past i (x ∷ xs) (p ++ []) (omega (arith, length-append p []))
-fill (suc n) i p (x ∷ xs) e =
-    rw (set-at p emptySlot (replicate n emptySlot) x i e, ← append-snoc p x (replicate n emptySlot))
-    (fill n (suc i) (p ++ x ∷ []) xs (omega (arith, length-append p (x ∷ []))) ∙ append-snoc p x (padded n xs))
 
 -- ---- twenty slots are neither dropped nor filled up
 

@@ -1,17 +1,16 @@
 -- What the requirement of a code is about, by its kind, and whether that has to be missing. Assumes nothing.
 use mathlib.Core.Path.{_≡_, refl, sym, ap, _∙_}
-use mathlib.Core.Bool.{Bool, true, false}
+use mathlib.Core.Bool.{false}
 use Prim.Native.Nat.{ℕ, zero, suc, _+_, _/_, _%_, _≤_, _<_}
 use native.Mathlib.Omega.{arith}
-use lib.IntN.{ℤ, pos, negsuc, _-ℤ_}
+use lib.IntN.{ℤ, negsuc, _-ℤ_}
 use mir.Syntax.{w32}
 use mir.Val.{toZ}
 use mir.Facts.{toZ-pos}
 use Rattle.model.specs.Limits.{mostItems, wide}
-use Rattle.model.specs.Requirement.{Requirement, haveItem, missingItem, haveAtc, missingAtc, haveFlag, missingFlag, kind, number, negateReq}
-use Rattle.shop_codes.specs.Codes.{half, InRange, unshift, codeOf, idOf, ofKind, requirementOf, Narrow, subject, isMissing, subjectIs}
+use Rattle.model.specs.Requirement.{Requirement, haveItem, missingItem, haveAtc, missingAtc, haveFlag, missingFlag, number, negateReq}
+use Rattle.shop_codes.specs.Codes.{half, InRange, unshift, codeOf, idOf, ofKind, requirementOf, Narrow, subject, isMissing}
 use Rattle.shop_codes.specs.Laws.{code-narrow}
-use Rattle.shop_codes.specs.declared.Subject.{Subject}
 use Rattle.model.specs.Laws.Signed.{minus-one}
 
 -- ---- by the kind

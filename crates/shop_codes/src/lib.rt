@@ -1,6 +1,6 @@
 // Requirement codes: a requirement as one number, its kind times 2^32 plus its number plus 2^31, so that the order of codes is the order of requirements.
 ghost use mathlib.Core.Path.{_≡_};
-ghost use Prim.Native.Nat.{_+_, _*_, _/_, _<_, _≤_};
+ghost use Prim.Native.Nat.{_+_, _/_, _<_};
 ghost use Rattle.model.specs.Limits.{wide};
 ghost use Rattle.model.specs.Requirement.{number};
 ghost use Rattle.shop_codes.specs.Codes.{InRange, shift, unshift, idOf, requirementOf, isMissing, subject, subjectIs};

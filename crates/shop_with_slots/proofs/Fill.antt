@@ -11,7 +11,7 @@ use lib.Seq.{take-all}
 use Rattle.model.specs.Limits.{entryLimit, slotCount}
 use Rattle.shop_arrays.specs.Arrays.{arraysIn}
 use Rattle.shop_with_slots.specs.Twenty.{filled, twenty}
-use Rattle.shop_with_slots.specs.Slots.{filled-none, filled-set, filled-take, length-filled}
+use Rattle.shop_with_slots.specs.Slots.{filled-none, filled-set, filled-take}
 
 -- the first i of xs stand in an array of n that held z
 pub record Put {A : Type 0} (z : A) (n : ℕ) (xs ys : List A) (i : ℕ) : Type 0 where
@@ -22,9 +22,6 @@ pub none-put : {A : Type 0} (z : A) (n : ℕ) (xs : List A) → Put z n xs (repl
 none-put z n xs = record { low = omega arith; is = sym (filled-none z n) }
 
 module _ {A : Type 0} {z : A} {n : ℕ} {xs ys : List A} {i : ℕ} (p : Put z n xs ys i) where
-  pub put-length : length ys ≡ n
-  put-length = ap length (p .is) ∙ length-filled z n (take i xs)
-
   pub one-put : (d x : A) → i < n → i < length xs → x ≡ getD xs i d → Put z n xs (set ys i x) (i + 1)
   one-put d x h l e = record {
     low = omega arith;

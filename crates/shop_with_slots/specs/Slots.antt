@@ -4,7 +4,7 @@ use mathlib.Core.List.{List, [], _∷_, map}
 use Prim.Native.Nat.{ℕ, zero, suc, _+_, _-_, _*_, _≤_, _<_}
 use native.Mathlib.Decide.{decLe}
 use native.Mathlib.Omega.{arith}
-use lib.IntN.{ℤ, pos, negsuc}
+use lib.IntN.{pos, negsuc}
 use lib.ListN.{length, getD, set, take, drop, replicate, length-take, List·getD-eq-default}
 use lib.Seq.{getD-take}
 use Rattle.model.specs.Limits.{entryLimit, slotCount}
@@ -20,12 +20,6 @@ module _ {A : Type 0} (z : A) where
   unfolding filled
   filled-none zero = refl
   filled-none (suc n) = ap (λ l. z ∷ l) (filled-none n)
-
-  pub length-filled : (n : ℕ) (xs : List A) → length (filled z n xs) ≡ n
-  unfolding filled
-  length-filled zero xs = refl
-  length-filled (suc n) [] = ap suc (length-filled n [])
-  length-filled (suc n) (x ∷ xs) = ap suc (length-filled n xs)
 
   -- one more of them
   pub filled-set : (n i : ℕ) (xs : List A) (d : A) → i < n → i < length xs → set (filled z n (take i xs)) i (getD xs i d) ≡ filled z n (take (suc i) xs)

@@ -1,7 +1,7 @@
 -- The four arrays of a shop's twenty slots from slices of any number of them (01, Slot). Assumes nothing: these are definitions.
 use mathlib.Core.List.{List, [], _∷_, map}
 use Prim.Native.Nat.{ℕ, zero, suc, _*_}
-use lib.IntN.{ℤ, pos, negsuc}
+use lib.IntN.{pos, negsuc}
 use lib.ListN.{length, take}
 use Rattle.model.specs.Limits.{entryLimit, slotCount}
 use Rattle.model.specs.Shop as Model

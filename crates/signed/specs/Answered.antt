@@ -9,9 +9,8 @@ use lib.Dec.{leb}
 use lib.ListN.{getD, length, take, length-map, List·getD-map}
 use borrow.Author.Tests.{not-true}
 use Rattle.model.specs.Limits.{slotCount}
-use Rattle.model.specs.Refusal.{badShop, check}
 use Rattle.model.specs.Save.{Save}
-use Rattle.model.specs.Sheet.{Sheet, all, sheetOk, sheetRefusal}
+use Rattle.model.specs.Sheet.{Sheet, all, sheetRefusal}
 use Rattle.model.specs.Requirement.{Requirement, keep, member, negateReq, sameReq, settled, sorted}
 use Rattle.model.specs.Shop.{Slot, limitOf, shopRefusal, slotOk, withSlots}
 use Rattle.model.specs.Flags.{reqInside, slotInside}
@@ -34,7 +33,7 @@ use Rattle.signed_model.specs.Findings as Told
 use Rattle.signed_model.specs.Findings.{faithful, pair, own, outside, checkCall, checkChecks, checkedAs, finding, isHave, settingsFor, verdict}
 use Rattle.signed_model.specs.Told.{Concerned, Right, isApart, isOutside, shownBy, told-right}
 use Rattle.signed_check.specs.Answer.{checkedOf, findingOf, noFinding, verdictOf}
-use Rattle.signed_check.specs.Shops.{shop-long, slot-passed, with-shop}
+use Rattle.signed_check.specs.Shops.{slot-passed, with-shop}
 use Rattle.signed_check.specs.declared.Finding.{Finding}
 use Rattle.signed_check.specs.declared.Checked.{Checked}
 

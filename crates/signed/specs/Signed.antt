@@ -4,7 +4,7 @@ use mathlib.Core.Bool.{Bool, true, false}
 use mathlib.Core.Option.{some}
 use mathlib.Core.List.{List, [], _∷_, map}
 use mathlib.Core.Logic.{_≢_}
-use Prim.Native.Nat.{ℕ, zero, suc, _+_, _≤_, _<_}
+use Prim.Native.Nat.{ℕ, suc, _+_, _≤_, _<_}
 use native.Mathlib.Omega.{arith}
 use lib.IntN.{ℤ, pos, negsuc}
 use lib.ListN.{getD, length, length-map, List·getD-map}
@@ -14,14 +14,14 @@ use Rattle.model.specs.Save.{Save}
 use Rattle.model.specs.Sheet.{Sheet, all, saveRefusal, sheetRefusal}
 use Rattle.model.specs.Shop.{Slot, emptySlot, shopRefusal, slotOk}
 use Rattle.model.specs.Flags.{shopInside, slotInside}
-use Rattle.model.specs.Meaning.{hidden, meaningOf}
+use Rattle.model.specs.Meaning.{meaningOf}
 use Rattle.model.specs.Normal.{normal, normalShop}
-use Rattle.model.specs.Preview.{Preview, previewCall}
+use Rattle.model.specs.Preview.{previewCall}
 use Rattle.model.specs.RecordCalls.{Born, parseIn, runIn}
 use Rattle.model.specs.Lists.{afterAll, lastAt, nowAt}
 use Rattle.shop.specs.Shapes.{noSlot, slotOf, slotsOf}
 use Rattle.shop_arrays.specs.Arrays.{Arrays, shopFrom, slotAt}
-use Rattle.shop_arrays.specs.Slots.{slot-in, slots-long}
+use Rattle.shop_arrays.specs.Slots.{slot-in}
 use Rattle.parse.specs.Answer.{ParsedInto}
 use Rattle.preview.specs.Shown.{meaningsOf, previewedOf}
 use Rattle.preview.specs.Accepted.{accepted-preview, items-are, with-all}
@@ -41,7 +41,7 @@ use Rattle.signed_check.specs.Answer.{checkedOf, findingOf, noFinding, verdictO
 use Rattle.signed_check.specs.Shops.{shop-long}
 use Rattle.signed_check.specs.declared.Finding.{Finding}
 use Rattle.signed_check.specs.declared.Checked.{Checked}
-use Rattle.signed.specs.Answered.{Answered, answered, both-passed, finding-at, is-faithful, savedBy}
+use Rattle.signed.specs.Answered.{answered, both-passed, finding-at, is-faithful, savedBy}
 
 -- what holds at each place holds of all
 all-at : (p : Slot → Bool) (xs : List Slot) (d : Slot) → ((i : ℕ) → i < length xs → p (getD xs i d) ≡ true) → all p xs ≡ true

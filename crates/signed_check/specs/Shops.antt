@@ -1,14 +1,14 @@
 -- What is told of the slots of a shop one after the other is what the call answers. Assumes nothing.
-use mathlib.Core.Path.{_≡_, refl, sym, ap, _∙_}
-use mathlib.Core.Bool.{Bool, true, false}
-use mathlib.Core.List.{List, [], _∷_, map}
-use Prim.Native.Nat.{ℕ, suc, _+_, _<_, _≤_}
+use mathlib.Core.Path.{_≡_, sym, ap, _∙_}
+use mathlib.Core.Bool.{true, false}
+use mathlib.Core.List.{List, map}
+use Prim.Native.Nat.{ℕ, _+_, _<_, _≤_}
 use native.Mathlib.Decide.{ℕ-discrete}
 use native.Mathlib.Omega.{arith}
-use lib.ListN.{getD, length, replicate, set, length-map, length-replicate, length-set, List·getD-map}
+use lib.ListN.{getD, length, set, length-map, length-set, List·getD-map}
 use lib.Seq.{ext-getD, getD-set-same, getD-set-other}
 use Rattle.model.specs.Limits.{slotCount}
-use Rattle.model.specs.Refusal.{badSheet, badShop, check}
+use Rattle.model.specs.Refusal.{badSheet, badShop}
 use Rattle.model.specs.Sheet.{Sheet, all, sheetOk}
 use Rattle.model.specs.Shop.{slotOk, withSlots}
 use Rattle.shop.specs.Shapes.{noSlot, slotOf, slotsOf}
@@ -17,7 +17,7 @@ use Rattle.shop_arrays.specs.Arrays.{Arrays, shopFrom, slotAt}
 use Rattle.shop_arrays.specs.Slots.{slot-in, slots-long}
 use Rattle.signed_model.specs.Findings.{checkCall, finding}
 use Rattle.signed_model.specs.Shops.{padded-all}
-use Rattle.signed_check.specs.Answer.{checkedOf, findingOf, noFinding, nothingTold}
+use Rattle.signed_check.specs.Answer.{checkedOf, findingOf, nothingTold}
 use Rattle.signed_check.specs.declared.Finding.{Finding}
 use Rattle.signed_check.specs.declared.Checked.{Checked}
 

@@ -1,9 +1,9 @@
 -- What is found on the codes of a slot that passed 1 and 8 is what is told of it. Assumes nothing.
 use mathlib.Core.Path.{_≡_, refl, sym, ap, _∙_}
-use mathlib.Core.Bool.{Bool, true, false, not, cond, _&&_, _||_, true≢false}
+use mathlib.Core.Bool.{Bool, true, false, not, cond, _&&_, true≢false}
 use mathlib.Core.Option.{Option, none, some}
 use mathlib.Core.List.{List, [], _∷_, map}
-use Prim.Native.Nat.{ℕ, zero, suc, _-_, _≤_}
+use Prim.Native.Nat.{ℕ, _-_, _≤_}
 use native.Mathlib.Omega.{arith}
 use lib.Dec.{leb}
 use lib.ListN.{length, take, replicate, length-map}
@@ -35,7 +35,7 @@ use Rattle.settings.specs.Codes.{codes-are, lacks-is, negated-code, own-narrow}
 use Rattle.settings.specs.Answer.{settingsOf}
 use Rattle.settings.specs.declared.Settings.{Settings}
 use Rattle.signed_model.specs.Findings as Told
-use Rattle.signed_model.specs.Findings.{faithful, pair, own, outside, doubled, finding, firstPlace, isHave, limitFor, listedAs, lostFor, settingsFor, verdict, verdictFilled}
+use Rattle.signed_model.specs.Findings.{faithful, pair, own, outside, doubled, finding, firstPlace, isHave, limitFor, listedAs, settingsFor, verdict, verdictFilled}
 use Rattle.signed_model.specs.Holds.{not-not}
 use Rattle.signed_model.specs.Rule.{leftOf, normal-left}
 use Rattle.signed_check.specs.Codes.{concernsCode, leftCode, pick, placeCode, shownCode, verdictCode}

@@ -1,23 +1,22 @@
 -- The rule is exact: where all flags lie in 0 to 2,047 it says faithful exactly where the slot is, and with one clause more for every slot. Assumes nothing.
 use mathlib.Core.Path.{_≡_, refl, sym, ap, _∙_}
-use mathlib.Core.Bool.{Bool, true, false, not, cond, _&&_, _||_, true≢false}
+use mathlib.Core.Bool.{Bool, true, false, not, _&&_, _||_, true≢false}
 use mathlib.Core.Option.{Option, none, some}
-use mathlib.Core.List.{List, [], _∷_}
-use Prim.Native.Nat.{ℕ, zero, suc, _<_, _≤_}
+use Prim.Native.Nat.{ℕ}
 use native.Mathlib.Omega.{arith}
-use lib.Dec.{ltb, leb, eqb}
-use borrow.Author.Tests.{ltb-false, eqb-true, not-false}
+use lib.Dec.{leb, eqb}
+use borrow.Author.Tests.{ltb-false, eqb-true}
 use lib.ListN.{length, List·getD-eq-default}
-use lib.IntN.{ℤ, pos, negsuc}
+use lib.IntN.{pos, negsuc}
 use mir.Syntax.{w16, w32}
 use Rattle.model.specs.Limits.{entryLimit, flagCount, timeCount, variableCount}
 use Rattle.model.specs.Signed.{isZero, inRange}
-use Rattle.model.specs.Save.{Save, natAt}
+use Rattle.model.specs.Save.{Save}
 use Rattle.model.specs.Flags.{reqInside, slotInside}
 use Rattle.model.specs.Sheet.{Sheet, all, isBit, isCount, itemCount, saveOk}
-use Rattle.model.specs.Requirement.{Requirement, haveItem, missingItem, haveAtc, missingAtc, haveFlag, missingFlag, member}
+use Rattle.model.specs.Requirement.{Requirement, haveItem, missingItem, haveAtc, missingAtc, haveFlag, missingFlag}
 use Rattle.model.specs.Shop.{Slot, itemKnown, limitOf, reqKnown, slotOk}
-use Rattle.model.specs.Meaning.{allHold, filledMeaning, held, holds, meaningOf}
+use Rattle.model.specs.Meaning.{allHold, filledMeaning, holds, meaningOf}
 use Rattle.model.specs.Normal.{normal}
 use Rattle.model.specs.Laws.Checks.{and-left, and-right}
 use Rattle.faithful_model.specs.Faithful.{isFaithful}

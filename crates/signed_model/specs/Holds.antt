@@ -5,13 +5,13 @@ use mathlib.Core.List.{List, [], _∷_}
 use Prim.Native.Nat.{ℕ, zero, suc, _<_}
 use native.Mathlib.Omega.{arith}
 use lib.ListN.{getD, length}
-use lib.IntN.{ℤ, pos}
+use lib.IntN.{pos}
 use Rattle.model.specs.Signed.{isZero}
 use Rattle.model.specs.Save.{Save, natAt}
 use Rattle.model.specs.Sheet.{all}
-use Rattle.model.specs.Requirement.{Requirement, haveItem, missingItem, haveAtc, missingAtc, haveFlag, missingFlag, negateReq, sameReq, member, sorted}
+use Rattle.model.specs.Requirement.{Requirement, haveItem, missingItem, haveAtc, missingAtc, haveFlag, missingFlag, negateReq, sameReq, member}
 use Rattle.model.specs.Meaning.{held, holds, allHold}
-use Rattle.model.specs.Laws.Sets.{member-insert, same-refl}
+use Rattle.model.specs.Laws.Sets.{same-refl}
 use Rattle.faithful_model.specs.Lists.{all-member, all-of}
 use Rattle.signed_model.specs.Saves.{table}
 

@@ -1,19 +1,18 @@
 -- Where the rule says so the slot is faithful, under any save. Assumes nothing.
 use mathlib.Core.Path.{_≡_, refl, sym, ap, _∙_}
-use mathlib.Core.Bool.{Bool, true, false, not, cond, _&&_, _||_, true≢false}
+use mathlib.Core.Bool.{Bool, true, false, not, cond, _&&_, true≢false}
 use mathlib.Core.Option.{Option, none, some}
-use mathlib.Core.List.{List, [], _∷_}
-use Prim.Native.Nat.{ℕ, zero, suc}
-use lib.Dec.{ltb, leb}
-use borrow.Author.Tests.{not-true, not-false}
-use lib.IntN.{ℤ, pos, negsuc}
+use mathlib.Core.List.{List}
+use Prim.Native.Nat.{ℕ}
+use lib.Dec.{leb}
+use borrow.Author.Tests.{not-true}
 use Rattle.model.specs.Save.{Save}
-use Rattle.model.specs.Sheet.{Sheet, atcFor, saveOk}
+use Rattle.model.specs.Sheet.{Sheet}
 use Rattle.model.specs.Requirement.{Requirement, negateReq, sameReq, member, keep, settled, sorted}
-use Rattle.model.specs.Shop.{Slot, Timer, plain, five, ten, fifteen, timerOf, between, atcLimit, limitOf}
-use Rattle.model.specs.Compile.{rateOf, acquiredReq}
-use Rattle.model.specs.Meaning.{acquired, allHold, atRate, filledMeaning, holds, limitMeaning, meaningFor, meaningOf, uniqueMeaning}
-use Rattle.model.specs.Normal.{acquiredOf, filledSlot, lone, normal, normalFilled, normalFor}
+use Rattle.model.specs.Shop.{Slot, timerOf, limitOf}
+use Rattle.model.specs.Compile.{rateOf}
+use Rattle.model.specs.Meaning.{acquired, allHold, atRate, filledMeaning, holds, limitMeaning, meaningOf, uniqueMeaning}
+use Rattle.model.specs.Normal.{acquiredOf, filledSlot, lone, normal}
 use Rattle.model.specs.Laws.Checks.{and-left, and-right}
 use Rattle.model.specs.Laws.Runs.{sameReq-true}
 use Rattle.model.specs.Laws.Sets.{member-keep, same-refl}

@@ -1,10 +1,10 @@
 -- Faithful slots: the slot and its normal form mean the same under every save that fits; and the save that tells them apart where they do not. Assumes nothing: these are definitions.
 use mathlib.Core.Path.{_≡_}
-use mathlib.Core.Bool.{Bool, true, false, cond}
+use mathlib.Core.Bool.{Bool, true, cond}
 use mathlib.Core.List.{List, [], _∷_}
 use Prim.Native.Nat.{ℕ, zero, suc}
 use lib.Dec.{ltb}
-use lib.IntN.{ℤ, pos, negsuc}
+use lib.IntN.{pos}
 use Rattle.model.specs.Limits.{flagCount, timeCount, variableCount}
 use Rattle.model.specs.Save.{Save, flagInside}
 use Rattle.model.specs.Sheet.{Sheet, itemCount, saveOk}

@@ -3,22 +3,21 @@ use mathlib.Core.Path.{_≡_, refl, sym, ap, _∙_}
 use mathlib.Core.Bool.{Bool, true, false, not, cond, _&&_}
 use mathlib.Core.Option.{Option, none, some}
 use mathlib.Core.List.{List, [], _∷_, map}
-use Prim.Native.Nat.{ℕ, zero, suc, _<_, _≤_}
+use Prim.Native.Nat.{ℕ, zero, suc, _≤_}
 use native.Mathlib.Omega.{arith}
 use lib.Dec.{leb}
 use borrow.Author.Tests.{leb-true, le-leb}
 use lib.ListN.{getD, length, length-map}
 use lib.IntN.{ℤ, pos}
 use Rattle.model.specs.Limits.{entryLimit, slotCount}
-use Rattle.model.specs.Refusal.{check, firstOf}
 use Rattle.model.specs.Save.{Save}
-use Rattle.model.specs.Sheet.{Sheet, all, saveRefusal, sheetRefusal}
+use Rattle.model.specs.Sheet.{Sheet, all}
 use Rattle.model.specs.Requirement.{Requirement, keep, member, negateReq, settled, sorted}
-use Rattle.model.specs.Shop.{Slot, itemKnown, limitOf, padded, reqKnown, shopRefusal, slotOk, withSlots}
+use Rattle.model.specs.Shop.{Slot, itemKnown, limitOf, padded, reqKnown, slotOk, withSlots}
 use Rattle.model.specs.Flags.{insideFor, reqInside, shopInside, slotInside}
 use Rattle.model.specs.Meaning.{meaningOf, orOld, tempAfter}
 use Rattle.model.specs.Normal.{acquiredOf, filledSlot, lone, normal, normalFor, normalShop}
-use Rattle.model.specs.Preview.{previewCall, previewOf}
+use Rattle.model.specs.Preview.{previewCall}
 use Rattle.model.specs.Laws.Checks.{and-left, and-right}
 use Rattle.model.specs.Laws.Normal.{sorted-length}
 use Rattle.faithful_model.specs.Faithful.{isFaithful}

@@ -1,23 +1,23 @@
 -- Where the rule says no, the save that has all that the normal form requires and nothing else tells the two apart. Assumes nothing.
 use mathlib.Core.Path.{_≡_, refl, sym, ap, _∙_}
-use mathlib.Core.Bool.{Bool, true, false, not, cond, _&&_, _||_, true≢false}
+use mathlib.Core.Bool.{Bool, true, false, not, cond, _&&_, true≢false}
 use mathlib.Core.Option.{Option, none, some}
-use mathlib.Core.List.{List, [], _∷_}
-use Prim.Native.Nat.{ℕ, zero, suc, _<_}
+use mathlib.Core.List.{List}
+use Prim.Native.Nat.{ℕ, _<_}
 use native.Mathlib.Omega.{arith}
-use lib.Dec.{ltb, leb, eqb}
-use borrow.Author.Tests.{not-true, not-false, ltb-true, eq-eqb}
-use lib.ListN.{getD, length}
+use lib.Dec.{leb, eqb}
+use borrow.Author.Tests.{not-false, ltb-true, eq-eqb}
+use lib.ListN.{length}
 use lib.IntN.{ℤ, pos, negsuc}
 use mir.Syntax.{w16, w32}
 use Rattle.model.specs.Limits.{flagCount, timeCount, variableCount}
-use Rattle.model.specs.Signed.{eqZ, isZero, inRange}
+use Rattle.model.specs.Signed.{isZero, inRange}
 use Rattle.model.specs.Save.{Save, natAt, intAt}
 use Rattle.model.specs.Sheet.{Sheet, all, atcFor, isBit, isCount, itemCount, saveOk}
 use Rattle.model.specs.Requirement.{Requirement, haveItem, missingItem, haveAtc, missingAtc, haveFlag, missingFlag, negateReq, member}
 use Rattle.model.specs.Shop.{Slot, Timer, plain, five, ten, fifteen, timerOf, limitOf}
 use Rattle.model.specs.Compile.{rateOf, acquiredReq}
-use Rattle.model.specs.Meaning.{Meaning, acquired, allHold, atRate, filledMeaning, held, hidden, holds, limitMeaning, meaningOf, uniqueMeaning}
+use Rattle.model.specs.Meaning.{acquired, allHold, atRate, filledMeaning, held, hidden, holds, limitMeaning, meaningOf, uniqueMeaning}
 use Rattle.model.specs.Normal.{acquiredOf, normal}
 use Rattle.model.specs.Laws.Checks.{and-left, and-right}
 use Rattle.faithful_model.specs.Faithful.{isFaithful, noPair}

@@ -1,5 +1,5 @@
 -- The steps of writing a heading, how long it is, and what the call answers. Assumes nothing.
-use mathlib.Core.Path.{_≡_, refl, ap, sym, _∙_}
+use mathlib.Core.Path.{_≡_, refl, ap, _∙_}
 use mathlib.Core.Bool.{true, false}
 use mathlib.Core.Option.{Option}
 use mathlib.Core.List.{List, [], _∷_, _++_, map, append-assoc}
@@ -12,7 +12,7 @@ use lib.Seq.{sets, sets-eq}
 use Rattle.model.specs.Limits.{fewestItems, mostItems, mostAtcs}
 use Rattle.model.specs.Reading.{word}
 use Rattle.model.specs.Laws.Checks.{and-left, and-right}
-use Rattle.model.specs.Sheet.{itemCount, atcKnown, all, sheetOk}
+use Rattle.model.specs.Sheet.{atcKnown, all, sheetOk}
 use Rattle.model.specs.Files.{over}
 use Rattle.model.specs.Printer.{atcEntry}
 use Rattle.shop.specs.Shapes.{sheetOf}
@@ -21,7 +21,6 @@ use Rattle.image_numbers.specs.Lengths.{word-1}
 use Rattle.image_numbers.specs.Stored.{Stored, Room}
 use Rattle.image_write.specs.Call.{wrote}
 use Rattle.image_write.specs.Loop.{Pieces}
-use Rattle.slots_sheet.specs.Outcome.{Head}
 use Rattle.slots_heading.specs.Bytes.{entryOf, atcsBytes, headBytes, writeHead, headLength, headBy}
 use Rattle.slots_heading.specs.RoundTrip.{entry-number, entry-known, Judged, judged}
 

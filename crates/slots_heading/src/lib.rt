@@ -1,8 +1,7 @@
 // The writer of what stands before an image in the input of slots: the sheet and the setup number, as slots_sheet reads them.
 ghost use mathlib.Core.Path.{_≡_};
-ghost use Prim.Native.Nat.{_+_, _≤_, _<_};
+ghost use Prim.Native.Nat.{_+_, _<_};
 ghost use lib.ListN.{length};
-ghost use Rattle.model.specs.Limits.{mostItems};
 ghost use Rattle.model.specs.Reading.{word};
 ghost use Rattle.image_numbers.specs.Stored.{Stored, Room};
 ghost use Rattle.image_write.specs.Call.{wrote};

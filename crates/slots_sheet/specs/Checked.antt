@@ -7,11 +7,10 @@ use Prim.Native.Nat.{ℕ, zero, suc}
 use lib.Dec.{ltb, leb, eqb}
 use lib.ListN.{length}
 use Rattle.model.specs.Limits.{fewestItems, mostItems, mostAtcs, wide}
-use Rattle.model.specs.Refusal.{check, badSheet}
 use Rattle.model.specs.Reading.{Answer, got, number}
 use Rattle.model.specs.Laws.Reading.{refused≢got, split, got-value}
 use Rattle.model.specs.Sheet
-use Rattle.model.specs.Sheet.{atcKnown, all, timersOk, sheetOk, sheetRefusal}
+use Rattle.model.specs.Sheet.{atcKnown, all, timersOk, sheetOk}
 use Rattle.model.specs.Printer.{must, atcEntry, readAtcs, readTimers, readSheet}
 
 -- what a test let through
@@ -70,7 +69,3 @@ read-sheet-ok s {h} e =
     let k = atcs-known (u .value) (v .value) (v .rest) (w .first) in
     let t = timers-known (w .value) (v .value) (w .rest) (w .then) in
     parts-ok h (u .value) (v .value) (w .value) (t .0) (t .1) (k .0) (a .0) (b .0) (k .1) (t .2)
-
--- check 1 never refuses it
-pub read-sheet-passes : (s : List ℕ) {h : Sheet.Sheet} {r : List ℕ} → readSheet s ≡ got h r → sheetRefusal h ≡ 0
-read-sheet-passes s e = ap (λ (b : Bool). check b badSheet) (read-sheet-ok s e)

@@ -2,7 +2,7 @@
 use mathlib.Core.Path.{_≡_, refl, sym, ap, _∙_}
 use mathlib.Core.Bool.{Bool, true, false, cond}
 use mathlib.Core.List.{List}
-use Prim.Native.Nat.{ℕ, zero, suc, _≤_}
+use Prim.Native.Nat.{ℕ, zero, suc}
 use native.Mathlib.Omega.{arith}
 use borrow.Author.Tests.{leb-true, leb-false}
 use lib.Dec.{leb}
@@ -18,7 +18,7 @@ use Rattle.model.specs.Printer.{refusedText, answerText, parsedText, slots}
 use Rattle.memory.specs.Sound.{Long}
 use Rattle.shop.specs.Shapes.{slotsOf}
 use Rattle.shop_arrays.specs.Arrays.{Arrays, shopFrom}
-use Rattle.image_read.specs.Outcome.{Outcome, outcome, readInto}
+use Rattle.image_read.specs.Outcome.{outcome, readInto}
 use Rattle.image_read.specs.declared.Image.the-variants.{Read}
 use Rattle.parse.specs.Answer.{ParsedInto}
 use Rattle.slots_sheet.specs.Outcome.{Head, readHead}

@@ -19,7 +19,7 @@ use Rattle.model.specs.declared.Op2.the-variants.{Equal, NotEqual, Less, LessEq
 use Rattle.model.specs.declared.Op1.{Op1}
 use Rattle.model.specs.declared.Op1.the-variants.{Not, Flag, Variable, Item, Atc, Time}
 use Rattle.model.specs.Reading.{zig}
-use Rattle.model.specs.Requirement.{Requirement, haveItem, missingItem, haveAtc, missingAtc, haveFlag, missingFlag, before, extend, insert, keep, member, negateReq, sameReq, settled}
+use Rattle.model.specs.Requirement.{Requirement, haveItem, missingItem, haveAtc, missingAtc, haveFlag, missingFlag, extend, insert, keep, member, negateReq, settled}
 use Rattle.model.specs.Sheet.{Sheet, all, itemCount}
 use Rattle.model.specs.Parse.{addReq, compareReq, gather, idBelow, ifZero, isJoin, isNot, join, mapReq, parseRequirement, parseRequirements, readReq, signed, value}
 use Rattle.model.specs.Laws.Checks.{and-left, and-right}

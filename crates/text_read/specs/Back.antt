@@ -2,15 +2,15 @@
 use mathlib.Core.Path.{_≡_, refl, ap, _∙_}
 use mathlib.Core.Bool.{true, _&&_}
 use mathlib.Core.Option.{Option, none, some}
-use mathlib.Core.List.{List, [], _∷_, _++_, map}
+use mathlib.Core.List.{List, [], _∷_, map}
 use Prim.Native.Nat.{ℕ, _-_, _≤_}
 use native.Mathlib.Omega.{arith}
 use borrow.Author.Tests.{ltb-true, leb-true}
-use lib.Dec.{leb, eqb}
+use lib.Dec.{leb}
 use lib.ListN.{length, replicate, length-append, length-map, length-replicate}
 use lib.Seq.{take-at}
 use mir.Syntax.{w16}
-use Rattle.model.specs.Limits.{slotCount, entryLimit}
+use Rattle.model.specs.Limits.{entryLimit}
 use Rattle.model.specs.Laws.Checks.{and-left, and-right}
 use Rattle.model.specs.Requirement.{Requirement}
 use Rattle.model.specs.Sheet.{all}
@@ -20,8 +20,7 @@ use Rattle.shop_codes.specs.Codes.{codeOf, requirementOf, AllNarrow}
 use Rattle.shop_codes.specs.Laws.{codes-stand}
 use Rattle.shop.specs.Shapes.{itemOf, entries, slotOf, slotsOf}
 use Rattle.shop.specs.Slots.{entries-take}
-use Rattle.text_model.specs.Text.{readText, slots, itemPrintable, reqPrintable, slotPrintable}
-use Rattle.text_model.specs.Inverse.{read-printable}
+use Rattle.text_model.specs.Text.{itemPrintable, reqPrintable, slotPrintable}
 use Rattle.text_read.specs.Shops.{itemFor, rowFor, slotFor, shopFor}
 
 -- ---- one slot
@@ -67,6 +66,3 @@ slots-back (x ∷ xs) h = rw (slot-back x (and-left (slotPrintable x) _ h), slot
 pub shop-back : (xs : List Shop.Slot) → all slotPrintable xs ≡ true → slotsOf (shopFor xs) ≡ xs
 unfolding slotsOf
 shop-back xs h = slots-back xs h
-
-pub read-back : (s : List ℕ) (xs : List Shop.Slot) → readText s ≡ slots xs → slotsOf (shopFor xs) ≡ xs
-read-back s xs e = shop-back xs (and-right (eqb (length xs) slotCount) _ (read-printable s xs e))

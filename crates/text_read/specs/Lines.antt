@@ -89,9 +89,6 @@ word-none = record { same = refl; low = omega arith }
 pub word-some : (v n : ℕ) → IsNumber wide16 v n → IsItem (v + 1) (some n)
 word-some v n i = let q : v + 1 ≡ suc n = omega (arith, i .same) in record { same = rw q; low = omega (arith, i .low) }
 
-pub word-zero : (w : ℕ) → w ≡ 0 → wordItem 0 ≡ wordItem w
-word-zero w e = rw e
-
 pub word-suc : (w : ℕ) → (w ≡ 0 → ⊥) → wordItem (suc (w - 1)) ≡ wordItem w
 word-suc zero h = absurd (h refl)
 word-suc (suc w) h = ap (λ k. wordItem (suc k)) (omega arith)

@@ -1,5 +1,5 @@
 -- `lk_settings` meets its contract: the call on the sheet and the slot that the numbers stand for. Assumes nothing.
-use mathlib.Core.Path.{_≡_, ap, _∙_}
+use mathlib.Core.Path.{ap, _∙_}
 use mir.Syntax.{w16, w32}
 use mir.Facts.{toZ-ofZ}
 use Rattle.shop.specs.Shapes.{sheetOf, slotOf}

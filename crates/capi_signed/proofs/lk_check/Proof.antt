@@ -1,5 +1,5 @@
 -- `lk_check` meets its contract: the call on the sheet that the numbers stand for. Assumes nothing.
-use mathlib.Core.Path.{_≡_, ap, _∙_}
+use mathlib.Core.Path.{ap, _∙_}
 use Rattle.shop.specs.Shapes.{sheetOf, slotsOf}
 use Rattle.shop.specs.declared.Sheet.{Sheet}
 use Rattle.shop_arrays.specs.Arrays.{arraysIn, shopFrom}

@@ -1,7 +1,7 @@
 -- `shorts_known` meets its contract. The loop's invariant: every number passed is one of 16 bits, since it was read. Assumes nothing.
 use Rattle.shop.proofs.All.{Tested, start, more, done}
 use Rattle.model.specs.Signed.{inRange}
-use mir.Syntax.{w16, w32}
+use mir.Syntax.{w16}
 use borrow.Author.Tests.{lt-ltb}
 use lib.IntN.{pos}
 use lib.ListN.{length}

@@ -1,5 +1,5 @@
 -- `acquired_of` meets its contract: by the item's atc, if it has one. Assumes nothing.
-use mathlib.Core.Path.{_≡_, sym, ap, _∙_}
+use mathlib.Core.Path.{sym, ap, _∙_}
 use Rattle.shop.specs.Shapes.{atcAt, atcIs}
 use Rattle.compile_slots.specs.Context.{acquired-item, acquired-atc}
 use borrow.Author.Needs.{needs}

@@ -1,5 +1,3 @@
-use Rattle.compile_emit.specs.BlockLaws.{blocks-put, room-first, room-rest}
-use Rattle.compile_slots.specs.Cases.{limit-none, limit-some, filled-none, filled-some}
 use borrow.Author.Tests.{le-leb, lt-leb}
 use native.Mathlib.Omega.{arith}
 use Rattle.compile_slots.proofs.compile_slot_item.Statement.{statement}

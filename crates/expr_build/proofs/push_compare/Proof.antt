@@ -3,7 +3,6 @@ use mir.Syntax.{w32}
 use mir.Facts.{toZ-ofZ}
 use Rattle.expr_negate.specs.InPlace.{one-put}
 use Rattle.expr_build.specs.Laws.{two-put, imm-put}
-use native.Mathlib.Omega.{arith}
 use borrow.Author.Needs.{needs}
 use Rattle.expr_build.proofs.push_compare.Statement.{statement}
 use Rattle.expr_build.proofs.push_compare.Tie as tie

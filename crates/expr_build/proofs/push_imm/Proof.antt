@@ -1,4 +1,3 @@
-use mathlib.Core.Path.{_≡_}
 use mir.Syntax.{w32}
 use mir.Facts.{toZ-ofZ}
 use Rattle.expr_build.specs.Laws.{imm16-put, imm32-put, imm-below, imm-above, imm-between, put-imm}

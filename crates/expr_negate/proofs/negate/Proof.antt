@@ -1,6 +1,6 @@
 -- `expr_negate::negate` meets its contract: a Not on top of what passes for a sum, and anything else flipped where it stands. Assumes nothing.
 use Prim.Native.Nat.{_-_}
-use mathlib.Core.Path.{_≡_, ap, sym, _∙_}
+use mathlib.Core.Path.{ap, sym, _∙_}
 use native.Mathlib.Omega.{arith}
 use Rattle.expr_negate.specs.Turns.{isSum, operatorOf}
 use Rattle.expr_negate.specs.InPlace.{last-low, last-room, last-lies, over, over-negated, place-negated}

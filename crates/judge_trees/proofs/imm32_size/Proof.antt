@@ -1,6 +1,5 @@
 -- `trees::imm32_size` meets its contract: any number of 32 bits is below the limit. Assumes nothing.
 use Rattle.judge_trees.specs.Codes.{number-32}
-use borrow.Author.Needs.{needs}
 use Rattle.judge_trees.proofs.imm32_size.Statement.{statement}
 use Rattle.judge_trees.proofs.imm32_size.Tie as tie
 

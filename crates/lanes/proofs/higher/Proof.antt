@@ -2,7 +2,6 @@
 use native.Mathlib.Omega.{arith}
 use mathlib.Core.Path.{refl}
 use mathlib.Core.Logic.{inl, inr}
-use borrow.Author.Needs.{needs}
 use Rattle.lanes.proofs.higher.Statement.{statement}
 use Rattle.lanes.proofs.higher.Tie as tie
 

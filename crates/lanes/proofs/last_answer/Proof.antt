@@ -1,6 +1,5 @@
 -- `last_answer` meets its contract. Assumes nothing.
 use Rattle.lanes.specs.Walks.{last-standing, last-ended}
-use borrow.Author.Needs.{needs}
 use Rattle.lanes.proofs.last_answer.Statement.{statement}
 use Rattle.lanes.proofs.last_answer.Tie as tie
 

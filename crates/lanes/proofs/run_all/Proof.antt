@@ -3,10 +3,7 @@ use mathlib.Core.Path.{sym, _∙_}
 use Rattle.memory.specs.View.{memoryOf}
 use Rattle.checks.specs.Calls.{saveOf}
 use Rattle.shop.specs.Shapes.{sheetOf}
-use Rattle.runner.proofs.Checks.{call-ready}
-use Rattle.lanes_model.specs.Laws.Walks.{walk-passed-in}
-use Rattle.lanes.proofs.Saves.{call-safe, saves-lie, saves-long}
-use Rattle.lanes.proofs.Left.{left-refused, left-walked}
+use Rattle.lanes.proofs.Left.{left-refused}
 use borrow.Author.Needs.{needs}
 use Rattle.lanes.proofs.run_all.Statement.{statement}
 use Rattle.lanes.proofs.run_all.Tie as tie

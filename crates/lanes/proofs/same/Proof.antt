@@ -1,6 +1,5 @@
 -- `same` meets its contract. Assumes nothing.
 use borrow.Author.Tests.{eq-eqb, ne-eqb}
-use borrow.Author.Needs.{needs}
 use Rattle.lanes.proofs.same.Statement.{statement}
 use Rattle.lanes.proofs.same.Tie as tie
 

@@ -1,12 +1,9 @@
 -- `apply_in` meets its contract: each arm is its operator. Assumes nothing.
-use mathlib.Core.Path.{_≡_, sym, ap, _∙_}
-use mathlib.Core.List.{List}
-use lib.IntN.{ℤ, pos}
+use mathlib.Core.Path.{_≡_, _∙_}
+use lib.IntN.{ℤ}
 use mir.Syntax.{w32}
 use mir.Val.{SFits, toZ, ofZ}
 use mir.Facts.{toZ-ofZ}
-use Rattle.model.specs.Save.{Save}
-use Rattle.model.specs.Expr.{apply1}
 use Rattle.model.specs.declared.Op1.{Op1}
 use Rattle.expr.specs.Value as value
 use Rattle.lanes_expr.specs.Lanes.{applyIn}

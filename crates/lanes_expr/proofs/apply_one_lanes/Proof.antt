@@ -1,6 +1,5 @@
 -- `apply_one_lanes` meets its contract: Not is a comparison with 0, and the loop of the rest asks for no operator. Assumes nothing.
 use mathlib.Core.List.{List}
-use Prim.Native.Nat.{ℕ}
 use lib.IntN.{ℤ, pos}
 use Rattle.model.specs.Expr.{apply2}
 use Rattle.model.specs.declared.Op1.{Op1}

@@ -1,7 +1,6 @@
 -- `flag_stop` meets its contract: by the test that it makes. Assumes nothing.
 use mathlib.Core.Path.{_≡_, sym, ap, _∙_}
 use mathlib.Core.Bool.{Bool, true, false, cond}
-use Prim.Native.Nat.{ℕ}
 use mir.Facts.{toZ-ofZ}
 use Rattle.model.specs.Refusal.{noFlag}
 use borrow.Author.Needs.{needs}

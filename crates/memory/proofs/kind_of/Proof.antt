@@ -4,12 +4,10 @@ use Rattle.model.specs.Image.{kindOf, kinds}
 use native.Mathlib.Decide.{decLe}
 use lib.ListN.{getD, List·getD-eq-default}
 use Rattle.model.specs.declared.Kind.the-variants.{Other}
-use Prim.Native.Nat.{ℕ, suc, _≤_, _<_, zero-le}
+use Prim.Native.Nat.{ℕ, suc, _≤_, zero-le}
 use lib.Arith.{lt-of-le-ne}
 use Rattle.memory.proofs.kind_of.Statement.{statement}
 use Rattle.memory.proofs.kind_of.Tie as tie
-use Rattle.memory.proofs.kind_of.Reads as reads
-use Rattle.memory.proofs.kind_of.Lts as lts
 
 -- one number more is passed
 up : {i n : ℕ} → i ≤ n → (n ≡ i → ⊥) → suc i ≤ n

@@ -12,15 +12,15 @@ use borrow.Author.Tests.{lt-ltb, eqb-true}
 use Rattle.model.specs.Limits.{slotCount}
 use Rattle.model.specs.Sheet.{Sheet, all, sheetRefusal}
 use Rattle.model.specs.Shop.{Slot, slotOk, withSlots}
-use Rattle.model.specs.Script.{Script, blockAt, isCode}
+use Rattle.model.specs.Script.{Script, blockAt}
 use Rattle.model.specs.Judge.{callRefusal, scriptRefusal, sharedRefusal}
 use Rattle.model.specs.Compile.{Call, appended, compileRefusal, compiled, redirect, slotsBlocks}
 use Rattle.model.specs.Lists.{NoneAppended, acceptedAt, afterAll, compiles, lastAt, latest}
-use Rattle.model.specs.Laws.Checks.{and-left, and-right, compile-passed, setup-code, shared-passed}
-use Rattle.model.specs.Laws.Compiled.{Linked, code-once, grows, here-linked, kept-once, lastOf-is, linked-once}
+use Rattle.model.specs.Laws.Checks.{and-left, and-right, compile-passed}
+use Rattle.model.specs.Laws.Compiled.{Linked, grows, here-linked, kept-once, lastOf-is, linked-once}
 use Rattle.model.specs.Laws.FitBlocks.{length-padded}
 use Rattle.model.specs.Laws.Judged.{kept-judged}
-use Rattle.model.specs.Laws.Lists.{along-any, kept-all, stays}
+use Rattle.model.specs.Laws.Lists.{kept-all, stays}
 
 -- b is one of the first n blocks, and xs the shop accepted last there
 pub record ShopAt (h : Sheet) (n : ℕ) (sc : Script) (b : ℕ) (xs : List Slot) : Type 0 where
@@ -114,33 +114,3 @@ module _ (h : Sheet) (start : Script) where
 
     pub kept-blocks : (b : ℕ) → b < n → lastAt (compiles h) start cs b ≡ none → blockAt (afterAll (compiles h) start cs .blocks) b ≡ blockAt (start .blocks) b
     kept-blocks b l e = subst (Held (afterAll (compiles h) start cs) b) e (held-all b) .1 l
-
-    pub grows-all : n ≤ length (afterAll (compiles h) start cs .blocks)
-    grows-all = held-all 0 .0
-
-  -- ---- a block that the list appended passes the checks of run and parse
-
-  abbrev Passes : Script → ℕ → Option (List Slot) → Type 0
-  Passes sc b o = n ≤ b → b < length (sc .blocks) → callRefusal h sc b ≡ 0
-
-  passes-once : (sc : Script) (c : Call) (b k : ℕ) (o : Option (List Slot)) → Unit {0} → _≡_ {A = Option ℕ} (some b) (some k) → Passes sc b o → Passes (compiled h sc c) k (latest (compiles h) sc c b o)
-  unfolding compiled
-  passes-once sc c b k o u e q =
-      let z : b ≡ k = cc in
-      subst (λ (j : ℕ). Passes (compiled h sc c) j (latest (compiles h) sc c b o)) z (by (eqb (compileRefusal h sc c) 0) refl)
-    where
-      was-code : n ≤ b → b < length (sc .blocks) → isCode (blockAt (sc .blocks) b) ≡ true
-      was-code p l = setup-code sc b (shared-passed h (scriptRefusal sc) sc b (q p l) .2)
-
-      passed : sheetRefusal h ≡ 0 → scriptRefusal (appended h sc c) ≡ 0 → b < length (appended h sc c .blocks) → isCode (blockAt (appended h sc c .blocks) b) ≡ true → callRefusal h (appended h sc c) b ≡ 0
-      passed s j l t = unfold sharedRefusal in rw (s, j, lt-ltb b (length (appended h sc c .blocks)) l, t) refl
-
-      by : (t : Bool) → eqb (compileRefusal h sc c) 0 ≡ t → n ≤ b → b < length (cond t (appended h sc c) sc .blocks) → callRefusal h (cond t (appended h sc c) sc) b ≡ 0
-      by true w = λ p l.
-          let a : compileRefusal h sc c ≡ 0 = eqb-true _ _ w in
-          passed (compile-passed h (scriptRefusal sc) 0 sc c a .sheet) (kept-judged h sc c a) l (code-once h sc c b (was-code p) l)
-      by false w = q
-
-  pub appended-passes : (cs : List Call) (b : ℕ) → n ≤ b → b < length (afterAll (compiles h) start cs .blocks) → callRefusal h (afterAll (compiles h) start cs) b ≡ 0
-  appended-passes cs b =
-      kept-all (compiles h) (λ s c. Unit {0}) Passes passes-once start cs (along-any (compiles h) start cs) b b none (stays (compiles h) (λ s c j. refl) start cs b) (λ p l. absurd (omega arith))

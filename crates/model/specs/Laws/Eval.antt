@@ -1,12 +1,11 @@
 -- A compiled test is 1 or 0 as its requirement holds, or 23 where that has a flag outside the save, whatever BitAnd and BitOr make of other values than 1 and 0. Assumes nothing.
-use mathlib.Core.Path.{_≡_, refl, sym, ap, _∙_, subst}
+use mathlib.Core.Path.{_≡_, refl, ap, _∙_}
 use mathlib.Core.Bool.{Bool, true, false, not, cond, _&&_, _||_, and-true, Bool·not-not}
 use mathlib.Core.Option.{Option, none, some}
 use mathlib.Core.List.{List, [], _∷_}
-use Prim.Native.Nat.{ℕ, zero, suc, _-_, _+_, _<_, _≤_}
-use lib.ListN.{getD, set}
-use lib.Dec.{T, ltb, leb, eqb}
-use lib.IntN.{ℤ, pos, negsuc, _-ℤ_}
+use Prim.Native.Nat.{ℕ, zero, suc, _-_, _≤_}
+use lib.ListN.{getD}
+use lib.IntN.{ℤ, pos, negsuc}
 use native.Mathlib.Omega.{arith}
 use mir.Syntax.{w16}
 use Rattle.model.specs.Refusal.{noFlag}

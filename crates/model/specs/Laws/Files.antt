@@ -1,7 +1,7 @@
 -- Both round trips in the terms of the calls: what was read and written again, what was written and read again. Assumes nothing.
-use mathlib.Core.Path.{_≡_, refl, sym, ap, _∙_}
+use mathlib.Core.Path.{_≡_, refl}
 use mathlib.Core.List.{List, []}
-use Prim.Native.Nat.{ℕ, _≤_}
+use Prim.Native.Nat.{ℕ}
 use native.Mathlib.Omega.{arith}
 use Rattle.model.specs.Limits.{commandLimit, nodeLimit}
 use Rattle.model.specs.Script.{Block, Script}

@@ -1,12 +1,9 @@
 -- Lists of calls: what every call keeps holds after the list, refused calls leave no trace, and a list of calls that do what other calls do ends as theirs. Assumes nothing.
 use mathlib.Core.Path.{_≡_, refl, sym, ap, _∙_, subst, fun-ext}
-use mathlib.Core.Bool.{Bool, true, false, cond}
 use mathlib.Core.Option.{Option, none, some}
 use mathlib.Core.List.{List, [], _∷_, map}
 use Prim.Native.Nat.{ℕ}
 use native.Mathlib.Omega.{arith}
-use lib.Dec.{eqb}
-use borrow.Author.Tests.{eqb-true, eqb-false}
 use Rattle.model.specs.Shop.{Slot}
 use Rattle.model.specs.Lists.{Step, following, afterAll, latest, lastFrom, nowAt, Along, NoneAppended}
 
@@ -39,45 +36,6 @@ module _ {S C : Type 0} (X : Step S C) where
             → K (afterAll X (X .next s c) cs) k (following n (λ j. lastFrom X (latest X s c b o) (X .next s c) cs j))
         by none w e ih = absurd (none≢some e)
         by (some j) w e ih = ih j e (keeps s c b j o (p .0) w q)
-
-  -- I, which every call keeps, gives Q of each call
-  pub along-kept : (P Q : S → C → Type 0) (I : S → Type 0) → ((s : S) (c : C) → P s c → I s → Q s c × I (X .next s c)) → (s : S) → I s → (cs : List C) → Along X P s cs → Along X Q s cs
-  unfolding Along
-  along-kept P Q I k s i [] p = tt
-  along-kept P Q I k s i (c ∷ cs) p = let q = k s c (p .0) i in (q .0, along-kept P Q I k (X .next s c) (q .1) cs (p .1))
-
-  -- the calls that were accepted
-  unfoldable pub taken : S → List C → List C
-  taken s [] = []
-  taken s (c ∷ cs) = cond (eqb (X .refusal s c) 0) (c ∷ taken (X .next s c) cs) (taken (X .next s c) cs)
-
-  -- without the others the list ends the same
-  pub record NoTrace (s : S) (cs ds : List C) : Type 0 where
-    pub after : afterAll X s cs ≡ afterAll X s ds
-    pub last : (o : Option (List Slot)) (b : ℕ) → lastFrom X o s cs b ≡ lastFrom X o s ds b
-    pub accepted : Along X (λ s c. X .refusal s c ≡ 0) s ds
-
-  -- where a refused call leaves the script and the numbers of its blocks
-  module _ (next : (s : S) (c : C) → (X .refusal s c ≡ 0 → ⊥) → X .next s c ≡ s) (now : (s : S) (c : C) (b : ℕ) → (X .refusal s c ≡ 0 → ⊥) → X .now s c b ≡ some b) where
-    pub no-trace : (s : S) (cs : List C) → NoTrace s cs (taken s cs)
-    unfolding taken afterAll lastFrom Along
-    no-trace s [] = record { after = refl; last = λ o b. refl; accepted = tt }
-    no-trace s (c ∷ cs) = by (eqb (X .refusal s c) 0) refl (no-trace (X .next s c) cs)
-      where
-        by : (t : Bool) → eqb (X .refusal s c) 0 ≡ t → NoTrace (X .next s c) cs (taken (X .next s c) cs) → NoTrace s (c ∷ cs) (cond t (c ∷ taken (X .next s c) cs) (taken (X .next s c) cs))
-        by true e q = record {
-          after = q .after;
-          last = λ o b. ap (following (X .now s c b)) (fun-ext (λ k. q .last (latest X s c b o) k));
-          accepted = (eqb-true _ _ e, q .accepted);
-        }
-        by false e q =
-            let d = eqb-false _ _ e in
-            let i = next s c d in
-            record {
-              after = q .after ∙ ap (λ (t : S). afterAll X t (taken (X .next s c) cs)) i;
-              last = λ o b. rw (now s c b d, e) (q .last o b ∙ ap (λ (t : S). lastFrom X o t (taken (X .next s c) cs) b) i);
-              accepted = subst (λ (t : S). Along X (λ s c. X .refusal s c ≡ 0) t (taken (X .next s c) cs)) i (q .accepted);
-            }
 
 -- a call of X, where P holds of it, does to a script of X what another of Y does to a script of Y that R relates to it
 pub record Follows {S C T D : Type 0} (X : Step S C) (Y : Step T D) (call : C → D) (P : S → C → Type 0) (R : S → T → Type 0) : Type 0 where

@@ -1,16 +1,16 @@
 -- The parseBlock over the list of withSlots. Assumes nothing.
-use mathlib.Core.Path.{_≡_, refl, sym, ap, _∙_, subst}
-use mathlib.Core.Bool.{Bool, true, false, not, cond, _&&_, _||_}
+use mathlib.Core.Path.{_≡_, refl, _∙_}
+use mathlib.Core.Bool.{Bool, true, false, cond}
 use mathlib.Core.Option.{Option, none, some}
-use mathlib.Core.List.{List, [], _∷_, _++_, map}
-use Prim.Native.Nat.{ℕ, zero, suc, _-_, _+_, _*_, _%_, _<_, _≤_}
+use mathlib.Core.List.{List, [], _∷_, map}
+use Prim.Native.Nat.{ℕ, zero, suc, _-_, _+_, _<_, _≤_}
 use native.Mathlib.Omega.{arith}
-use native.Mathlib.Nat.{mod-eq-of-lt, add-zero}
-use lib.ListN.{getD, set, length, length-set, replicate}
-use lib.Seq.{getD-set-same, getD-set-other}
-use lib.Dec.{T, ltb, leb, eqb}
+use native.Mathlib.Nat.{add-zero}
+use lib.ListN.{getD, set, length}
+use lib.Seq.{getD-set-same}
+use lib.Dec.{T, ltb, leb}
 use borrow.Author.Tests.{lt-ltb, ne-eqb, leb-false}
-use lib.IntN.{ℤ, pos, negsuc}
+use lib.IntN.{ℤ, pos}
 use mir.Syntax.{w16}
 use Rattle.model.specs.Limits.{mostStock, half16}
 use Rattle.model.specs.Signed.{cut16}

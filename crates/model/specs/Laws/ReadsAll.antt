@@ -13,10 +13,10 @@ use Rattle.model.specs.Limits.{slotCount}
 use Rattle.model.specs.Sheet.{Sheet, all}
 use Rattle.model.specs.Shop.{Slot, emptySlot, slotOk}
 use Rattle.model.specs.Script.{Block}
-use Rattle.model.specs.Compile.{redirect, rootOf, slotsBlocks}
+use Rattle.model.specs.Compile.{redirect, rootOf}
 use Rattle.model.specs.Parse.{State, parse, parseBlock, visited}
 use Rattle.model.specs.Normal.{normal}
-use Rattle.model.specs.Laws.Compiled.{Linked, lastOf-is}
+use Rattle.model.specs.Laws.Compiled.{Linked}
 use Rattle.model.specs.Laws.Normal.{SheetOk, slots-normal, slots-ok}
 use Rattle.model.specs.Laws.Reads.{AllOk, End, Reads, Start, readBack, slots-read}
 use Rattle.model.specs.Laws.Walks.{mk}
@@ -34,9 +34,6 @@ module _ (h : Sheet) (n : ℕ) (bs : List Block) (b : ℕ) (xs : List Slot) (b-l
 
   fresh-marks : List Bool
   fresh-marks = replicate (length bs) false
-
-  b-in : b < length bs
-  b-in = omega (arith, link .low, link .inside, lastOf-is (link .home) (slotsBlocks h (link .home) 0 xs))
 
   unmarked : (j : ℕ) → getD fresh-marks j false ≡ false
   unfolding fresh-marks

@@ -1,16 +1,13 @@
 -- The parser's parseBlock over a slot's blocks. Assumes nothing.
-use mathlib.Core.Path.{_≡_, refl, sym, ap, _∙_, subst}
-use mathlib.Core.Bool.{Bool, true, false, not, cond, _&&_, _||_}
-use mathlib.Core.Logic.{_≢_}
+use mathlib.Core.Path.{_≡_, refl, ap, _∙_}
+use mathlib.Core.Bool.{Bool, true, false}
 use mathlib.Core.Option.{Option, none, some}
-use mathlib.Core.List.{List, [], _∷_, _++_}
-use Prim.Native.Nat.{ℕ, zero, suc, _-_, _+_, _*_, _<_, _≤_}
+use mathlib.Core.List.{List, [], _∷_}
+use Prim.Native.Nat.{ℕ, zero, suc, _-_, _+_, _<_}
 use native.Mathlib.Omega.{arith}
-use lib.ListN.{getD, set, length, length-set, replicate}
-use lib.Seq.{getD-set-same, getD-set-other, set-set, set-getD}
-use lib.Dec.{T, ltb, leb, eqb}
-use borrow.Author.Tests.{le-ltb, lt-ltb, ne-eqb, eq-eqb}
-use lib.IntN.{ℤ, pos, negsuc}
+use lib.ListN.{getD, set, length, replicate}
+use borrow.Author.Tests.{le-ltb, lt-ltb, ne-eqb}
+use lib.IntN.{ℤ, pos}
 use Rattle.model.specs.Limits.{countFirst, itemFirst, slotCount}
 use Rattle.model.specs.Signed.{cut16}
 use Rattle.model.specs.Expr.{Expr, imm16, one, two}

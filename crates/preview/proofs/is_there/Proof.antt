@@ -1,11 +1,8 @@
 -- `is_there` meets its contract, by what the requirement is about. Assumes nothing.
 use mathlib.Core.Path.{sym, ap, _∙_}
 use mathlib.Core.Bool.{not}
-use lib.IntN.{ℤ}
 use mir.Syntax.{w32}
 use mir.Facts.{toZ-ofZ}
-use Rattle.model.specs.Signed.{isZero}
-use Rattle.model.specs.Save.{natAt}
 use Rattle.shop_codes.specs.Codes.{subjectIs}
 use Rattle.shop_codes.specs.Subjects.{subject-low}
 use Rattle.checks.specs.Calls.{saveOf}

@@ -10,7 +10,7 @@ use lib.ListN.{getD, length, length-append, replicate, length-replicate, getD-re
 use lib.Seq.{getD-append-add}
 use borrow.Author.Tests.{ne-eqb}
 use Rattle.model.specs.Limits.{mostCompiles}
-use Rattle.model.specs.Refusal.{check, firstOf, bornLater}
+use Rattle.model.specs.Refusal.{firstOf, bornLater}
 use Rattle.model.specs.Sheet.{Sheet}
 use Rattle.model.specs.Shop.{shopRefusal}
 use Rattle.model.specs.Judge.{callRefusal, scriptRefusal}

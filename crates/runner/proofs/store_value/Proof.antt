@@ -1,5 +1,4 @@
 -- `store_value` meets its contract: by what the target and the value are worth. Assumes nothing.
-use mathlib.Core.Path.{_≡_}
 use mir.Val.{SFits}
 use mir.Facts.{toZ-ofZ}
 use mir.Syntax.{w32}

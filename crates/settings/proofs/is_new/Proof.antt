@@ -1,5 +1,5 @@
 -- `is_new` meets its contract. Assumes nothing.
-use mathlib.Core.Path.{_≡_, sym, _∙_}
+use mathlib.Core.Path.{sym, _∙_}
 use lib.ListN.{take}
 use borrow.Author.Tests.{not-true, not-false}
 use Rattle.settings.specs.Counting.{new-last, new-own, new-there}

@@ -1,5 +1,4 @@
 -- `is_own` meets its contract. Assumes nothing.
-use mathlib.Core.Path.{_≡_}
 use borrow.Author.Tests.{not-true, not-false}
 use Rattle.settings.specs.Counting.{own-last, own-none, own-same}
 use borrow.Author.Needs.{needs}

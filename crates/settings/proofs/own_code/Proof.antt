@@ -1,5 +1,5 @@
 -- `own_code` meets its contract: by the item's atc, if it has one. Assumes nothing.
-use mathlib.Core.Path.{_≡_, sym, ap, _∙_}
+use mathlib.Core.Path.{sym, ap, _∙_}
 use Rattle.shop.specs.Shapes.{atcIs}
 use Rattle.settings.specs.Codes.{atc-code, item-code, own-code}
 use borrow.Author.Needs.{needs}

@@ -1,9 +1,8 @@
 -- `flag_in` meets its contract: −1 less what the number lies below −1. Assumes nothing.
-use mathlib.Core.Path.{_≡_, sym, ap, _∙_}
+use mathlib.Core.Path.{sym, ap, _∙_}
 use mir.Syntax.{w32}
 use mir.Facts.{toZ-ofZ, toZ-pos}
 use lib.IntN.{negsuc}
-use Rattle.shop_codes.specs.Codes.{half}
 use Rattle.shop_codes.specs.Laws.{unshift-low, unshift-high}
 use Rattle.shop_codes.specs.Subjects.{turned}
 use Prim.Native.Nat.{_-_}

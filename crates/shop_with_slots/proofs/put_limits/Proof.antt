@@ -1,7 +1,7 @@
 -- `put_limits` meets its contract. The loop's invariant: the first i limits are put. Assumes nothing.
 use mir.Syntax.{w16}
 use mir.Facts.{toZ-ofZ}
-use lib.IntN.{pos, negsuc}
+use lib.IntN.{pos}
 use Prim.Native.Nat.{_-_, _≤_}
 use native.Mathlib.Omega.{arith}
 use Rattle.model.specs.Limits.{slotCount}

@@ -1,8 +1,6 @@
 -- `add_left` meets its contract, whether the code passes or not. Assumes nothing.
-use mathlib.Core.Path.{_≡_, refl, sym, ap, _∙_}
-use Prim.Native.Nat.{ℕ, _+_}
+use mathlib.Core.Path.{refl, sym, _∙_}
 use native.Mathlib.Omega.{arith}
-use borrow.Author.Tests.{not-true, not-false}
 use borrow.Author.Needs.{needs}
 use Rattle.signed_check.proofs.add_left.Statement.{statement}
 use Rattle.signed_check.proofs.add_left.Tie as tie

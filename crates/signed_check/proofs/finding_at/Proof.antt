@@ -1,7 +1,5 @@
 -- `finding_at` meets its contract, by the item of the slot. Assumes nothing.
-use mathlib.Core.Path.{_≡_, refl, sym, ap, _∙_}
-use mathlib.Core.Bool.{true}
-use Prim.Native.Nat.{ℕ}
+use mathlib.Core.Path.{refl, sym, ap, _∙_}
 use lib.ListN.{length}
 use Rattle.model.specs.Requirement.{sorted}
 use Rattle.model.specs.Sheet as Model

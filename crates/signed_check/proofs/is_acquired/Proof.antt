@@ -1,6 +1,5 @@
 -- `is_acquired` meets its contract. Assumes nothing.
 use borrow.Author.Tests.{not-true, not-false}
-use borrow.Author.Needs.{needs}
 use Rattle.signed_check.proofs.is_acquired.Statement.{statement}
 use Rattle.signed_check.proofs.is_acquired.Tie as tie
 

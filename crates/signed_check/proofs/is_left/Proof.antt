@@ -1,8 +1,7 @@
 -- `is_left` meets its contract: its tests answer in their order. Assumes nothing.
-use mathlib.Core.Path.{_≡_, refl, sym, ap, _∙_}
+use mathlib.Core.Path.{sym, ap, _∙_}
 use Prim.Native.Nat.{ℕ}
 use lib.ListN.{take}
-use borrow.Author.Tests.{not-true, not-false}
 use Rattle.settings.specs.Codes.{lacksCode}
 use Rattle.signed_check.specs.Codes.{left-last, left-missing, left-own}
 use borrow.Author.Needs.{needs}

@@ -1,5 +1,5 @@
 -- `is_outside` meets its contract: below the codes of flags there is none, from there on by its number. Assumes nothing.
-use mathlib.Core.Path.{_≡_, refl, sym, ap, _∙_}
+use mathlib.Core.Path.{ap, _∙_}
 use mathlib.Core.Bool.{not}
 use native.Mathlib.Omega.{arith}
 use mir.Syntax.{w32}

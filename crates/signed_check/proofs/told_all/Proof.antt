@@ -1,14 +1,11 @@
 -- `told_all` meets its contract. The loop's invariant: what is told of the slots passed is there. Assumes nothing.
-use mathlib.Core.Path.{_≡_, refl, sym, ap, _∙_}
-use mathlib.Core.List.{List}
-use Prim.Native.Nat.{ℕ, _-_, _≤_}
+use mathlib.Core.Path.{_≡_}
+use Prim.Native.Nat.{_-_}
 use native.Mathlib.Omega.{arith}
-use lib.IntN.{ℤ}
 use Rattle.model.specs.Limits.{slotCount}
 use Rattle.model.specs.Sheet as Model
-use Rattle.model.specs.Shop.{slotOk}
-use Rattle.shop.specs.Shapes.{noSlot, sheetOf, slotOf, slotsOf}
-use Rattle.shop_arrays.specs.Arrays.{Arrays, arraysIn, shopFrom, slotAt}
+use Rattle.shop.specs.Shapes.{sheetOf}
+use Rattle.shop_arrays.specs.Arrays.{Arrays, arraysIn}
 use Rattle.signed_check.specs.Shops.{Filled, filled-more, filled-none, slot-passed, told-shop, toldAt}
 use borrow.Author.Needs.{needs}
 use Rattle.signed_check.proofs.told_all.Statement.{statement}

@@ -1,9 +1,8 @@
 -- `verdict_of` meets its contract, by the places found. Assumes nothing.
-use mathlib.Core.Path.{_≡_, refl, sym, ap, _∙_}
+use mathlib.Core.Path.{_≡_, ap}
 use native.Mathlib.Omega.{arith}
 use lib.ListN.{length, take}
 use lib.Seq.{length-take-le}
-use borrow.Author.Tests.{not-true, not-false}
 use Rattle.signed_check.specs.Answer.{verdictOf}
 use Rattle.signed_check.specs.Codes.{verdict-any, verdict-outside, verdict-own, verdict-own-none, verdict-pair}
 use borrow.Author.Needs.{needs}
