@@ -63,7 +63,7 @@ fn done(line: &[u8], a: &mut Words, t: &mut Answer, tally: Tally) -> Tally {
     if kind == b'B' || kind == b'L' {
         asked(kind, a, t);
     }
-    tell(line, colon, a, t, tally)
+    tell(b"BL", line, colon, a, t, tally)
 }
 
 // Every other slot has item 7, of which none is taken.

@@ -145,7 +145,7 @@ fn done(
     Held {
         kept: k,
         image: len,
-        tally: tell(line, colon, a, t, tally),
+        tally: tell(b"ACIJPRTW", line, colon, a, t, tally),
     }
 }
 

@@ -188,15 +188,15 @@ pub fn none() -> Tally {
     Tally { cases: 0, good: 0 }
 }
 
-// Says of a case whether t is the answer that its line has. A line that says no answer is no case.
-pub fn tell(line: &[u8], colon: usize, a: &Words, t: &Answer, tally: Tally) -> Tally {
+// Says of a case whether t is the answer that its line has; of a letter that is none of those it is not. A line that says no answer is no case.
+pub fn tell(of: &[u8], line: &[u8], colon: usize, a: &Words, t: &Answer, tally: Tally) -> Tally {
     if a[SAID] == 0 {
         return tally;
     }
     if line.len() <= colon {
         return tally;
     }
-    let good = as_said(a, t);
+    let good = as_said(a, t) && stands_in(of, letter(line));
     put(&line[colon + 1..]);
     verdict(t, good);
     Tally {
@@ -215,6 +215,17 @@ fn as_said(a: &Words, t: &Answer) -> bool {
         i += 1;
     }
     true
+}
+
+fn stands_in(letters: &[u8], b: u8) -> bool {
+    let mut i: usize = 0;
+    while i < letters.len() {
+        if letters[i] == b {
+            return true;
+        }
+        i += 1;
+    }
+    false
 }
 
 fn verdict(t: &Answer, good: bool) {

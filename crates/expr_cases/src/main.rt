@@ -79,7 +79,7 @@ fn done(
         b'N' => negated(a, ws, val, t),
         _ => (),
     }
-    tell(line, colon, a, t, tally)
+    tell(b"EN", line, colon, a, t, tally)
 }
 
 // ---- a row of nodes

@@ -67,7 +67,7 @@ fn done(line: &[u8], a: &mut Words, t: &mut Answer, tally: Tally) -> Tally {
         b'A' => t[0] = first_wrong() as u32,
         _ => (),
     }
-    tell(line, colon, a, t, tally)
+    tell(b"AF", line, colon, a, t, tally)
 }
 
 // What the filter keeps of the words of a line, reduced to what it asks for.

@@ -46,7 +46,7 @@ fn done(line: &[u8], a: &mut Words, t: &mut Answer, tally: Tally) -> Tally {
     let op = letter(line);
     t[0] = ints::to_bits(answer(op, a[1], a[2]));
     t[1] = bit(op == b'T' && ints::from_bits(a[1]) < 0);
-    tell(line, colon, a, t, tally)
+    tell(b"ABCFHNORST", line, colon, a, t, tally)
 }
 
 fn answer(op: u8, x: u32, y: u32) -> i32 {

@@ -98,7 +98,7 @@ fn done(
     if op == b'W' {
         walked(a, ws, val, cw, bw, t);
     }
-    tell(line, colon, a, t, tally)
+    tell(b"W", line, colon, a, t, tally)
 }
 
 // ---- the script

@@ -123,7 +123,7 @@ fn done(
     let op = letter(line);
     put_right(op == b'R', a, rights);
     step(op, a, rights, items, limits, codes, lens, t);
-    tell(line, colon, a, t, tally)
+    tell(b"ESVW", line, colon, a, t, tally)
 }
 
 fn step(

@@ -49,7 +49,7 @@ fn done(line: &[u8], a: &mut Words, t: &mut Answer, tally: Tally) -> Tally {
     if letter(line) == b'S' {
         asked(a, t);
     }
-    tell(line, colon, a, t, tally)
+    tell(b"S", line, colon, a, t, tally)
 }
 
 // The first items of eight, of which item 1 has atc 0 and item 6 atc 1.

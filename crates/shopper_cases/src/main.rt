@@ -64,7 +64,7 @@ fn done(line: &[u8], a: &mut Words, t: &mut Answer, tally: Tally) -> Tally {
     if letter(line) == b'S' {
         asked(a, t);
     }
-    tell(line, colon, a, t, tally)
+    tell(b"S", line, colon, a, t, tally)
 }
 
 // ---- a shopper

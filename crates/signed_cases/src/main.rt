@@ -55,7 +55,7 @@ fn done(line: &[u8], a: &mut Words, t: &mut Answer, tally: Tally) -> Tally {
     if letter(line) == b'S' {
         asked(a, t);
     }
-    tell(line, colon, a, t, tally)
+    tell(b"S", line, colon, a, t, tally)
 }
 
 // Eight items, of which item 6 has atc 1. Slot 0 has item 7, limit 3 and F2, slot 1 what the line says; the others are empty. A requirement that the line does not give is I0.
