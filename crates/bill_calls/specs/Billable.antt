@@ -6,7 +6,7 @@ use mathlib.Core.List.{List}
 use Prim.Native.Nat.{ℕ, _≤_}
 use lib.Dec.{eqb}
 use lib.IntN.{ℤ}
-use lib.ListN.{length, length-map}
+use lib.ListN.{length}
 use borrow.Author.Tests.{eqb-true}
 use Rattle.model.specs.Limits.{slotCount}
 use Rattle.model.specs.Save.{Save}
@@ -17,16 +17,14 @@ use Rattle.model.specs.RecordCalls.{Born, bornAt, compileRefusalIn, recordRefus
 use Rattle.model.specs.Lists.{Along, acceptedAt, afterAll, lastAt, latest, nowAt}
 use Rattle.model.specs.Laws.Checks.{and-left, and-right, compile-passed}
 use Rattle.model.specs.Laws.Lists.{kept-all, none≢some}
-use Rattle.shop.specs.Shapes.{slotsOf, slotOf}
-use Rattle.shop_arrays.specs.Arrays.{Arrays, shopFrom}
-use Rattle.shop_arrays.specs.Slots.{slots-long}
+use Rattle.shop_arrays.specs.Arrays.{shopFrom}
 use Rattle.compile.specs.Answer.{callOf, CompiledAs}
 use Rattle.preview.specs.Accepted.{with-all}
 use Rattle.reclaim_record.specs.Demand.{Given}
 use Rattle.reclaim_record.specs.Stands.{LongBorn}
 use Rattle.capi.specs.declared.Ran.{Ran}
 use Rattle.capi.specs.Answers.{loaderBy, ranAs}
-use Rattle.library.specs.Delivered.{Asked, AsPromised, Made, compile, means-of, givenBy, made, reclaim, shopOf}
+use Rattle.library.specs.Delivered.{Asked, AsPromised, Made, compile, means-of, givenBy, made, reclaim, shopOf, shop-long}
 use Rattle.bill_model.specs.Tariff.{Tariff, tariffRefusal}
 use Rattle.bill_model.specs.Bill.{leaves}
 use Rattle.bill_model.specs.Sorting.{billByItem}
@@ -37,11 +35,6 @@ use Rattle.bill.specs.Billed.{BilledAs}
 -- ---- the shop accepted last at a block passed 1 and 8
 
 module _ (h : Sheet) where
-  -- arrays stand for twenty slots
-  shop-long : (a : Arrays) → length (shopOf a) ≡ slotCount
-  unfolding slotsOf
-  shop-long a = length-map (shopFrom a .slots) slotOf ∙ slots-long a
-
   asked-given : (k : Born) (x : Made) (a : Asked) → x .asked ≡ a → AsPromised h k x → (b : ℕ) → eqb (x .answer .refusal) 0 ≡ true → made .names x b ≡ true → Given h (givenBy a)
   unfolding compileRefusalIn
   asked-given k x (compile o b a) e p j z n =

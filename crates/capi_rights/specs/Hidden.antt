@@ -1,19 +1,19 @@
--- What lk_show leaves in memory tells nothing of a slot that the user may not see: two starts with the same words in the slots that the user sees are shown in the same words after the same edits. Assumes nothing.
+-- What lk_show leaves in memory tells nothing of a slot that the user may not see: two starts with the same-arrays words in the slots that the user sees are shown in the same-arrays words after the same-arrays edits. Assumes nothing.
 use mathlib.Core.Path.{_≡_, refl, sym, ap, _∙_}
 use mathlib.Core.Bool.{Bool, true, false, cond}
 use mathlib.Core.List.{List, [], _∷_, map}
 use Prim.Native.Nat.{ℕ, zero, suc, _+_, _*_, _/_, _%_, _<_}
 use native.Mathlib.Omega.{arith}
 use native.Mathlib.Decide.{ℕ-discrete}
-use lib.IntN.{ℤ, pos}
+use lib.IntN.{pos}
 use lib.ListN.{drop, getD, length}
 use lib.Seq.{ext-getD}
 use Rattle.model.specs.Limits.{entryLimit, slotCount}
 use Rattle.model.specs.Sheet as Model
 use Rattle.rights_model.specs.Rights.{Table, editRefusal}
 use Rattle.rights_model.specs.Fields.{allowed}
-use Rattle.shop_arrays.specs.Arrays.{Arrays, arraysIn}
-use Rattle.shop_arrays.specs.Back.{Full}
+use Rattle.shop_arrays.specs.Arrays.{Arrays}
+use Rattle.shop_arrays.specs.Back.{Full, same-arrays}
 use Rattle.shop_arrays.specs.Slots.{row-at}
 use Rattle.rights.specs.InArrays.{Answer, Contents, arraysEdited, arraysShown, arraysWith, editedAs, fieldFrom, firstShown, placeFor}
 use Rattle.capi_rights.specs.Words.{changedWords, noWords, shown-first, shown-full, with-other, with-own, wordsAt}
@@ -26,14 +26,11 @@ pub record AlikeWords (t : Table) (u : ℕ) (a b : Arrays) : Type 0 where
   pub full′ : Full b
   pub alike : (i : ℕ) → i < slotCount → t u i .see ≡ true → wordsAt a i ≡ wordsAt b i
 
--- ---- arrays with the same words are the same
-
-same : {is js ls ms : List ℤ} {cs ds ns ps : List ℕ} → is ≡ js → ls ≡ ms → cs ≡ ds → ns ≡ ps → arraysIn is ls cs ns ≡ arraysIn js ms ds ps
-same e f g h = rw (e, f, g, h)
+-- ---- arrays with the same-arrays words are the same-arrays
 
 arrays-same : (a b : Arrays) → Full a → Full b → ((i : ℕ) → i < slotCount → wordsAt a i ≡ wordsAt b i) → a ≡ b
 arrays-same a b f g h =
-    same
+    same-arrays
     (ext-getD (pos 0) (a .items) (b .items) (f .items ∙ sym (g .items)) (λ i l. ap (λ (x : Contents). x .item) (h i (omega (arith, f .items)))))
     (ext-getD (pos 0) (a .limits) (b .limits) (f .limits ∙ sym (g .limits)) (λ i l. ap (λ (x : Contents). x .limit) (h i (omega (arith, f .limits)))))
     (ext-getD 0 (a .codes) (b .codes) (f .codes ∙ sym (g .codes)) (λ k l. code k (omega (arith, f .codes))))

@@ -15,17 +15,13 @@ use borrow.Author.Tests.{ltb-true, le-leb}
 use Rattle.model.specs.Refusal.{firstOf}
 use Rattle.model.specs.Signed.{inRange}
 use Rattle.model.specs.Sheet.{Sheet, sheetOk, saveOk, all, isCount, isBit}
-use Rattle.model.specs.Reading.{refused}
 use Rattle.model.specs.Judge.{setupRefusal, sharedRefusal}
 use Rattle.model.specs.Memory.{Memory, scriptOf}
-use Rattle.model.specs.Record.{judgedRecord}
 use Rattle.model.specs.RecordCalls.{callIn, recordRefusal}
+use Rattle.model.specs.Laws.Checks.{first-alone}
 use Rattle.checks.specs.Calls.{saveOf}
 use Rattle.shop.specs.Shapes.{sheetOf}
 use Rattle.shop.specs.declared.Sheet as code
-use Rattle.judge_record.specs.Stages.{Accepted, JudgedAs}
-use Rattle.judge_record.specs.declared.Judged.{Judged}
-use Rattle.judge_record.specs.declared.Judged.the-variants.{Fine, No}
 
 -- ---- check 12
 
@@ -49,14 +45,6 @@ save-is ks h items atcs flags times vars = rw length-map
 
 -- ---- the judge's answer
 
-pub fine-got : (m : Memory) {r : Judged} {n : ℕ} → JudgedAs m r → r ≡ Fine n → Accepted m n
-unfolding JudgedAs
-fine-got m {r} {n} j e = subst (JudgedAs m) e j
-
-pub no-got : (m : Memory) {r : Judged} {k : ℕ} → JudgedAs m r → r ≡ No k → judgedRecord m ≡ refused k
-unfolding JudgedAs
-no-got m {r} {k} j e = subst (JudgedAs m) e j
-
 -- ---- the call
 
 module _ (h : Sheet) (m : Memory) (b : ℕ) where
@@ -74,8 +62,4 @@ module _ (h : Sheet) (m : Memory) (b : ℕ) where
 
   pub call-setup : (k : ℕ) → sheetOk h ≡ true → recordRefusal m ≡ 0 → k ≡ setupRefusal (scriptOf m) b → k ≡ callIn h m b
   unfolding callIn sharedRefusal
-  call-setup k e p q = rw (e, p) (q ∙ go (setupRefusal (scriptOf m) b))
-    where
-      go : (k : ℕ) → k ≡ firstOf (k ∷ [])
-      go zero = refl
-      go (suc k) = refl
+  call-setup k e p q = rw (e, p) (q ∙ first-alone (setupRefusal (scriptOf m) b))

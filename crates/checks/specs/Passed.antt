@@ -6,9 +6,9 @@ use Prim.Native.Nat.{ℕ, zero, suc, _+_, _*_, _≤_, _<_}
 use native.Mathlib.Omega.{arith}
 use native.Mathlib.Decide.{decLe, ℕ-discrete}
 use lib.Dec.{ltb}
-use lib.ListN.{getD, length}
+use lib.ListN.{getD, length, length-map}
 use borrow.Author.Tests.{lt-ltb, le-ltb}
-use Rattle.model.specs.Limits.{blockLimit}
+use Rattle.model.specs.Limits.{blockLimit, mostItems}
 use Rattle.model.specs.Refusal.{firstOf, check}
 use Rattle.model.specs.Sheet.{Sheet, sheetOk, sheetRefusal}
 use Rattle.model.specs.Script.{Block, blockAt, isCode}
@@ -21,6 +21,9 @@ use Rattle.model.specs.RecordCalls.{callIn, recordRefusal}
 use Rattle.model.specs.Laws.Checks.{passed, shared-passed}
 use Rattle.memory.specs.RecordLaws.{length-blocksIn, block-at, proper-record}
 use Rattle.memory.specs.Transfer.{judged-kept}
+use Rattle.shop.specs.declared.Sheet as Given
+use Rattle.shop.specs.Shapes.{sheetOf}
+use Rattle.shop.specs.Slots.{items-few}
 
 -- ---- checks 6 and 7
 
@@ -100,3 +103,8 @@ module _ (h : Sheet) (m : Memory) (b : ℕ) (e : callIn h m b ≡ 0) where
         inside = l;
         code = code-passed l (ℕ-discrete (getD (m .words) (5 * b) 0) 1);
       }
+
+-- a sheet that passes has few items
+pub items-low : (ks : List ℕ) (s : Given.Sheet) (m : Memory) (b : ℕ) → callIn (sheetOf ks s) m b ≡ 0 → length ks ≤ mostItems
+unfolding sheetOf
+items-low ks s m b e = let a = items-few (sheetOf ks s) (call-passed (sheetOf ks s) m b e .sheet) in rw length-map at a

@@ -20,6 +20,7 @@ use Rattle.model.specs.Compile.{compileChecks, slotsBlocks, shopBlocks, freshBl
 use Rattle.model.specs.RecordCalls.{Born, bornAt, oneCompile, callIn, compileRefusalIn, appendedIn, birthsAfter, compiledIn}
 use Rattle.model.specs.Laws.Checks.{first-passed, passed, room-passed}
 use Rattle.model.specs.Laws.Judged.{room-low}
+use Rattle.model.specs.Laws.Compiled.{lastOf-is}
 use Rattle.memory.specs.Sound.{Room}
 use Rattle.memory.specs.Transfer.{blocks-counted}
 use Rattle.shop.specs.Shapes.{slotsOf}
@@ -27,7 +28,6 @@ use Rattle.shop.specs.Sets.{AllExact}
 use Rattle.shop.specs.Slots.{shop-exact, with-all}
 use Rattle.shop.specs.declared.Shop.{Shop}
 use Rattle.compile_emit.specs.Put.{PutBlocks}
-use Rattle.compile_slots.specs.Slots.{last-of}
 use Rattle.checks.specs.Passed.{call-passed}
 use Rattle.compile.specs.Answer.{callOf, CompiledAs}
 
@@ -119,7 +119,7 @@ module _ (h : Model.Sheet) (k : Born) (o : Loader) (b : ℕ) (s : Shop) (twenty 
   unfolding redirectIn shopBlocks
   linked t p =
       let root : ℕ = lastOf (m .count) (slotsBlocks h (m .count) 0 (slotsOf s)) in
-      let l : t .count ≡ suc root = omega (arith, p .counted, last-of (m .count) (slotsBlocks h (m .count) 0 (slotsOf s))) in
+      let l : t .count ≡ suc root = omega (arith, p .counted, lastOf-is (m .count) (slotsBlocks h (m .count) 0 (slotsOf s))) in
       rw (with-all s twenty, blocks-counted m, ← p .is, ← l) refl
 
   -- the marks from the count of before to that of now

@@ -3,7 +3,7 @@ use mathlib.Core.Path.{_≡_, refl, ap, ap₂, _∙_}
 use mathlib.Core.Bool.{Bool, true, false, cond}
 use mathlib.Core.List.{List, [], _∷_, map}
 use Prim.Native.Nat.{ℕ, zero, suc, _+_, _-_}
-use native.Mathlib.Numerals.{add-one}
+use native.Mathlib.Numerals.{add-one, add-two, add-three, add-four}
 use native.Mathlib.Omega.{arith}
 use lib.Dec.{leb}
 use lib.IntN.{ℤ}
@@ -22,20 +22,11 @@ use Rattle.expr_build.specs.AcquiredLaws.{missing-none}
 use Rattle.compile_slots.specs.declared.ItemContext.{ItemContext}
 use Rattle.compile_slots.specs.Parts.{isFive, enableOf, uniqueBy, uniqueOf, limitBy, limitIn, soldOf, filledBy, filledOf, Stands, Listed}
 
-plus2 : (n : ℕ) → n + 2 ≡ suc (suc n)
-plus2 n = omega arith
-
-plus3 : (n : ℕ) → n + 3 ≡ suc (suc (suc n))
-plus3 n = omega arith
-
 plus1-1 : (n : ℕ) → n + 1 + 1 ≡ suc (suc n)
 plus1-1 n = omega arith
 
 plus3-1 : (n : ℕ) → n + 3 + 1 ≡ suc (suc (suc (suc n)))
 plus3-1 n = omega arith
-
-plus4 : (n : ℕ) → n + 4 ≡ suc (suc (suc (suc n)))
-plus4 n = omega arith
 
 -- the first of some requirements and the others
 first-rest : (cs : List ℕ) (n : ℕ) → length cs ≡ entryLimit → map requirementOf (take (suc n) cs) ≡ requirementOf (getD cs 0 0) ∷ codesRest cs (suc n)
@@ -49,7 +40,7 @@ unfolding joinTests test itemTest
 enable-same x cs h v plain k n f a b e = rw (f, e)
 enable-same x cs h v ten k n f a b e = rw (f, e)
 enable-same x cs h v fifteen k n f a b e = rw (f, e)
-enable-same x cs h v five k n f a b e = rw (f, e, a, b, add-one n, plus2 n)
+enable-same x cs h v five k n f a b e = rw (f, e, a, b, add-one n, add-two n)
 
 module _ (x : ItemContext) (cs : List ℕ) (h : Model.Sheet) (z : ℤ) (rs : List Requirement) (s : Stands x h z) (d : Listed cs (x .len) rs) where
   missing-is : negate (acquiredOf (x .acquired)) ≡ negate (acquiredExpr h (x .item .0))
@@ -93,13 +84,13 @@ module _ (x : ItemContext) (cs : List ℕ) (h : Model.Sheet) (z : ℤ) (rs : Lis
           s .acquired,
           plus3-1 (x .end .0),
           add-one (x .end .0),
-          plus2 (x .end .0),
-          plus3 (x .end .0),
+          add-two (x .end .0),
+          add-three (x .end .0),
         )
 
     limit-by-some : hideBlock (x .end .0) (x .index) ∷ limitBy (suc n) x cs ≡ limitBlocks (x .index) (x .end .0) (x .item .0) (x .limit) (r ∷ rest)
     unfolding limitBlocks r rest
-    limit-by-some = rw (some, add-one (x .end .0), plus2 (x .end .0), plus4 (x .end .0))
+    limit-by-some = rw (some, add-one (x .end .0), add-two (x .end .0), add-four (x .end .0))
 
     sold-some : hideBlock (x .end .0) (x .index) ∷ soldOf x cs ≡ filledBlocks h (x .index) (x .end .0) (x .item .0) (x .limit) (r ∷ rest)
     sold-some = by (leb (x .limit) 1)

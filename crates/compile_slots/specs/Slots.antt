@@ -10,7 +10,8 @@ use Rattle.model.specs.Memory.{Memory, putBlock, putBlocks}
 use Rattle.model.specs.Sheet as Model
 use Rattle.model.specs.Shop.{Slot, emptySlot}
 use Rattle.model.specs.Laws.Sound.{sum-append}
-use Rattle.model.specs.Compile.{slotBlocks, slotsBlocks, lastOf}
+use Rattle.model.specs.Compile.{slotBlocks, slotsBlocks}
+use Rattle.model.specs.Laws.Compiled.{lastOf-is}
 use Rattle.shop.specs.declared.Slot as Given
 use Rattle.shop.specs.Shapes.{slotOf, slotsOf, noSlot}
 use Rattle.shop_arrays.specs.Arrays as Arrays
@@ -53,10 +54,6 @@ pub nothing-put : {s : Memory} → PutBlocks s [] s
 unfolding putBlocks
 nothing-put = record { is = refl; counted = omega arith; commands-counted = omega arith; nodes-counted = omega arith }
 
-pub last-of : (e : ℕ) (xs : List Block) → lastOf e xs ≡ e + length xs
-last-of e [] = omega arith
-last-of e (x ∷ xs) = omega (arith, last-of (suc e) xs)
-
 -- ---- slot i after the slots above it
 
 module _ (h : Model.Sheet) (e : ℕ) (ys : List Slot) where
@@ -68,7 +65,7 @@ module _ (h : Model.Sheet) (e : ℕ) (ys : List Slot) where
 
   pub from-step : (i : ℕ) → i < length ys → from i ≡ from (suc i) ++ slotAt i
   unfolding slotsBlocks
-  from-step i l = rw (drop-cons ys i emptySlot l, last-of e (from (suc i)))
+  from-step i l = rw (drop-cons ys i emptySlot l, lastOf-is e (from (suc i)))
 
   pub from-end : (i : ℕ) → length ys ≤ i → from i ≡ []
   unfolding slotsBlocks

@@ -8,10 +8,11 @@ use lib.IntN.{ℤ}
 use Rattle.model.specs.Signed.{isZero}
 use Rattle.model.specs.Expr.{Expr, two, one, imm16, imm32, other, negate}
 use Rattle.model.specs.Sheet.{Sheet, itemCount}
-use Rattle.model.specs.Requirement.{Requirement, haveItem, missingItem, haveAtc, missingAtc, haveFlag, missingFlag, negateReq, insert}
+use Rattle.model.specs.Requirement.{Requirement, negateReq, insert}
 use Rattle.model.specs.Parse.{value, mapReq, ifZero, parseRequirement, addReq, gather}
 use Rattle.model.specs.declared.Op2.the-variants.{Equal, NotEqual, Less, LessEqual, Greater, GreaterEqual, Add, Subtract, BitAnd, BitOr}
 use Rattle.model.specs.declared.Op1.the-variants.{Not, Flag, Variable, Item, Atc, Time}
+use Rattle.model.specs.Laws.Normal.{neg-neg}
 use Rattle.expr.specs.declared.MaybeNumber.{MaybeNumber}
 use Rattle.expr.specs.declared.MaybeNumber.the-variants.{Is, Nothing}
 
@@ -26,14 +27,6 @@ numberOf (Is z) = some z
 
 -- ---- a negated condition: the parser needs no memory for it
 
-pub negate-twice : (q : Requirement) → negateReq (negateReq q) ≡ q
-negate-twice (haveItem i) = refl
-negate-twice (missingItem i) = refl
-negate-twice (haveAtc a) = refl
-negate-twice (missingAtc a) = refl
-negate-twice (haveFlag f) = refl
-negate-twice (missingFlag f) = refl
-
 -- the negation with the one sign is the requirement with the other
 add-negated : (n : Bool) (v : Option ℤ) (o : Option Requirement) (rs : List Requirement) → addReq n (ifZero v (mapReq negateReq o)) rs ≡ addReq (not n) (ifZero v o) rs
 add-negated n none o rs = refl
@@ -42,7 +35,7 @@ add-negated n (some z) o rs = go (isZero z) n o
     go : (b n : Bool) (o : Option Requirement) → addReq n (cond b (mapReq negateReq o) none) rs ≡ addReq (not n) (cond b o none) rs
     go false n o = refl
     go true n none = refl
-    go true true (some q) = ap (λ (x : Requirement). insert x rs) (negate-twice q)
+    go true true (some q) = ap (λ (x : Requirement). insert x rs) (neg-neg q)
     go true false (some q) = refl
 
 add-plain : (n : Bool) (v : Option ℤ) (o : Option Requirement) (rs : List Requirement) → addReq n (ifZero v o) rs ≡ addReq (not n) (ifZero v (mapReq negateReq o)) rs

@@ -1,10 +1,9 @@
 -- The tree of a node: it is its node over its operands' trees, and hangs on nothing above them. Assumes nothing.
-use mathlib.Core.Path.{_≡_, refl, ap₂, _∙_}
-use mathlib.Core.Bool.{Bool, true, false}
-use Prim.Native.Nat.{ℕ, zero, suc, _+_, _≤_, _<_}
-use native.Mathlib.Nat.{lt-of-lt-of-le, le-of-suc-le-suc, le-refl, not-suc-le-zero}
+use mathlib.Core.Path.{_≡_, ap₂, _∙_}
+use Prim.Native.Nat.{ℕ, suc, _+_, _≤_, _<_}
+use native.Mathlib.Nat.{le-refl}
 use native.Mathlib.Omega.{arith}
-use borrow.Author.Tests.{ltb-true, lt-ltb, le-ltb}
+use borrow.Author.Tests.{lt-ltb, le-ltb}
 use lib.Dec.{ltb}
 use Rattle.model.specs.Expr.{Expr, two, one, imm16, imm32, other}
 use Rattle.model.specs.Image.{kindOf}
@@ -13,6 +12,7 @@ use Rattle.model.specs.declared.Op2.{Op2}
 use Rattle.model.specs.declared.Op1.{Op1}
 use Rattle.model.specs.declared.Kind.{Kind}
 use Rattle.model.specs.declared.Kind.the-variants.{Two, One, Imm16, Imm32, Other}
+use Rattle.memory.specs.NodeLaws.{tree-enough, operand-same}
 
 -- ---- a node over its operands
 
@@ -32,31 +32,12 @@ pub below-out : (ns : Nodes) (b i : ℕ) → b ≤ i → treeBelow ns b i ≡ ot
 unfolding treeBelow
 below-out ns b i h = rw (le-ltb i b h)
 
--- operands need agree only where they lie below
-operand-eq : (i l : ℕ) (a b : Expr) → (l < i → a ≡ b) → operand (ltb l i) a ≡ operand (ltb l i) b
-operand-eq i l a b h = go (ltb l i) refl
-  where
-    go : (t : Bool) → ltb l i ≡ t → operand t a ≡ operand t b
-    go true e = h (ltb-true l i e)
-    go false e = refl
-
--- any depth above i will do
-enough : (ns : Nodes) (k j i : ℕ) → i < k → i < j → treeTo ns k i ≡ treeTo ns j i
-unfolding treeTo
-enough ns zero j i h g = absurd (not-suc-le-zero h)
-enough ns (suc k) zero i h g = absurd (not-suc-le-zero g)
-enough ns (suc k) (suc j) i h g =
-    let each : (l : ℕ) → l < i → treeTo ns k l ≡ treeTo ns j l = λ l lt. enough ns k j l (lt-of-lt-of-le lt (le-of-suc-le-suc h)) (lt-of-lt-of-le lt (le-of-suc-le-suc g)) in
-    ap₂ (λ (a b : Expr). nodeOf (kindOf (codeAt ns i)) a b (valueAt ns i))
-    (operand-eq i (leftAt ns i) _ _ (each (leftAt ns i)))
-    (operand-eq i (rightAt ns i) _ _ (each (rightAt ns i)))
-
 pub tree-node : (ns : Nodes) (i : ℕ) → tree ns i ≡ nodeOf (kindOf (codeAt ns i)) (treeBelow ns i (leftAt ns i)) (treeBelow ns i (rightAt ns i)) (valueAt ns i)
 unfolding tree treeTo treeBelow
 tree-node ns i =
     ap₂ (λ (a b : Expr). nodeOf (kindOf (codeAt ns i)) a b (valueAt ns i))
-    (operand-eq i (leftAt ns i) _ _ (λ lt. enough ns i (suc (leftAt ns i)) (leftAt ns i) lt (le-refl _)))
-    (operand-eq i (rightAt ns i) _ _ (λ lt. enough ns i (suc (rightAt ns i)) (rightAt ns i) lt (le-refl _)))
+    (operand-same (leftAt ns i) i _ _ (λ lt. tree-enough ns i (suc (leftAt ns i)) (leftAt ns i) lt (le-refl _)))
+    (operand-same (rightAt ns i) i _ _ (λ lt. tree-enough ns i (suc (rightAt ns i)) (rightAt ns i) lt (le-refl _)))
 
 -- by the kind k that was found at a node below b
 module _ (ns : Nodes) (b i : ℕ) (lt : i < b) (k : Kind) (found : k ≡ kindOf (codeAt ns i)) where

@@ -6,30 +6,11 @@ use borrow.Author.Tests.{not-true}
 use Rattle.model.specs.Sheet.{all}
 use Rattle.model.specs.Requirement.{Requirement, haveItem, missingItem, haveAtc, missingAtc, haveFlag, missingFlag, negateReq, sameReq, member}
 use Rattle.model.specs.Laws.Checks.{and-left, and-right}
-use Rattle.model.specs.Laws.Normal.{both-ways}
+use Rattle.model.specs.Laws.Normal.{both-ways, neg-neg}
 use Rattle.model.specs.Laws.Runs.{sameReq-true}
 use Rattle.model.specs.Laws.Sets.{same-refl}
+use Rattle.model.specs.Laws.Bools.{or-cases, or-right, never-true}
 use Rattle.faithful_model.specs.Faithful.{noPair}
-
-pub or-cases : {C : Type 0} (x y : Bool) → x || y ≡ true → (x ≡ true → C) → (y ≡ true → C) → C
-or-cases true y e f g = f refl
-or-cases false y e f g = g e
-
-pub or-right : (a b : Bool) → b ≡ true → a || b ≡ true
-or-right true b e = refl
-or-right false b e = e
-
-pub is-false : (b : Bool) → (b ≡ true → ⊥) → b ≡ false
-is-false true f = absurd (f refl)
-is-false false f = refl
-
-pub neg-neg : (r : Requirement) → negateReq (negateReq r) ≡ r
-neg-neg (haveItem i) = refl
-neg-neg (missingItem i) = refl
-neg-neg (haveAtc i) = refl
-neg-neg (missingAtc i) = refl
-neg-neg (haveFlag f) = refl
-neg-neg (missingFlag f) = refl
 
 neg-differs : (r : Requirement) → sameReq (negateReq r) r ≡ false
 neg-differs (haveItem i) = refl
@@ -63,10 +44,10 @@ pub pair-own : (a : Requirement) (rs : List Requirement) → noPair (negateReq a
 unfolding member
 pair-own a rs = both-ways _ _
     (λ p. rw (
-      of-pairs rs (λ r m. is-false _ (λ k. true≢false (sym (or-right (sameReq (negateReq r) (negateReq a)) _ k) ∙ pairs (negateReq a ∷ rs) p r (or-right (sameReq r (negateReq a)) _ m)))),
-      is-false (member a rs) (λ k. true≢false (sym (or-right (sameReq (negateReq (negateReq a)) (negateReq a)) _ (ap (λ z. member z rs) (neg-neg a) ∙ k)) ∙ pairs (negateReq a ∷ rs) p (negateReq a) (rw (same-refl (negateReq a))))),
+      of-pairs rs (λ r m. never-true _ (λ k. true≢false (sym (or-right (sameReq (negateReq r) (negateReq a)) _ k) ∙ pairs (negateReq a ∷ rs) p r (or-right (sameReq r (negateReq a)) _ m)))),
+      never-true (member a rs) (λ k. true≢false (sym (or-right (sameReq (negateReq (negateReq a)) (negateReq a)) _ (ap (λ z. member z rs) (neg-neg a) ∙ k)) ∙ pairs (negateReq a ∷ rs) p (negateReq a) (rw (same-refl (negateReq a))))),
     ))
-    (λ p. of-pairs (negateReq a ∷ rs) (λ r m. is-false _ (λ k. each (and-left (noPair rs) _ p) (not-true _ (and-right (noPair rs) _ p)) r m k)))
+    (λ p. of-pairs (negateReq a ∷ rs) (λ r m. never-true _ (λ k. each (and-left (noPair rs) _ p) (not-true _ (and-right (noPair rs) _ p)) r m k)))
   where
     each : noPair rs ≡ true → member a rs ≡ false → (r : Requirement) → sameReq r (negateReq a) || member r rs ≡ true → sameReq (negateReq r) (negateReq a) || member (negateReq r) rs ≡ true → ⊥
     each p o r m k =

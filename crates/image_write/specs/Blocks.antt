@@ -6,13 +6,13 @@ use lib.ListN.{getD}
 use Rattle.model.specs.Reading.{word}
 use Rattle.model.specs.Memory.{Memory, blockWord}
 use Rattle.model.specs.Record.{commandsImageIn, blockTail, blocksImageIn, recordImage}
-use Rattle.judge_record.specs.Commands.{code-word}
 use Rattle.judge_record.specs.Stages.{blockImageIn}
+use Rattle.memory.specs.NodeLaws.{first-word}
 
 module _ (m : Memory) where
   module _ (b : ℕ) where
     pub block-image : blockImageIn m b ≡ word (getD (m .words) (5 * b) 0) ++ blockTail m b (getD (m .words) (5 * b) 0)
-    block-image = rw (code-word (m .words) (5 * b))
+    block-image = rw (first-word (m .words) (5 * b))
 
     pub code-image : blockTail m b 1 ≡ word (blockWord m b 2) ++ (commandsImageIn (m .coded) (blockWord m b 2) (blockWord m b 1) ++ (word (blockWord m b 3) ++ word (blockWord m b 4)))
     unfolding blockTail

@@ -17,13 +17,13 @@ use Rattle.model.specs.Record.{recordImage, heldKept, limitsKept, keptOk, judge
 use Rattle.model.specs.Files.{Wrote, over, writeChecked}
 use Rattle.model.specs.RecordCalls.{writeIn}
 use Rattle.model.specs.Laws.Reading.{passed}
-use Rattle.model.specs.Laws.Refused.{Proper, proper-cond, proper-within}
+use Rattle.model.specs.Laws.Refused.{Proper}
 use Rattle.model.specs.Laws.Checks.{and-left, and-right}
-use Rattle.memory.specs.RecordLaws.{judged-sound}
+use Rattle.memory.specs.RecordLaws.{judged-sound, proper-record}
 use Rattle.judge_terms.specs.Told.{Kept}
 use Rattle.judge_record.specs.Stages.{Accepted, JudgedAs}
 use Rattle.judge_record.specs.declared.Judged.{Judged}
-use Rattle.judge_record.specs.declared.Judged.the-variants.{Fine, No}
+use Rattle.judge_record.specs.declared.Judged.the-variants.{No}
 use Rattle.image_numbers.specs.Stored.{Stored, Room}
 
 -- ---- the answer as the contract says it
@@ -45,12 +45,6 @@ Called m xs n len ys = (wrote n ys ≡ writeIn m xs) × (len ≡ lengthIn m xs)
 
 -- ---- refused by the judgement
 
-proper-record : (m : Memory) → Proper (judgedRecord m)
-unfolding judgedRecord
-proper-record m =
-    proper-cond (keptOk m) (readWithin (m .coded .count) (m .coded .nodes .count) (recordImage m)) (refused overLimit)
-    (proper-within (m .coded .count) (m .coded .nodes .count) (recordImage m)) (omega arith)
-
 pub call-no : (m : Memory) (xs : List ℕ) (r : Judged) (k : ℕ) → JudgedAs m r → r ≡ No k → Called m xs k 0 xs
 unfolding JudgedAs writeIn writeChecked lengthIn
 call-no m xs r k t e = go k (rw e at t) (subst Proper (rw e at t) (proper-record m))
@@ -61,9 +55,8 @@ call-no m xs r k t e = go k (rw e at t) (subst Proper (rw e at t) (proper-record
 
 -- ---- judged fine
 
-pub fine-of : (m : Memory) (r : Judged) (len : ℕ) → JudgedAs m r → r ≡ Fine len → Accepted m len
-unfolding JudgedAs
-fine-of m r len t e = rw e at t
+pub over-is : (xs b : List ℕ) → length b ≤ length xs → sets xs 0 b ≡ over b xs
+over-is xs b h = let e : 0 + length b ≡ length b = omega arith in sets-eq b xs 0 (omega arith) ∙ ap (λ (k : ℕ). b ++ drop k xs) e
 
 module _ {m : Memory} {len : ℕ} (A : Accepted m len) where
   pub fine-kept : Kept (m .coded .nodes .count) (m .coded .count) (m .count)
@@ -90,13 +83,10 @@ module _ {m : Memory} {len : ℕ} (A : Accepted m len) where
         let l : leb (length (image (A .blocks))) (length xs) ≡ false = lt-leb (length (image (A .blocks))) (length xs) (omega (arith, A .bytes)) in
         (rw (A .judged, blocks-are, l), rw (A .judged, blocks-are, l))
 
-    over-is : (b : List ℕ) → length b ≤ length xs → sets xs 0 b ≡ over b xs
-    over-is b h = let e : 0 + length b ≡ length b = omega arith in sets-eq b xs 0 (omega arith) ∙ ap (λ (k : ℕ). b ++ drop k xs) e
-
     pub call-fine : len ≤ length xs → {ys : List ℕ} {r : ℕ} → Stored xs 0 (recordImage m) ys r → Called m xs 0 r ys
     unfolding writeIn writeChecked lengthIn
     call-fine h {ys} {r} s =
         let l : leb (length (image (A .blocks))) (length xs) ≡ true = le-leb (length (image (A .blocks))) (length xs) (omega (arith, A .bytes)) in
-        let e : ys ≡ over (image (A .blocks)) xs = s .is ∙ ap (sets xs 0) (A .same) ∙ over-is (image (A .blocks)) (omega (arith, A .bytes)) in
+        let e : ys ≡ over (image (A .blocks)) xs = s .is ∙ ap (sets xs 0) (A .same) ∙ over-is xs (image (A .blocks)) (omega (arith, A .bytes)) in
         let n : r ≡ length (image (A .blocks)) = omega (arith, s .place, ap length (A .same)) in
         (rw (A .judged, blocks-are, l, e), rw (A .judged, blocks-are, l, n))

@@ -7,7 +7,7 @@ use lib.ListN.{getD}
 use Rattle.model.specs.Reading.{word}
 use Rattle.model.specs.Memory.{Coded, commandWord}
 use Rattle.model.specs.Record.{rootImage, targetImage, commandTail, commandImageIn}
-use Rattle.judge_record.specs.Commands.{code-word}
+use Rattle.memory.specs.NodeLaws.{first-word}
 
 module _ (co : Coded) (c : ℕ) where
   -- what follows the target's code of a Set
@@ -61,4 +61,4 @@ module _ (co : Coded) (c : ℕ) where
 
   pub command-image : c < co .count → commandImageIn co c ≡ word (getD (co .words) (4 * c) 0) ++ commandTail co c (getD (co .words) (4 * c) 0)
   unfolding commandImageIn
-  command-image h = rw (lt-ltb c (co .count) h, code-word (co .words) (4 * c))
+  command-image h = rw (lt-ltb c (co .count) h, first-word (co .words) (4 * c))

@@ -14,6 +14,7 @@ use Rattle.memory.specs.declared.Counts.{Counts}
 use Rattle.model.specs.Memory.{Coded, Memory, codedIn, commandWord}
 use Rattle.model.specs.Record.{rootKept, setKept, rootsKept, commandKept, commandsKept, blockKept, blocksKept, heldKept}
 use Rattle.memory.specs.View.{memoryOf}
+use Rattle.memory.specs.NodeLaws.{first-word}
 
 -- of d commands from command c on, those before the first whose roots are not all below the kept count
 unfoldable pub runOf : Coded → ℕ → ℕ → ℕ
@@ -87,10 +88,6 @@ module _ (co : Coded) where
   roots-none i (suc (suc (suc (suc k)))) a b = refl
 
 -- ---- the runs, from the last command on
-
--- word 0 of an entry is where the entry begins
-first-word : (xs : List ℕ) (a : ℕ) → getD xs (a + 0) 0 ≡ getD xs a 0
-first-word xs a = let e : a + 0 ≡ a = omega arith in ap (λ (j : ℕ). getD xs j 0) e
 
 module _ (cw : List ℕ) (k : Counts) where
   pub run-last : Run cw k (k .commands) 0

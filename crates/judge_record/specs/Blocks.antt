@@ -18,10 +18,10 @@ use Rattle.image_numbers.specs.Told.{ShortWord}
 use Rattle.judge_terms.specs.Told.{Good, Told}
 use Rattle.image_numbers.specs.Lengths.{read-over, word-1}
 use Rattle.judge_terms.specs.Pieces.{none, good-of, no-of, looser, first-no, paired}
-use Rattle.judge_record.specs.Commands.{code-word}
 use Rattle.judge_record.specs.Stages.{uncounted, both, readLinks, GoodBlock, Shows, Staged}
 use Rattle.judge_terms.specs.declared.Step.{Step}
 use Rattle.judge_terms.specs.declared.Step.the-variants.{Fine, No}
+use Rattle.memory.specs.NodeLaws.{first-word}
 use Rattle.judge_record.specs.declared.Stage.{Stage}
 use Rattle.judge_record.specs.declared.Stage.the-variants.{Fine as Passed, No as Stopped}
 
@@ -138,7 +138,7 @@ module _ (l : Limits) (me : Memory) (b n m at : ℕ) where
   pub block-unknown : 3 ≤ getD (me .words) (5 * b) 0 → Staged (readBlock l m n) bytes (l .nodes) (l .commands) 10 n m at (Stopped 2)
   unfolding readBlock
   block-unknown g =
-      let h : 3 ≤ blockWord me b 0 = rw (code-word (me .words) (5 * b)) g in
+      let h : 3 ≤ blockWord me b 0 = rw (first-word (me .words) (5 * b)) g in
       stopped (λ t. rw (append-assoc, read-over 3 (blockWord me b 0) (blockTail me b (blockWord me b 0) ++ t) h))
 
   -- the kind is read
@@ -167,18 +167,18 @@ module _ (l : Limits) (me : Memory) (b n m at : ℕ) where
 
   pub block-placeholder : getD (me .words) (5 * b) 0 ≡ 0 → n ≤ l .nodes → m ≤ l .commands → Staged (readBlock l m n) bytes (l .nodes) (l .commands) 10 n m at (Passed n m (at + 1))
   unfolding blockOf blockTail blockNodes blockCommands
-  block-placeholder e few room = bare 0 placeholder (code-word (me .words) (5 * b) ∙ e) (omega arith) refl (λ t. refl) refl refl few room
+  block-placeholder e few room = bare 0 placeholder (first-word (me .words) (5 * b) ∙ e) (omega arith) refl (λ t. refl) refl refl few room
 
   pub block-data : getD (me .words) (5 * b) 0 ≡ 2 → n ≤ l .nodes → m ≤ l .commands → Staged (readBlock l m n) bytes (l .nodes) (l .commands) 10 n m at (Passed n m (at + 1))
   unfolding blockOf blockTail blockNodes blockCommands
-  block-data e few room = bare 2 dataBlock (code-word (me .words) (5 * b) ∙ e) (omega arith) refl (λ t. refl) refl refl few room
+  block-data e few room = bare 2 dataBlock (first-word (me .words) (5 * b) ∙ e) (omega arith) refl (λ t. refl) refl refl few room
 
   pub block-code : {r : Stage} → getD (me .words) (5 * b) 0 ≡ 1 → Staged (blockOf l m n 1) (blockTail me b 1) (l .nodes) (l .commands) 9 n m (at + 1) r → Staged (readBlock l m n) bytes (l .nodes) (l .commands) 10 n m at r
   unfolding Shows
   block-code {r} g p = record { shows = go r (p .shows) }
     where
       e : blockWord me b 0 ≡ 1
-      e = code-word (me .words) (5 * b) ∙ g
+      e = first-word (me .words) (5 * b) ∙ g
 
       lt : blockWord me b 0 < 3
       lt = omega (arith, e)

@@ -1,5 +1,5 @@
 -- A command is judged as its image would be read. Assumes nothing.
-use mathlib.Core.Path.{_≡_, refl, ap}
+use mathlib.Core.Path.{_≡_, refl}
 use mathlib.Core.List.{List, [], _++_, append-assoc}
 use Prim.Native.Nat.{ℕ, zero, suc, _+_, _*_, _≤_, _<_}
 use native.Mathlib.Omega.{arith}
@@ -17,6 +17,7 @@ use Rattle.image_numbers.specs.Lengths.{read-over, word-1}
 use Rattle.judge_terms.specs.Pieces.{fine, none, good-of, no-of, looser, headed, wrapped, first-no, paired}
 use Rattle.judge_terms.specs.declared.Step.{Step}
 use Rattle.judge_terms.specs.declared.Step.the-variants.{Fine, No}
+use Rattle.memory.specs.NodeLaws.{first-word}
 
 module _ (l : Limits) where
   -- target and value
@@ -36,10 +37,6 @@ other-target : (co : Coded) (c k : ℕ) → (k ≡ 0 → ⊥) → targetImage co
 unfolding targetImage
 other-target co c zero h = absurd (h refl)
 other-target co c (suc k) h = refl
-
--- the first word of an entry
-pub code-word : (w : List ℕ) (x : ℕ) → getD w (x + 0) 0 ≡ getD w x 0
-code-word w x = ap (λ (y : ℕ). getD w y 0) (omega arith)
 
 module _ (l : Limits) (co : Coded) (c n at : ℕ) where
   -- ---- a Set, by its target's code
@@ -112,13 +109,13 @@ module _ (l : Limits) (co : Coded) (c n at : ℕ) where
     pub command-unknown : 6 ≤ getD (co .words) (4 * c) 0 → Told (readCommand l n) commandNodes (commandImageIn co c) (l .nodes) 4 n at (No 2)
     unfolding readCommand commandImageIn
     command-unknown g =
-        let g′ : 6 ≤ commandWord co c 0 = rw (code-word (co .words) (4 * c)) g in
+        let g′ : 6 ≤ commandWord co c 0 = rw (first-word (co .words) (4 * c)) g in
         rw (lt-ltb c (co .count) h) (none (λ t. rw (append-assoc, read-over 6 (commandWord co c 0) (commandTail co c (commandWord co c 0) ++ t) g′)))
 
     pub command-told : {r : Step} → getD (co .words) (4 * c) 0 < 6 → Told (commandOf l n (getD (co .words) (4 * c) 0)) commandNodes (commandTail co c (getD (co .words) (4 * c) 0)) (l .nodes) 3 n (at + 1) r
         → Told (readCommand l n) commandNodes (commandImageIn co c) (l .nodes) 4 n at r
     unfolding readCommand commandImageIn
     command-told {r} g p =
-        let g′ : commandWord co c 0 < 6 = rw (code-word (co .words) (4 * c)) g in
-        let p′ : Told (commandOf l n (commandWord co c 0)) commandNodes (commandTail co c (commandWord co c 0)) (l .nodes) 3 n (at + 1) r = rw (code-word (co .words) (4 * c)) p in
+        let g′ : commandWord co c 0 < 6 = rw (first-word (co .words) (4 * c)) g in
+        let p′ : Told (commandOf l n (commandWord co c 0)) commandNodes (commandTail co c (commandWord co c 0)) (l .nodes) 3 n (at + 1) r = rw (first-word (co .words) (4 * c)) p in
         rw (lt-ltb c (co .count) h) (headed (commandOf l n) at 6 (commandWord co c 0) 1 g′ (omega arith) (word-1 (commandWord co c 0) (omega arith)) p′)

@@ -1,5 +1,5 @@
 -- What the judge promises of commands, of blocks and of the whole record: the answer is what reading the image gives. Assumes nothing: these are definitions.
-use mathlib.Core.Path.{_≡_}
+use mathlib.Core.Path.{_≡_, subst}
 use mathlib.Core.Bool.{Bool, true, false}
 use mathlib.Core.Option.{Option}
 use mathlib.Core.List.{List, [], _++_}
@@ -92,6 +92,14 @@ pub record Accepted (m : Memory) (len : ℕ) : Type 0 where
 unfoldable pub JudgedAs : Memory → Judged → Type 0
 JudgedAs m (Fine len) = Accepted m len
 JudgedAs m (No k) = judgedRecord m ≡ refused k
+
+pub fine-of : (m : Memory) {r : Judged} {len : ℕ} → JudgedAs m r → r ≡ Fine len → Accepted m len
+unfolding JudgedAs
+fine-of m j e = subst (JudgedAs m) e j
+
+pub no-of : (m : Memory) {r : Judged} {k : ℕ} → JudgedAs m r → r ≡ No k → judgedRecord m ≡ refused k
+unfolding JudgedAs
+no-of m j e = subst (JudgedAs m) e j
 
 -- the answer of the walk: it is the judgement, unless something is held past the kept counts
 unfoldable pub WalkedAs : Memory → Judged → Type 0

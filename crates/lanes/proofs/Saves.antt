@@ -11,7 +11,7 @@ use lib.Seq.{drop-drop, length-take-le, take-all}
 use lib.IntN.{ℤ}
 use mir.Syntax.{w16, w32}
 use borrow.Author.Tests.{eqb-true, eq-eqb, le-leb, lt-leb}
-use Rattle.model.specs.Limits.{flagCount, timeCount, variableCount, mostSaves, mostItems, wide, wide16}
+use Rattle.model.specs.Limits.{flagCount, timeCount, variableCount, mostSaves, wide, wide16}
 use Rattle.model.specs.Refusal.{firstOf, check}
 use Rattle.model.specs.Signed.{inRange}
 use Rattle.model.specs.Save.{Save}
@@ -21,7 +21,6 @@ use Rattle.model.specs.Memory.{Memory, scriptOf}
 use Rattle.model.specs.RecordCalls.{callIn}
 use Rattle.model.specs.Laws.Checks.{and-left, and-right}
 use Rattle.shop.specs.Shapes.{sheetOf}
-use Rattle.shop.specs.Slots.{items-few}
 use Rattle.shop.specs.declared.Sheet as code
 use Rattle.checks.specs.Calls.{saveOf}
 use Rattle.checks.specs.Passed.{call-passed}
@@ -180,11 +179,6 @@ module _ (h : Sheet) (m : Memory) (b k : ℕ) (f : Save) where
 
   pub call-safe : callIn h m b ≡ 0 → Safe (m .coded .words) (m .words) (m .count) × (b < m .count)
   call-safe e = let p = call-passed h m b e in (safe m (p .blocks) (p .rest) (p .judged), p .inside)
-
--- a sheet that passes has few items
-pub few-items : (ks : List ℕ) (s : code.Sheet) (m : Memory) (b : ℕ) → callIn (sheetOf ks s) m b ≡ 0 → length ks ≤ mostItems
-unfolding sheetOf
-few-items ks s m b e = let a = items-few (sheetOf ks s) (call-passed (sheetOf ks s) m b e .sheet) in rw length-map at a
 
 pub product-low : (k n : ℕ) → k < wide → n < wide16 → k * n < wide * wide16
 product-low k n h g = let q : k ≤ 4294967295 = omega arith in let a = mul-le-mul-right n q in omega arith

@@ -6,7 +6,7 @@ use mathlib.Core.List.{List, _∷_}
 use Prim.Native.Nat.{ℕ, zero, suc, _+_, _-_, _≤_, _<_}
 use native.Mathlib.Omega.{arith}
 use native.Mathlib.Numerals.{add-one}
-use lib.ListN.{getD, replicate}
+use lib.ListN.{getD}
 use lib.IntN.{ℤ, pos}
 use Rattle.model.specs.Limits.{variableCount}
 use Rattle.model.specs.Signed.{isZero}
@@ -14,10 +14,11 @@ use Rattle.model.specs.Save.{Save}
 use Rattle.model.specs.Expr.{Expr, stop, eval}
 use Rattle.model.specs.Script.{Command, setVariable, ifElse, Block}
 use Rattle.model.specs.Run.{Outcome, next, halt, follow, store, orHalt, execute, step}
-use Rattle.model.specs.Memory.{Coded, codedIn, commandIn, commandsIn, linkIn}
+use Rattle.model.specs.Memory.{codedIn, commandIn, commandsIn, linkIn}
 use Rattle.lanes_model.specs.Flat.{part}
 use Rattle.lanes_model.specs.Lanes.{moved}
 use Rattle.lanes_expr.specs.Lanes.{laneValue, firstStop, Valued, Stand}
+use Rattle.memory.specs.RecordLaws.{next-command}
 use Rattle.lanes_block.specs.declared.Way.{Way}
 use Rattle.lanes_block.specs.declared.Exit.{Exit}
 use Rattle.lanes_block.specs.declared.Flow.{Flow}
@@ -150,19 +151,12 @@ module _ (save : ℕ → Save) (nx : Option ℕ) (ws : List ℕ) (val : List ℤ
       record { low = omega arith; kept = parts-same ls s vs; each = λ d e j h. rw (y, z) refl }
 
   module _ {vs′ : List ℤ} {rs′ : List ℕ} {i : ℕ} (p : Passed save nx ws val cw first many ls s vs rs vs′ rs′ i) where
-    next-command : (co : Coded) → i < many → commandsIn co (many - i) (first + i) ≡ commandIn co (first + i) ∷ commandsIn co (many - (i + 1)) (first + (i + 1))
-    unfolding commandsIn
-    next-command co h =
-        let y : many - i ≡ suc (many - (i + 1)) = omega arith in
-        let z : suc (first + i) ≡ first + (i + 1) = omega arith in
-        ap (λ j. commandsIn co j (first + i)) y ∙ ap (λ f. commandIn co (first + i) ∷ commandsIn co (many - (i + 1)) f) z
-
     module _ (h : i < many) {f : Flow} {vs″ xs″ : List ℤ} {rs″ : List ℕ} (w : (d e : ℕ) → Does save nx (commandIn (codedIn ws val cw d e) (first + i)) ls s vs′ rs′ f vs″ xs″ rs″) where
       passed-each : (d e j : ℕ) → j < s → carry (getD rs j 0) (part variableCount (getD ls j 0) vs) (execute (save (getD ls j 0)) nx (commandsIn (codedIn ws val cw d e) many first))
           ≡ carry (getD rs″ j 0) (part variableCount (getD ls j 0) vs″) (onward (save (getD ls j 0)) nx (commandsIn (codedIn ws val cw d e) (many - (i + 1)) (first + (i + 1))) f (getD xs″ j (pos 0)))
       passed-each d e j l =
           p .each d e j l
-          ∙ ap (λ cs. carry (getD rs′ j 0) (part variableCount (getD ls j 0) vs′) (execute (save (getD ls j 0)) nx cs)) (next-command (codedIn ws val cw d e) h)
+          ∙ ap (λ cs. carry (getD rs′ j 0) (part variableCount (getD ls j 0) vs′) (execute (save (getD ls j 0)) nx cs)) (next-command (codedIn ws val cw d e) many first i h)
           ∙ w d e .each j l .is (commandsIn (codedIn ws val cw d e) (many - (i + 1)) (first + (i + 1)))
 
       pub one-passed : f ≡ On → Passed save nx ws val cw first many ls s vs rs vs″ rs″ (i + 1)
@@ -227,11 +221,6 @@ chosen-way e z zero v = by (isZero z)
     by true = refl
     by false = refl
 chosen-way e z (suc r) v = refl
-
-pub zeros : (n j : ℕ) → _≡_ {A = ℕ} (getD (replicate n 0) j 0) 0
-zeros zero j = refl
-zeros (suc n) zero = refl
-zeros (suc n) (suc j) = zeros n j
 
 pub visited : {save : ℕ → Save} {bs : List Block} {b : ℕ} {ls : List ℕ} {s : ℕ} {ps qs es ps′ qs′ es′ : List ℕ} {vs vs′ xs : List ℤ} {rs rs′ : List ℕ} {x : Exit}
     → ((j : ℕ) → j < s → getD rs j 0 ≡ 0) → Leaves (λ t. step bs t b) save ls s vs rs x vs′ xs rs′ → Settled ls x xs rs′ s ps qs es ps′ qs′ es′

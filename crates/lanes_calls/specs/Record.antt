@@ -3,30 +3,28 @@ use mathlib.Core.Path.{_≡_, refl, sym, ap, _∙_, subst}
 use mathlib.Core.Bool.{true}
 use mathlib.Core.Logic.{_≢_}
 use mathlib.Core.Option.{none, some}
-use mathlib.Core.List.{List, [], _∷_}
+use mathlib.Core.List.{List}
 use Prim.Native.Nat.{ℕ, zero, suc, _≤_}
 use native.Mathlib.Omega.{arith}
 use lib.ListN.{length}
-use borrow.Author.Tests.{le-leb, ne-eqb}
+use borrow.Author.Tests.{le-leb}
 use Rattle.model.specs.Limits.{mostSaves, walkBlocks}
 use Rattle.model.specs.Save.{Save}
 use Rattle.model.specs.Sheet.{Sheet, all, itemCount, saveOk}
 use Rattle.model.specs.Shop.{Slot}
 use Rattle.model.specs.Script.{Block}
 use Rattle.model.specs.Judge.{callRefusal}
-use Rattle.model.specs.Reading.{Answer, got, refused, refusalOf}
+use Rattle.model.specs.Reading.{Answer, got, refused}
 use Rattle.model.specs.Memory.{Memory, scriptOf}
 use Rattle.model.specs.Record.{judgedRecord}
-use Rattle.model.specs.RecordCalls.{Born, recordRefusal}
-use Rattle.model.specs.Lists.{afterAll, lastAt, lastFrom, nowAt}
+use Rattle.model.specs.RecordCalls.{Born}
+use Rattle.model.specs.Lists.{afterAll, lastAt, nowAt}
 use Rattle.model.specs.Laws.Checks.{and-right}
 use Rattle.model.specs.Laws.Lists.{Followed, none≢some}
 use Rattle.model.specs.Laws.Refused.{Proper}
 use Rattle.memory.specs.RecordLaws.{proper-record}
-use Rattle.reclaim_model.specs.Changes.{BornScript, Change, compile, reclaim, changes}
-use Rattle.reclaim_record.specs.Calls.{changeRefusalIn, changedIn, changesIn, numberAfterIn}
-use Rattle.reclaim_record.specs.Checks.{refused-stays, was-judged}
-use Rattle.reclaim_record.specs.Compiles.{compile-stays, passed-in}
+use Rattle.reclaim_model.specs.Changes.{BornScript, Change, changes}
+use Rattle.reclaim_record.specs.Calls.{changesIn}
 use Rattle.reclaim_record.specs.Stands.{LongBorn, Stands, borne, bornScript, call-same, followed, judged-stands}
 use Rattle.lanes_model.specs.Falls.{falls}
 use Rattle.lanes_model.specs.Walk.{Walked, walkCall, walkChecks}
@@ -34,6 +32,7 @@ use Rattle.lanes_model.specs.Flat.{lengthsOk, savesIn, savesOk, walkIn, walkRef
 use Rattle.lanes_model.specs.Laws.Falls.{paths-falls}
 use Rattle.lanes_model.specs.Laws.Lists.{walk-few, walk-serves}
 use Rattle.lanes_model.specs.Laws.Walks.{byLanes, saves-many, walk-call, walk-in, walk-passed, walk-passed-in}
+use Rattle.reclaim_record.specs.Demand.{unmoved}
 
 -- what a walk of k saves at block b of the record m comes to
 pub record Served (h : Sheet) (m : Memory) (b : ℕ) : Type 0 where
@@ -98,29 +97,6 @@ module _ (h : Sheet) (k : Born) (m : BornScript) (st : Stands k m) (xs : List Ch
   judged-served : Served h (afterAll (changesIn h) k xs .memory) b′
   judged-served = record { not-refused = judged-serves; few = judged-few }
 
--- ---- a record that is refused accepts no call, so that no block of it has a last accepted shop
-
-module _ (h : Sheet) (k : Born) (e : ℕ) (bad : judgedRecord (k .memory) ≡ refused (suc e)) where
-  never : (x : Change) → changeRefusalIn h k x ≢ 0
-  unfolding changeRefusalIn
-  never (compile c) p = let z : recordRefusal (k .memory) ≡ suc e = ap refusalOf bad in omega (arith, passed-in h k c p .judged, z)
-  never (reclaim rs) p = let a = was-judged k rs p in let z : _≡_ {A = ℕ} 0 (suc e) = ap refusalOf (sym (a .was) ∙ bad) in omega arith
-
-  stays : (x : Change) → changedIn h k x ≡ k
-  unfolding changedIn changeRefusalIn
-  stays (compile c) = compile-stays h k c (never (compile c))
-  stays (reclaim rs) = refused-stays k rs (never (reclaim rs)) .record-is
-
-  number-stays : (x : Change) (b : ℕ) → numberAfterIn k x b ≡ some b
-  unfolding numberAfterIn changeRefusalIn
-  number-stays (compile c) b = refl
-  number-stays (reclaim rs) b = refused-stays k rs (never (reclaim rs)) .number b
-
-  none-last : (xs : List Change) (b : ℕ) → lastAt (changesIn h) k xs b ≡ none
-  unfolding lastFrom
-  none-last [] b = refl
-  none-last (x ∷ xs) b = rw (number-stays x b, ne-eqb (changeRefusalIn h k x) 0 (never x), stays x) (none-last xs b)
-
 -- ---- every record whose arrays have the lengths of the lent ones, whatever they hold; b is a block of the start, b′ its number after the list
 
 pub walk-served : (h : Sheet) (k : Born) → LongBorn k → (xs : List Change) (b b′ : ℕ) (ys : List Slot) → nowAt (changesIn h) k xs b ≡ some b′ → lastAt (changesIn h) k xs b ≡ some ys
@@ -130,4 +106,4 @@ walk-served h k long xs b b′ ys now last = by (judgedRecord (k .memory)) refl 
     by : (a : Answer (List Block)) → judgedRecord (k .memory) ≡ a → Proper a → Served h (afterAll (changesIn h) k xs .memory) b′
     by (got bs r) e p = judged-served h k (bornScript k) (judged-stands k long bs r e) xs b b′ ys now last
     by (refused zero) e p = absurd (omega arith)
-    by (refused (suc n)) e p = absurd (none≢some (sym (none-last h k n e xs b) ∙ last))
+    by (refused (suc n)) e p = absurd (none≢some (sym (unmoved h k n e xs .last b) ∙ last))

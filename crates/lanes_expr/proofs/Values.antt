@@ -26,12 +26,6 @@ use Rattle.expr.specs.declared.MaybeNumber.the-variants.{Is}
 use Rattle.lanes_expr.specs.Lanes.{laneValue, firstStop, firstOf2, applyIn, evalIn, readsFlag, flagStop, readStop, Valued}
 use Rattle.lanes_expr.specs.Each.{Each}
 
--- a repeated number, past its end too
-pub same-at : {A : Type 0} (n j : ℕ) (a : A) → getD (replicate n a) j a ≡ a
-same-at zero j a = refl
-same-at (suc n) zero a = refl
-same-at (suc n) (suc j) a = same-at n j a
-
 -- the number that was found as m, and goes on as z
 pub imm-found : (e : Expr) {m : MaybeNumber} {y z : ℤ} → z ≡ y → m ≡ Is y → numberOf m ≡ value e → some z ≡ value e
 imm-found e p q h = ap some p ∙ ap numberOf (sym q) ∙ h

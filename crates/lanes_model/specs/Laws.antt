@@ -1,4 +1,3 @@
-pub mod Bools
 pub mod Falls
 pub mod Steps
 pub mod Runs

@@ -7,8 +7,8 @@ use mathlib.Core.List.{List, [], map}
 use Prim.Native.Nat.{ℕ, suc, _≤_, _<_}
 use native.Mathlib.Omega.{arith}
 use lib.IntN.{ℤ}
-use lib.ListN.{length-map}
-use Rattle.model.specs.Limits.{runBlocks}
+use lib.ListN.{length, length-map}
+use Rattle.model.specs.Limits.{runBlocks, slotCount}
 use Rattle.model.specs.Refusal.{accepted, bornLater}
 use Rattle.model.specs.Save.{Save}
 use Rattle.model.specs.Sheet.{Sheet, saveRefusal}
@@ -130,9 +130,12 @@ abbrev pub callBy : Made → engine.Made
 callBy x = record { asked = asCall (x .asked); refusal = x .answer .refusal; after = leftBy x; told = x .told }
 
 -- arrays stand for twenty slots
-with-shop : (a : Arrays) → withSlots (shopOf a) ≡ shopOf a
+pub shop-long : (a : Arrays) → length (shopOf a) ≡ slotCount
 unfolding slotsOf
-with-shop a = with-all (shopOf a) (length-map (shopFrom a .slots) slotOf ∙ slots-long a)
+shop-long a = length-map (shopFrom a .slots) slotOf ∙ slots-long a
+
+with-shop : (a : Arrays) → withSlots (shopOf a) ≡ shopOf a
+with-shop a = with-all (shopOf a) (shop-long a)
 
 given-is : (a : Asked) → givenBy a ≡ givenTo (engine.asChange (asCall a))
 given-is (compile o b a) = sym (with-shop a)

@@ -5,6 +5,7 @@ use mathlib.Core.List.{List, _++_, append-assoc, append-nil}
 use Prim.Native.Nat.{ℕ, zero, suc, _+_, _≤_, _<_}
 use native.Mathlib.Omega.{arith}
 use lib.Dec.{ltb}
+use lib.ListN.{getD}
 use borrow.Author.Tests.{ltb-true, ltb-false, lt-ltb, le-ltb}
 use Rattle.model.specs.Refusal.{overLimit, tooDeep}
 use Rattle.model.specs.Reading.{Answer, got, refused, number, word}
@@ -197,3 +198,7 @@ module _ (l : ℕ) (ns : Nodes) where
           let z : q .rest ≡ f k ++ s = r .1 ∙ ap (λ (j : Kind). f j ++ s) (ap kindOf (r .0) ∙ kind-code k) in
           let g′ = subst (λ (u : List ℕ). readOperands (readExpr l d) n k u ≡ got e t) z g in
           read-well l (suc d) n ns b i s e t h (operands-well ns (readExpr l d) ih n i k s e t (r .0) g′) p
+
+-- word 0 of an entry is where the entry begins
+pub first-word : (xs : List ℕ) (a : ℕ) → getD xs (a + 0) 0 ≡ getD xs a 0
+first-word xs a = let e : a + 0 ≡ a = omega arith in ap (λ (j : ℕ). getD xs j 0) e

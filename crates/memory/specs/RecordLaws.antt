@@ -2,7 +2,7 @@
 use mathlib.Core.Path.{_≡_, refl, ap, ap₂, sym, _∙_, subst}
 use mathlib.Core.Bool.{Bool, true, false, cond}
 use mathlib.Core.List.{List, [], _∷_, _++_, append-assoc, append-nil}
-use Prim.Native.Nat.{ℕ, zero, suc, _+_, _≤_, _<_}
+use Prim.Native.Nat.{ℕ, zero, suc, _+_, _≤_, _<_, _-_}
 use native.Mathlib.Omega.{arith}
 use lib.Dec.{ltb, leb, eqb}
 use borrow.Author.Tests.{ltb-true, lt-ltb, eqb-true, eqb-false}
@@ -60,6 +60,14 @@ module _ (co : Coded) where
   unfolding commandsIn
   length-commandsIn zero f = refl
   length-commandsIn (suc h) f = ap suc (length-commandsIn h (suc f))
+
+-- the command that comes next, before those after it
+pub next-command : (co : Coded) (many first i : ℕ) → i < many → commandsIn co (many - i) (first + i) ≡ commandIn co (first + i) ∷ commandsIn co (many - (i + 1)) (first + (i + 1))
+unfolding commandsIn
+next-command co many first i h =
+    let y : many - i ≡ suc (many - (i + 1)) = omega arith in
+    let z : suc (first + i) ≡ first + (i + 1) = omega arith in
+    ap (λ j. commandsIn co j (first + i)) y ∙ ap (λ f. commandIn co (first + i) ∷ commandsIn co (many - (i + 1)) f) z
 
 link-image : (w : ℕ) → word w ≡ linkImage (linkIn w)
 unfolding linkImage

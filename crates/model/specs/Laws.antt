@@ -1,3 +1,5 @@
+pub mod Bools
+pub mod Places
 pub mod Signed
 pub mod Checks
 pub mod Eval
@@ -14,6 +16,7 @@ pub mod Normal
 pub mod RunsAll
 pub mod ReadsAll
 pub mod Means
+pub mod Saves
 pub mod Checked
 pub mod Reading
 pub mod ImageExpr

@@ -23,11 +23,10 @@ use Rattle.compile.specs.Answer.{callOf, CompiledAs}
 use Rattle.reclaim_record.specs.Stands.{LongBorn}
 use Rattle.reclaim_record.specs.Compiles.{passed-in}
 use Rattle.capi.specs.Answers.{loaderBy}
-use Rattle.library.specs.Delivered.{delivered, leftBy, shopOf}
+use Rattle.library.specs.Delivered.{delivered, leftBy, shopOf, shop-long}
 use Rattle.moves_model.specs.Again.{shifted}
 use Rattle.moves_model.specs.Shifted.{shop-shifted}
 use Rattle.moves_model.specs.Settles.{shop-again}
-use Rattle.moves.specs.Differs.{shop-long}
 use Rattle.moves.specs.Rounds.{Compiled, ReadBack, Round, Rounds, appendedBy, callsOf}
 
 -- ---- what an accepted compile appended

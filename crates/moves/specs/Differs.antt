@@ -1,13 +1,13 @@
 -- One more in the bag (02, A.14) over the calls of the library: lk_run of a compiled shop under two saves alike but for one item. Each call comes in by its own promise. Assumes nothing.
 use mathlib.Core.Path.{_≡_, refl, sym, ap, _∙_}
-use mathlib.Core.Bool.{Bool, true, false, cond, _&&_}
+use mathlib.Core.Bool.{Bool, true, false, cond, _&&_, and-false}
 use mathlib.Core.Option.{Option, none, some}
 use mathlib.Core.List.{List, [], _∷_}
 use Prim.Native.Nat.{ℕ, _≤_}
 use native.Mathlib.Omega.{arith}
 use lib.Dec.{eqb}
 use lib.IntN.{ℤ}
-use lib.ListN.{length, length-map}
+use lib.ListN.{length}
 use Rattle.model.specs.Limits.{runBlocks, slotCount}
 use Rattle.model.specs.Save.{Save}
 use Rattle.model.specs.Sheet.{Sheet, saveRefusal}
@@ -16,30 +16,19 @@ use Rattle.model.specs.Flags.{flagAnswer}
 use Rattle.model.specs.RecordCalls.{Born, runIn}
 use Rattle.model.specs.Lists.{Along, afterAll, following, lastAt, lastFrom, nowAt}
 use Rattle.model.specs.Laws.Lists.{none≢some}
-use Rattle.shop.specs.Shapes.{slotOf, slotsOf}
-use Rattle.shop_arrays.specs.Arrays.{Arrays, shopFrom}
-use Rattle.shop_arrays.specs.Slots.{slots-long}
 use Rattle.reclaim_record.specs.Stands.{LongBorn}
 use Rattle.capi.specs.declared.Ran.{Ran}
 use Rattle.capi.specs.Answers.{ranAs}
-use Rattle.library.specs.Delivered.{Asked, compile, reclaim, Made, AsPromised, delivered, givenBy, leftBy, made, shopOf}
+use Rattle.library.specs.Delivered.{Asked, compile, reclaim, Made, AsPromised, delivered, givenBy, leftBy, made, shop-long}
 use Rattle.moves_model.specs.OneMore.{OneMore, Differ}
 use Rattle.moves_model.specs.Differs.{means-differ}
 
 -- ---- a shop that was accepted has twenty slots
 
-pub shop-long : (a : Arrays) → length (shopOf a) ≡ slotCount
-unfolding slotsOf
-shop-long a = length-map (shopFrom a .slots) slotOf ∙ slots-long a
-
 -- of a call that was accepted at a block
 named-long : (x : Made) (b : ℕ) (a : Asked) → x .asked ≡ a → eqb (x .answer .refusal) 0 && made .names x b ≡ true → length (givenBy (x .asked)) ≡ slotCount
 named-long x b (compile o s a) e p = rw e (shop-long a)
-named-long x b (reclaim rs mv) e p = let z : _≡_ {A = Bool} false true = sym (never (eqb (x .answer .refusal) 0)) ∙ (rw e at p) in let n : _≡_ {A = ℕ} 0 1 = cc in absurd (omega arith)
-  where
-    never : (t : Bool) → t && false ≡ false
-    never true = refl
-    never false = refl
+named-long x b (reclaim rs mv) e p = let z : _≡_ {A = Bool} false true = sym (and-false (eqb (x .answer .refusal) 0)) ∙ (rw e at p) in let n : _≡_ {A = ℕ} 0 1 = cc in absurd (omega arith)
 
 last-long : (k : Born) (xs : List Made) (o : Option (List Slot)) (b : ℕ) (ys : List Slot) → ((zs : List Slot) → o ≡ some zs → length zs ≡ slotCount) → lastFrom made o k xs b ≡ some ys → length ys ≡ slotCount
 unfolding lastFrom

@@ -20,10 +20,9 @@ use Rattle.preview.specs.Accepted.{counts-are, items-are, with-all}
 use Rattle.shop_arrays.specs.Arrays.{Arrays}
 use Rattle.capi.specs.declared.Previewed.{Previewed}
 use Rattle.capi.specs.Answers.{previewedAs}
-use Rattle.library.specs.Delivered.{shopOf}
+use Rattle.library.specs.Delivered.{shopOf, shop-long}
 use Rattle.moves_model.specs.OneMore.{Lower, OneMore, same, stocks}
 use Rattle.moves_model.specs.Held.{after-lower, slot-near}
-use Rattle.moves.specs.Differs.{shop-long}
 
 -- what may differ between the answers of two previews, -1 standing where there is no item: of a slot of the item with limit above 1 the count, which is lower by 0 or 1, and variable 0 likewise
 pub record PreviewsDiffer (h : Sheet) (w : ℕ) (xs : List Slot) (p q : Previewed) : Type 0 where

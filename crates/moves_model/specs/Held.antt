@@ -1,6 +1,6 @@
 -- What a slot means where one item is held once more. Assumes nothing.
 use mathlib.Core.Path.{_≡_, refl, sym, ap, _∙_}
-use mathlib.Core.Bool.{Bool, true, false, not, _&&_}
+use mathlib.Core.Bool.{Bool, true, false, not, _&&_, true≢false}
 use mathlib.Core.Option.{Option, none, some}
 use mathlib.Core.List.{List, [], _∷_}
 use Prim.Native.Nat.{ℕ, zero, suc, _-_, _≤_}
@@ -48,9 +48,6 @@ LowerTemp (some x) (some y) = Lower x y
 temp-same : (o : Option ℤ) → LowerTemp o o
 temp-same none = tt
 temp-same (some z) = same
-
-never : true ≡ false → ⊥
-never e = let z : _≡_ {A = ℕ} 0 1 = cc in omega arith
 
 module _ (w n : ℕ) (s t : Save) (m : OneMore w n s t) where
   zero-same : (i : ℕ) → isZero (held s i) ≡ isZero (held t i)
@@ -117,7 +114,7 @@ module _ (w n : ℕ) (s t : Save) (m : OneMore w n s t) where
   limit-near i l true = by (ℕ-discrete i w)
     where
       by : Dec (i ≡ w) → Near (limitMeaning s i l true) (limitMeaning t i l true) (eqb i w && true)
-      by (yes e) = rw (e, eq-eqb w w refl) (record { item = refl; count = remaining-lower l; temp = remaining-lower l; shut = λ p. absurd (never p) })
+      by (yes e) = rw (e, eq-eqb w w refl) (record { item = refl; count = remaining-lower l; temp = remaining-lower l; shut = λ p. absurd (true≢false p) })
       by (no d) = alike _ _ _ (rw (m .items i d))
 
   for-near : (h : Sheet) (o : Option ℕ) (z : ℤ) (r : Bool) → Near (meaningFor h s o z r) (meaningFor h t o z r) (stocksFor h w o z)

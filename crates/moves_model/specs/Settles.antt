@@ -1,6 +1,6 @@
 -- The normal form of a normal form is itself. Assumes nothing.
 use mathlib.Core.Path.{_≡_, refl, ap, _∙_}
-use mathlib.Core.Bool.{Bool, true, false, not, cond, _&&_, _||_}
+use mathlib.Core.Bool.{Bool, true, false, not, cond, _&&_}
 use mathlib.Core.Option.{Option, none, some}
 use mathlib.Core.List.{List, [], _∷_}
 use Prim.Native.Nat.{ℕ}
@@ -10,7 +10,8 @@ use Rattle.model.specs.Sheet.{Sheet, atcFor}
 use Rattle.model.specs.Requirement.{Requirement, keep, member, negateReq, sameReq, settled, sorted}
 use Rattle.model.specs.Shop.{Slot, Timer, atcLimit, between, fifteen, five, limitOf, plain, ten, timerOf}
 use Rattle.model.specs.Normal.{acquiredOf, filledSlot, lone, normal, normalFilled, normalFor, normalShop}
-use Rattle.model.specs.Laws.Sets.{Sorted, ext, keep-sorted, member-insert, member-keep, sorted-sorted}
+use Rattle.model.specs.Laws.Sets.{Sorted, ext, keep-sorted, member-keep, sorted-sorted, member-sorted}
+use Rattle.model.specs.Laws.Normal.{settled-sorted}
 
 -- ---- limits
 
@@ -47,14 +48,9 @@ limit-one h w = by (atcFor h w) (timerOf h w)
 
 -- ---- sets
 
-pub sorted-member : (q : Requirement) (xs : List Requirement) → member q (sorted xs) ≡ member q xs
-unfolding sorted member
-sorted-member q [] = refl
-sorted-member q (x ∷ xs) = member-insert q x (sorted xs) ∙ ap (λ b. sameReq q x || b) (sorted-member q xs)
-
 -- what is sorted stays as it is
 sorted-id : (xs : List Requirement) → Sorted xs → sorted xs ≡ xs
-sorted-id xs s = ext (sorted xs) xs (sorted-sorted xs) s (λ q. sorted-member q xs)
+sorted-id xs s = ext (sorted xs) xs (sorted-sorted xs) s (λ q. member-sorted q xs)
 
 settled-bool : (x a m : Bool) → not (x && a) && (not a && m) ≡ not a && m
 settled-bool true true m = refl
@@ -69,10 +65,6 @@ settled-again qs s =
     let k : Sorted (keep p qs) = keep-sorted p qs s in
     ext _ (keep p qs) (keep-sorted _ (keep p qs) k) k
     (λ q. member-keep _ q (keep p qs) ∙ rw (member-keep p (negateReq q) qs, member-keep p q qs) (settled-bool (p (negateReq q)) (member (negateReq q) qs) (member q qs)))
-
-settled-sorted : (qs : List Requirement) → Sorted qs → Sorted (settled qs)
-unfolding settled
-settled-sorted qs s = keep-sorted _ qs s
 
 lone-bool : (x a b m : Bool) → (not (x && a) && b) && ((not a && b) && m) ≡ (not a && b) && m
 lone-bool true true b m = refl

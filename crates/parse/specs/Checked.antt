@@ -1,10 +1,10 @@
 -- What a parse answers where a check refuses, where the walk stops and where the slots were read. Assumes nothing.
 use mathlib.Core.Path.{_≡_, refl, sym, ap, ap₂, _∙_, subst}
 use mathlib.Core.List.{List, [], _∷_, map}
-use Prim.Native.Nat.{ℕ, zero, suc, _≤_, _<_}
+use Prim.Native.Nat.{ℕ, zero, suc, _<_}
 use native.Mathlib.Omega.{arith}
 use lib.ListN.{length, getD, length-map}
-use Rattle.model.specs.Limits.{slotCount, mostItems}
+use Rattle.model.specs.Limits.{slotCount}
 use Rattle.model.specs.Sheet as Model
 use Rattle.model.specs.Sheet.{itemCount}
 use Rattle.model.specs.Printer.{atcEntry}
@@ -120,6 +120,3 @@ items-counted ks s = length-map ks atcEntry
 pub atcs-counted : (ks : List ℕ) (s : Given.Sheet) → sheetOf ks s .atcCount ≡ s .atcs
 unfolding sheetOf
 atcs-counted ks s = refl
-
-pub items-low : (ks : List ℕ) (s : Given.Sheet) (m : Memory) (b : ℕ) → callIn (sheetOf ks s) m b ≡ 0 → length ks ≤ mostItems
-items-low ks s m b e = omega (arith, items-few (sheetOf ks s) (call-passed (sheetOf ks s) m b e .sheet), items-counted ks s)

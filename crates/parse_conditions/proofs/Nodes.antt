@@ -1,9 +1,8 @@
 -- What is gathered at a node, by its kind. Assumes nothing.
 use mathlib.Core.Path.{_≡_, refl, ap, _∙_}
-use mathlib.Core.Bool.{Bool, true, false, not}
+use mathlib.Core.Bool.{Bool, true, false, not, false≢true}
 use mathlib.Core.List.{[], _++_}
 use Prim.Native.Nat.{ℕ, _<_, _≤_}
-use native.Mathlib.Omega.{arith}
 use Rattle.model.specs.Expr.{Expr, two, one, imm16, imm32, other}
 use Rattle.model.specs.Sheet.{Sheet}
 use Rattle.model.specs.Image.{kindOf}
@@ -15,9 +14,6 @@ use Rattle.model.specs.declared.Op2.{Op2}
 use Rattle.model.specs.declared.Op1.{Op1}
 use Rattle.expr.specs.Tree.{treeBelow, below-out, below-two, below-one, below-imm16, below-imm32, below-other}
 use Rattle.parse_conditions.specs.Gathered.{joins, toggles, alone, gathered}
-
-false≢true : false ≡ true → ⊥
-false≢true e = let z : _≡_ {A = ℕ} 0 1 = cc in omega arith
 
 module _ (h : Sheet) (n : Bool) where
   two-join : (o : Op2) (a b : Expr) → isJoin o ≡ true → gathered h (two o a b) n ≡ gathered h a n ++ gathered h b n

@@ -14,7 +14,7 @@ use Rattle.model.specs.Sheet.{Sheet}
 use Rattle.model.specs.Parse.{value, isJoin, isNot, mapReq, ifZero, signed, addReq, parseRequirement, gather}
 use Rattle.model.specs.declared.Op2.the-variants.{Equal, NotEqual, Less, LessEqual, Greater, GreaterEqual, Add, Subtract, BitAnd, BitOr}
 use Rattle.model.specs.declared.Op1.the-variants.{Not, Flag, Variable, Item, Atc, Time}
-use Rattle.expr.specs.Requirement.{negate-twice}
+use Rattle.model.specs.Laws.Normal.{neg-neg}
 use Rattle.parse_keys.specs.Turns.{signs-meet}
 use Rattle.parse_conditions.specs.Gathered.{single, alone, gathered, inserted}
 use Rattle.memory.specs.PutNodes.{size-pos}
@@ -106,7 +106,7 @@ gathered-negate h other n = refl
 
 single-turned : (n : Bool) (o : Option Requirement) → single (mapReq (signed (not n)) o) ≡ map negateReq (single (mapReq (signed n) o))
 single-turned n none = refl
-single-turned true (some r) = ap (λ x. x ∷ []) (sym (negate-twice r))
+single-turned true (some r) = ap (λ x. x ∷ []) (sym (neg-neg r))
 single-turned false (some r) = refl
 
 gathered-turned : (h : Sheet) (e : Expr) (n : Bool) → gathered h e (not n) ≡ map negateReq (gathered h e n)

@@ -1,6 +1,6 @@
--- Marking entries one after the other, and taking marks away. Assumes nothing.
+-- Marking entries or-move after the other, and taking marks away. Assumes nothing.
 use mathlib.Core.Path.{_≡_, refl, ap, _∙_}
-use mathlib.Core.Bool.{Bool, true, false, not, _&&_, _||_}
+use mathlib.Core.Bool.{Bool, true, false, not, _&&_, _||_, or-comm}
 use mathlib.Core.List.{List, [], _∷_, _++_, map-append}
 use Prim.Native.Nat.{ℕ, _+_, _-_, _≤_, _<_}
 use native.Mathlib.Omega.{arith}
@@ -9,8 +9,9 @@ use lib.Dec.{eqb}
 use lib.ListN.{getD, length, set, take, length-append, length-map}
 use lib.Seq.{slice, slice-empty, length-slice, take-suc, take-suc-set, drop-append-le, length-take-le, getD-set-same, getD-set-other}
 use borrow.Author.Tests.{eqb-true, eqb-false}
+use Rattle.model.specs.Laws.Bools.{or-move}
 use Rattle.parse_filter.specs.Chains.{signedEntry, signedPart, has}
-use Rattle.parse_filter.specs.Members.{has-append, or-comm}
+use Rattle.parse_filter.specs.Members.{has-append}
 use Rattle.parse_filter.specs.Marks.{Part, Marks, Unmarks}
 
 -- ---- a part of the list
@@ -35,18 +36,12 @@ marks-none s al a = record { marks = λ e. refl; looked = λ e. refl; up = omega
 pub marks-join : (s t u : List Bool) (al bl cl : List ℕ) (a b c : ℕ) (xs ys zs : List ℕ)
     → ((e : ℕ) → has e zs ≡ has e xs || has e ys) → length zs ≡ length xs + length ys → Marks s al a xs t bl b → Marks t bl b ys u cl c → Marks s al a zs u cl c
 marks-join s t u al bl cl a b c xs ys zs f l p q = record {
-  marks = λ e. q .marks e ∙ rw (p .marks e, f e) (one (has e xs) (has e ys) (getD s e false));
+  marks = λ e. q .marks e ∙ rw (p .marks e, f e) (or-move (has e xs) (has e ys) (getD s e false));
   looked = λ e. q .looked e ∙ rw (p .looked e, p .marks e, f e) (two (has e xs) (has e ys) (getD s e false) (has e (take a al)));
   up = omega (arith, p .up, q .up);
   most = omega (arith, p .most, q .most);
 }
   where
-    one : (x y m : Bool) → y || (x || m) ≡ (x || y) || m
-    one true true m = refl
-    one true false m = refl
-    one false true m = refl
-    one false false m = refl
-
     two : (x y m o : Bool) → (y && not (x || m)) || ((x && not m) || o) ≡ ((x || y) && not m) || o
     two true true true o = refl
     two true true false o = refl
@@ -65,11 +60,11 @@ marks-before s t u al bl cl a b c xs ys p q = marks-join s t u al bl cl a b c xs
 module _ (s : List Bool) (al : List ℕ) (a e : ℕ) where
   pub entry-seen : getD s e false ≡ true → Marks s al a (e ∷ []) s al a
   unfolding has
-  entry-seen h = record { marks = λ x. one (eqb x e) x refl; looked = λ x. two (eqb x e) x refl; up = omega arith; most = omega arith }
+  entry-seen h = record { marks = λ x. or-move (eqb x e) x refl; looked = λ x. two (eqb x e) x refl; up = omega arith; most = omega arith }
     where
-      one : (t : Bool) (x : ℕ) → eqb x e ≡ t → getD s x false ≡ (t || false) || getD s x false
-      one true x q = ap (λ y. getD s y false) (eqb-true x e q) ∙ h
-      one false x q = refl
+      or-move : (t : Bool) (x : ℕ) → eqb x e ≡ t → getD s x false ≡ (t || false) || getD s x false
+      or-move true x q = ap (λ y. getD s y false) (eqb-true x e q) ∙ h
+      or-move false x q = refl
 
       two : (t : Bool) (x : ℕ) → eqb x e ≡ t → has x (take a al) ≡ ((t || false) && not (getD s x false)) || has x (take a al)
       two true x q = let z : getD s x false ≡ true = ap (λ y. getD s y false) (eqb-true x e q) ∙ h in rw z
@@ -78,15 +73,15 @@ module _ (s : List Bool) (al : List ℕ) (a e : ℕ) where
   pub entry-new : getD s e false ≡ false → e < length s → a < length al → Marks s al a (e ∷ []) (set s e true) (set al a e) (a + 1)
   unfolding has
   entry-new h l k = record {
-    marks = λ x. one (eqb x e) x refl;
+    marks = λ x. or-move (eqb x e) x refl;
     looked = λ x. rw (add-one a, take-suc-set al a e k, has-append x (take a al) (e ∷ [])) (two (eqb x e) x refl);
     up = omega arith;
     most = omega arith;
   }
     where
-      one : (t : Bool) (x : ℕ) → eqb x e ≡ t → getD (set s e true) x false ≡ (t || false) || getD s x false
-      one true x q = ap (λ y. getD (set s e true) y false) (eqb-true x e q) ∙ getD-set-same s e true false l
-      one false x q = getD-set-other s e x true false (eqb-false x e q)
+      or-move : (t : Bool) (x : ℕ) → eqb x e ≡ t → getD (set s e true) x false ≡ (t || false) || getD s x false
+      or-move true x q = ap (λ y. getD (set s e true) y false) (eqb-true x e q) ∙ getD-set-same s e true false l
+      or-move false x q = getD-set-other s e x true false (eqb-false x e q)
 
       two : (t : Bool) (x : ℕ) → eqb x e ≡ t → has x (take a al) || (t || false) ≡ ((t || false) && not (getD s x false)) || has x (take a al)
       two true x q = let z : getD s x false ≡ false = ap (λ y. getD s y false) (eqb-true x e q) ∙ h in rw z (or-comm (has x (take a al)) true)
@@ -99,13 +94,13 @@ unfolding has
 unmarks-none s = record { marks = λ e. refl }
 
 unmarks-join : (s t u : List Bool) (xs ys zs : List ℕ) → ((e : ℕ) → has e zs ≡ has e xs || has e ys) → Unmarks s xs t → Unmarks t ys u → Unmarks s zs u
-unmarks-join s t u xs ys zs f p q = record { marks = λ e. q .marks e ∙ rw (p .marks e, f e) (one (has e xs) (has e ys) (getD s e false)) }
+unmarks-join s t u xs ys zs f p q = record { marks = λ e. q .marks e ∙ rw (p .marks e, f e) (or-move (has e xs) (has e ys) (getD s e false)) }
   where
-    one : (x y m : Bool) → not y && (not x && m) ≡ not (x || y) && m
-    one true true m = refl
-    one true false m = refl
-    one false true m = refl
-    one false false m = refl
+    or-move : (x y m : Bool) → not y && (not x && m) ≡ not (x || y) && m
+    or-move true true m = refl
+    or-move true false m = refl
+    or-move false true m = refl
+    or-move false false m = refl
 
 pub unmarks-append : (s t u : List Bool) (xs ys : List ℕ) → Unmarks s xs t → Unmarks t ys u → Unmarks s (xs ++ ys) u
 unmarks-append s t u xs ys p q = unmarks-join s t u xs ys (xs ++ ys) (λ e. has-append e xs ys) p q
@@ -115,11 +110,11 @@ unmarks-before s t u xs ys p q = unmarks-join s t u xs ys (ys ++ xs) (λ e. has-
 
 pub unmarks-one : (s : List Bool) (e : ℕ) → e < length s → Unmarks s (e ∷ []) (set s e false)
 unfolding has
-unmarks-one s e l = record { marks = λ x. one (eqb x e) x refl }
+unmarks-one s e l = record { marks = λ x. or-move (eqb x e) x refl }
   where
-    one : (t : Bool) (x : ℕ) → eqb x e ≡ t → getD (set s e false) x false ≡ not (t || false) && getD s x false
-    one true x q = ap (λ y. getD (set s e false) y false) (eqb-true x e q) ∙ getD-set-same s e false false l
-    one false x q = getD-set-other s e x false false (eqb-false x e q)
+    or-move : (t : Bool) (x : ℕ) → eqb x e ≡ t → getD (set s e false) x false ≡ not (t || false) && getD s x false
+    or-move true x q = ap (λ y. getD (set s e false) y false) (eqb-true x e q) ∙ getD-set-same s e false false l
+    or-move false x q = getD-set-other s e x false false (eqb-false x e q)
 
 -- ---- the loops over a part of the list
 

@@ -1,13 +1,13 @@
 -- The steps of parse_requirements put together: the marks of the condition, what of it is alive, and the set of what stays. Assumes nothing.
 use mathlib.Core.Path.{_≡_, refl, sym, ap, _∙_}
-use mathlib.Core.Bool.{Bool, true, false, not, _&&_, _||_, true≢false}
+use mathlib.Core.Bool.{Bool, true, false, not, _&&_, _||_, true≢false, or-comm, not-and-self}
 use mathlib.Core.List.{List, _++_, map}
 use Prim.Native.Nat.{ℕ, zero, suc, _/_, _≤_, _<_}
 use native.Mathlib.Omega.{arith}
 use lib.ListN.{getD, length, take}
 use lib.Seq.{getD-take, length-take-le}
 use Rattle.model.specs.Limits.{wide16}
-use Rattle.model.specs.Laws.Checks.{and-left, and-right}
+use Rattle.model.specs.Laws.Checks.{and-left, and-right, or-none}
 use Rattle.shop.specs.Sets.{sortedCodes}
 use Rattle.parse_keys.specs.Entries.{Valid, entryCode}
 use Rattle.parse_filter.specs.Chains.{companionOf, has, entriesAbove, entriesIn, reached, topOf, Falls, Chains, Walkable, Bounds}
@@ -15,9 +15,10 @@ use Rattle.parse_filter.specs.ChainLaws.{down, reached-end, reached-step
 use Rattle.parse_filter.specs.Filter.{stay, filtered, unmet, Met, Sifted, companionCodes, negatedCodes, Coded, Holds}
 use Rattle.parse_filter.specs.Frames.{entries-valid}
 use Rattle.parse_filter.specs.Marks.{MarkedAs, Marks, Onward, Unmarks, Served, as-they-are, none-left, Parsed}
-use Rattle.parse_filter.specs.Members.{or-cases, or-left, or-right, or-comm, has-append, has-stay, place-has, same-set, map-same}
+use Rattle.parse_filter.specs.Members.{has-append, has-stay, place-has, same-set, map-same}
 use Rattle.parse_filter.specs.declared.Marked.{Marked}
 use Rattle.model.specs.Laws.Normal.{both-ways}
+use Rattle.model.specs.Laws.Bools.{or-cases, or-left, or-right}
 
 -- ---- bounds
 
@@ -52,15 +53,11 @@ served-none : (cs cells list : List ℕ) (s t : List Bool) (al : List ℕ) (old 
     → MarkedAs cs cells list t al (record { first = 0; alive = 0 })
 unfolding has
 served-none cs cells list s t al old ms u = record {
-  marks = λ e. u .marks e ∙ (rw (ms .marks e, entries-none cs cells list) (by (has e (entriesIn cs cells list (old .first)))));
+  marks = λ e. u .marks e ∙ (rw (ms .marks e, entries-none cs cells list) (not-and-self (has e (entriesIn cs cells list (old .first)))));
   some = λ e h. absurd (true≢false (sym h));
   all = λ e h g. absurd (true≢false (sym h ∙ rw (entries-none cs cells list)));
   few = omega arith;
 }
-  where
-    by : (b : Bool) → not b && b ≡ false
-    by true = refl
-    by false = refl
 
 module _ (cs cells list : List ℕ) (s : List Bool) (al : List ℕ) (old : Marked) (first : ℕ) (t : List Bool) (k : Marked) (ms : MarkedAs cs cells list s al old) (zero-reached : reached cells 0 first ≡ 0) where
   pub served-marks : Served cs cells list s old first t k → MarkedAs cs cells list t al k
@@ -96,12 +93,8 @@ module _ (cs cells list : List ℕ) (s t : List Bool) (al bl : List ℕ) (k : Ma
   more-all : (e : ℕ) → has e (entriesIn cs cells list first) ≡ true → has (companionOf cs e) (entriesIn cs cells list first) ≡ false → has e (take r bl) ≡ true
   more-all e h g = looked e ∙ by (was e) (new e) refl refl
     where
-      or-no : (a b : Bool) → a || b ≡ false → a ≡ false
-      or-no true b z = z
-      or-no false b z = refl
-
       by : (a b : Bool) → was e ≡ a → new e ≡ b → (b && not a) || has e (take (k .alive) al) ≡ true
-      by true b p q = or-right (b && not true) (has e (take (k .alive) al)) (ms .all e p (or-no (was (companionOf cs e)) (new (companionOf cs e)) (sym (whole (companionOf cs e)) ∙ g)))
+      by true b p q = or-right (b && not true) (has e (take (k .alive) al)) (ms .all e p (or-none (was (companionOf cs e)) (new (companionOf cs e)) (sym (whole (companionOf cs e)) ∙ g)))
       by false true p q = refl
       by false false p q = absurd (true≢false (sym h ∙ whole e ∙ rw (p, q)))
 

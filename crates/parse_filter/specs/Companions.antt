@@ -1,12 +1,14 @@
 -- The filter for any companions at all, as laws: what it keeps, that marks and words do for a set, and companions of three sorts (02, A.3). Assumes nothing.
 use mathlib.Core.Path.{_≡_, refl, sym, ap, _∙_}
-use mathlib.Core.Bool.{Bool, true, false, not, cond, _&&_, _||_, true≢false}
+use mathlib.Core.Bool.{Bool, true, false, not, cond, _&&_, _||_, true≢false, or-comm}
 use mathlib.Core.List.{List, [], _∷_, _++_}
 use Prim.Native.Nat.{ℕ}
 use lib.ListN.{getD}
+use borrow.Author.Tests.{not-false}
+use Rattle.model.specs.Laws.Bools.{or-left}
 use Rattle.parse_filter.specs.Chains.{companionOf, has}
 use Rattle.parse_filter.specs.Filter.{stay, filtered, unmet, HeldAs}
-use Rattle.parse_filter.specs.Members.{or-left, or-comm, has-append, has-stay, stay-append, has-self, has-later}
+use Rattle.parse_filter.specs.Members.{has-append, has-stay, stay-append, has-self, has-later}
 
 -- what is kept: an entry of the set, whose companion is not in the set
 pub filtered-has : (xs : List ℕ) (companion : ℕ → ℕ) (e : ℕ) → has e (filtered xs companion) ≡ not (has (companion e) xs) && has e xs
@@ -54,11 +56,7 @@ held-whole cs seen set m = record { marks = m; looked = λ e. true; order = sym 
 -- once it was filtered, what was kept is enough to look at
 pub held-kept : (cs : List ℕ) (seen : List Bool) (words set : List ℕ) → HeldAs cs seen words set → HeldAs cs seen (filtered set (companionOf cs)) set
 unfolding filtered
-held-kept cs seen words set h = record { marks = h .marks; looked = λ e. not (has (companionOf cs e) set); order = refl; others = λ e z. back (has (companionOf cs e) set) z }
-  where
-    back : (b : Bool) → not b ≡ false → b ≡ true
-    back true z = refl
-    back false z = absurd (true≢false z)
+held-kept cs seen words set h = record { marks = h .marks; looked = λ e. not (has (companionOf cs e) set); order = refl; others = λ e z. not-false (has (companionOf cs e) set) z }
 
 -- entries that are not in it are marked and join it behind the others
 pub held-more : (cs : List ℕ) (seen seen' : List Bool) (words set new : List ℕ) → HeldAs cs seen words set → ((e : ℕ) → has e new ≡ true → has e set ≡ false)

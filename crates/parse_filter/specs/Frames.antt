@@ -7,10 +7,11 @@ use native.Mathlib.Omega.{arith}
 use lib.ListN.{getD, length, take}
 use lib.Seq.{slice, length-slice, getD-take, getD-drop, ext-getD}
 use borrow.Author.Tests.{ne-eqb}
+use Rattle.model.specs.Laws.Bools.{or-cases}
 use Rattle.parse_keys.specs.Entries.{Valid}
 use Rattle.parse_filter.specs.Chains.{companionOf, signedEntry, has, joinedTo, fromOf, toOf, isElse, signedPart, partOf, entriesIn, topOf, Chains}
 use Rattle.parse_filter.specs.ChainLaws.{down, entries-at, entries-none}
-use Rattle.parse_filter.specs.Members.{or-cases, has-append, map-from, has-place}
+use Rattle.parse_filter.specs.Members.{has-append, map-from, has-place}
 use Rattle.parse_filter.specs.Marks.{MarkedAs}
 use Rattle.parse_filter.specs.declared.Marked.{Marked}
 

@@ -1,6 +1,6 @@
 -- Membership in lists of entries, and that a set of codes does not depend on the order in which they came. Assumes nothing.
 use mathlib.Core.Path.{_≡_, refl, sym, ap, _∙_}
-use mathlib.Core.Bool.{Bool, true, false, cond, _&&_, _||_, true≢false}
+use mathlib.Core.Bool.{Bool, true, false, cond, _&&_, _||_, true≢false, or-comm, or-assoc, and-false}
 use mathlib.Core.List.{List, [], _∷_, _++_, map}
 use Prim.Native.Nat.{ℕ, zero, suc, _≤_, _<_}
 use native.Mathlib.Omega.{arith}
@@ -8,48 +8,24 @@ use lib.Dec.{eqb, ltb}
 use lib.ListN.{getD, length}
 use borrow.Author.Tests.{eqb-true, eq-eqb}
 use Rattle.model.specs.Requirement.{Requirement, haveItem, missingItem, haveAtc, missingAtc, haveFlag, missingFlag, insert, sorted, member, sameReq}
-use Rattle.model.specs.Laws.Sets.{sorted-sorted, member-insert, ext}
+use Rattle.model.specs.Laws.Sets.{sorted-sorted, ext, member-sorted}
 use Rattle.shop.specs.Sets.{insertCode, sortedCodes}
 use Rattle.shop.specs.SetLaws.{insert-more}
 use Rattle.parse_filter.specs.Chains.{has}
 use Rattle.parse_filter.specs.Filter.{stay}
 use Rattle.model.specs.Laws.Normal.{both-ways}
-
-pub or-cases : {Q : Type 0} (a b : Bool) → a || b ≡ true → (a ≡ true → Q) → (b ≡ true → Q) → Q
-or-cases true b e f g = f refl
-or-cases false b e f g = g e
-
-pub or-left : (a b : Bool) → a ≡ true → a || b ≡ true
-or-left a b e = rw e
-
-pub or-right : (a b : Bool) → b ≡ true → a || b ≡ true
-or-right true b e = refl
-or-right false b e = e
-
-pub or-assoc : (a b m : Bool) → a || (b || m) ≡ (a || b) || m
-or-assoc true b m = refl
-or-assoc false b m = refl
-
-pub or-comm : (a b : Bool) → a || b ≡ b || a
-or-comm true true = refl
-or-comm true false = refl
-or-comm false true = refl
-or-comm false false = refl
+use Rattle.model.specs.Laws.Bools.{or-cases, or-left, or-right}
 
 -- ---- membership
 
 pub has-append : (e : ℕ) (xs ys : List ℕ) → has e (xs ++ ys) ≡ has e xs || has e ys
 unfolding has
 has-append e [] ys = refl
-has-append e (x ∷ xs) ys = rw (has-append e xs ys) (or-assoc (eqb e x) (has e xs) (has e ys))
+has-append e (x ∷ xs) ys = rw (has-append e xs ys) (sym (or-assoc (eqb e x) (has e xs) (has e ys)))
 
 pub has-stay : (p : ℕ → Bool) (e : ℕ) (xs : List ℕ) → has e (stay p xs) ≡ p e && has e xs
 unfolding has stay
-has-stay p e [] = by (p e)
-  where
-    by : (t : Bool) → false ≡ t && false
-    by true = refl
-    by false = refl
+has-stay p e [] = sym (and-false (p e))
 has-stay p e (x ∷ xs) = by (eqb e x) (p x) refl refl (has-stay p e xs)
   where
     by : (s t : Bool) → eqb e x ≡ s → p x ≡ t → has e (stay p xs) ≡ p e && has e xs → has e (cond t (x ∷ stay p xs) (stay p xs)) ≡ p e && (s || has e xs)
@@ -131,11 +107,6 @@ item-sorted : (l : List ℕ) → map haveItem (sortedCodes l) ≡ sorted (map ha
 unfolding sortedCodes sorted
 item-sorted [] = refl
 item-sorted (c ∷ cs) = item-insert c (sortedCodes cs) ∙ ap (insert (haveItem c)) (item-sorted cs)
-
-pub member-sorted : (q : Requirement) (rs : List Requirement) → member q (sorted rs) ≡ member q rs
-unfolding sorted member
-member-sorted q [] = refl
-member-sorted q (r ∷ rs) = member-insert q r (sorted rs) ∙ rw (member-sorted q rs)
 
 item-member : (e : ℕ) (xs : List ℕ) → member (haveItem e) (map haveItem xs) ≡ has e xs
 unfolding member has

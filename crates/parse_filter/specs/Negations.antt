@@ -1,6 +1,6 @@
 -- With the negations as companions the filter leaves the requirements that the definitions leave: contradicting pairs drop, and what stays joins a slot negated. Assumes nothing.
 use mathlib.Core.Path.{_≡_, refl, sym, ap, _∙_}
-use mathlib.Core.Bool.{Bool, true, false, not, cond, _&&_, _||_, true≢false}
+use mathlib.Core.Bool.{Bool, true, false, not, cond, _&&_, _||_, true≢false, or-comm, or-assoc, or-false}
 use mathlib.Core.List.{List, [], _∷_, map}
 use Prim.Native.Nat.{ℕ, _/_, _≤_, _<_}
 use native.Mathlib.Omega.{arith}
@@ -9,22 +9,22 @@ use lib.ListN.{getD}
 use borrow.Author.Tests.{eqb-true}
 use Rattle.model.specs.Requirement.{Requirement, haveItem, missingItem, haveAtc, missingAtc, haveFlag, missingFlag, sameReq, negateReq, insert, sorted, member, keep, settled, extend}
 use Rattle.model.specs.Laws.Checks.{and-right}
-use Rattle.model.specs.Laws.Sets.{same-refl, Sorted, insert-sorted, sorted-sorted, member-insert, member-keep, ext}
+use Rattle.model.specs.Laws.Sets.{same-refl, Sorted, insert-sorted, sorted-sorted, member-insert, ext, member-sorted}
 use Rattle.model.specs.Laws.Runs.{sameReq-true}
 use Rattle.shop_codes.specs.Codes.{codeOf, requirementOf, Narrow, AllNarrow, isMissing}
 use Rattle.shop.specs.Sets.{sortedCodes}
 use Rattle.shop_codes.specs.Laws.{code-narrow}
-use Rattle.shop_codes.specs.Subjects.{missing-code, negate-narrow}
+use Rattle.shop_codes.specs.Subjects.{missing-code, negate-narrow, keep-narrow}
 use Rattle.shop.specs.Codes.{sorted-code}
-use Rattle.expr.specs.Requirement.{negate-twice}
 use Rattle.parse_keys.specs.Entries.{turned, entryCode, entryReq, Valid, Keys}
 use Rattle.parse_keys.specs.Turns.{by-parity, req-even, req-odd, turn-req, turn-valid}
 use Rattle.parse_keys.specs.Tables.{Companions}
 use Rattle.parse_filter.specs.Chains.{companionOf, has}
 use Rattle.parse_filter.specs.Filter.{stay, filtered, companionCodes, negatedCodes}
-use Rattle.parse_filter.specs.Members.{or-cases, or-left, or-right, or-assoc, or-comm, has-self, has-later, member-sorted}
+use Rattle.parse_filter.specs.Members.{has-self, has-later}
 use Rattle.parse_filter.specs.Companions.{filtered-has}
-use Rattle.model.specs.Laws.Normal.{same-move, both-ways}
+use Rattle.model.specs.Laws.Normal.{same-move, both-ways, neg-neg, settled-member, extend-member, extend-sorted}
+use Rattle.model.specs.Laws.Bools.{or-cases, or-left, or-right}
 
 -- ---- negated requirements
 
@@ -78,7 +78,7 @@ module _ (ks : List ℕ) (m : ℕ) (keys : Keys ks m) where
       (λ b. let h = same-key j k v w (neg-same (sym (req-odd ks j a) ∙ e ∙ req-odd ks k b)) in omega arith))
     where
       neg-same : {r q : Requirement} → negateReq r ≡ negateReq q → r ≡ q
-      neg-same {r} {q} z = sym (negate-twice r) ∙ ap negateReq z ∙ negate-twice q
+      neg-same {r} {q} z = sym (neg-neg r) ∙ ap negateReq z ∙ neg-neg q
 
 -- ---- lists of requirements
 
@@ -111,48 +111,14 @@ map-stay f p q (x ∷ xs) a = by (p x) (a x (has-self x xs)) (map-stay f p q xs 
     by true z ih = rw (← z, ih)
     by false z ih = rw (← z) ih
 
-settled-member : (q : Requirement) (gs : List Requirement) → member q (settled gs) ≡ not (member (negateReq q) gs) && member q gs
-unfolding settled
-settled-member q gs = member-keep (λ r. not (member (negateReq r) gs)) q gs
-
-extend-member : (q : Requirement) (xs rs : List Requirement) → member q (extend rs xs) ≡ member (negateReq q) xs || member q rs
-unfolding member
-extend-member q [] rs = refl
-extend-member q (x ∷ xs) rs =
-    extend-member q xs (insert (negateReq x) rs)
-    ∙ ap (λ t. member (negateReq q) xs || t) (member-insert q (negateReq x) rs ∙ ap (λ t. t || member q rs) (same-move q x))
-    ∙ or-swap (member (negateReq q) xs) (sameReq (negateReq q) x) (member q rs)
-  where
-    or-swap : (a b m : Bool) → a || (b || m) ≡ (b || a) || m
-    or-swap true true m = refl
-    or-swap true false m = refl
-    or-swap false true m = refl
-    or-swap false false m = refl
-
 extend-none : (q : Requirement) (xs : List Requirement) → member q (extend [] xs) ≡ member (negateReq q) xs
 unfolding member
-extend-none q xs = extend-member q xs [] ∙ or-none (member (negateReq q) xs)
-  where
-    or-none : (b : Bool) → b || false ≡ b
-    or-none true = refl
-    or-none false = refl
-
-extend-sorted : (xs rs : List Requirement) → Sorted rs → Sorted (extend rs xs)
-extend-sorted [] rs s = s
-extend-sorted (x ∷ xs) rs s = extend-sorted xs (insert (negateReq x) rs) (insert-sorted (negateReq x) rs s)
+extend-none q xs = extend-member q [] xs ∙ or-false (member (negateReq q) xs)
 
 negated-member : (f : ℕ → Requirement) (q : Requirement) (xs : List ℕ) → member q (map (λ e. negateReq (f e)) xs) ≡ member (negateReq q) (map f xs)
 unfolding member
 negated-member f q [] = refl
 negated-member f q (x ∷ xs) = rw (negated-member f q xs, same-move q (f x))
-
-keep-narrow : (p : Requirement → Bool) (rs : List Requirement) → AllNarrow rs → AllNarrow (keep p rs)
-keep-narrow p [] a = a
-keep-narrow p (r ∷ rs) a = by (p r) (keep-narrow p rs (a .1))
-  where
-    by : (t : Bool) → AllNarrow (keep p rs) → AllNarrow (cond t (r ∷ keep p rs) (keep p rs))
-    by true b = (a .0, b)
-    by false b = b
 
 all-narrow : (rs : List Requirement) → ((q : Requirement) → member q rs ≡ true → Narrow q) → AllNarrow rs
 unfolding member
@@ -209,7 +175,7 @@ module _ (ks cs : List ℕ) (m : ℕ) (keys : Keys ks m) (companions : Companion
         ap sortedCodes (codes-read kept kept-valid)
         ∙ sym (sorted-code rs (map-narrow (λ e. negateReq (entryReq ks e)) kept (λ e. negate-narrow (entryReq ks e) (entry-narrow ks e))))
         ∙ ap (map codeOf)
-        (ext (sorted rs) (extend [] (settled gs)) (sorted-sorted rs) (extend-sorted (settled gs) [] tt)
+        (ext (sorted rs) (extend [] (settled gs)) (sorted-sorted rs) (extend-sorted [] (settled gs) tt)
         (λ q. member-sorted q rs ∙ negated-member (entryReq ks) q kept ∙ kept-member (negateReq q) ∙ sym (extended q)))
       where
         extended : (q : Requirement) → member q (extend [] (settled gs)) ≡ not (member (negateReq (negateReq q)) (map (entryReq ks) xs)) && member (negateReq q) (map (entryReq ks) xs)
@@ -233,7 +199,7 @@ module _ (ks cs : List ℕ) (m : ℕ) (keys : Keys ks m) (companions : Companion
     into-member q [] rs = ap (member q) (none-left rs)
     into-member q (y ∷ ys) rs =
         ap (member q) (one-more y ys rs) ∙ into-member q ys (insert y rs) ∙ ap (λ t. member q ys || t) (member-insert q y rs)
-        ∙ or-assoc (member q ys) (sameReq q y) (member q rs) ∙ ap (λ t. t || member q rs) (or-comm (member q ys) (sameReq q y))
+        ∙ sym (or-assoc (member q ys) (sameReq q y) (member q rs)) ∙ ap (λ t. t || member q rs) (or-comm (member q ys) (sameReq q y))
 
     module _ (rs : List Requirement) (read : map (entryReq ks) xs ≡ rs) where
       same : (q : Requirement) → member q (into rs []) ≡ member q (map (entryReq ks) xs)

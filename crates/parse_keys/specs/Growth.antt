@@ -1,13 +1,11 @@
 -- What stays as keys are added, and the tables with which a walk begins. Assumes nothing.
 use mathlib.Core.Path.{_≡_, refl, _∙_}
-use mathlib.Core.Bool.{Bool, true, false}
 use mathlib.Core.List.{List}
 use Prim.Native.Nat.{ℕ, _*_, _/_, _≤_, _<_}
 use native.Mathlib.Omega.{arith}
-use lib.Dec.{ltb}
-use lib.ListN.{getD, replicate, length-replicate, getD-replicate, List·getD-eq-default}
-use borrow.Author.Tests.{ltb-true, ltb-false}
+use lib.ListN.{replicate, length-replicate}
 use Rattle.model.specs.Requirement.{Requirement}
+use Rattle.model.specs.Laws.Places.{all-one}
 use Rattle.parse_keys.specs.Entries.{entryReq, Valid, Stand}
 use Rattle.parse_keys.specs.Tables.{Tables, Grown}
 
@@ -33,13 +31,6 @@ grown-stand ks m ks' n k r g s = record {
 
 -- ---- no keys yet
 
-zero-at : (n p : ℕ) → _≡_ {A = ℕ} (getD (replicate n 0) p 0) 0
-zero-at n p = by (ltb p n) refl
-  where
-    by : (t : Bool) → ltb p n ≡ t → _≡_ {A = ℕ} (getD (replicate n 0) p 0) 0
-    by true e = getD-replicate n p 0 0 (ltb-true p n e)
-    by false e = List·getD-eq-default (replicate {A = ℕ} n 0) 0 {n = p} (rw (length-replicate {A = ℕ} n 0) (ltb-false p n e))
-
 pub tables-start : (n a c : ℕ) → 0 < n → n ≤ 32767 → 2 * n ≤ a → 2 * n ≤ c → Tables (replicate n 0) (replicate a 0) (replicate c 0) 0
 tables-start n a c o s p q =
     let ln = length-replicate {A = ℕ} n 0 in
@@ -48,8 +39,8 @@ tables-start n a c o s p q =
     record {
       table = record {
         keys = record { long = omega arith; subject = λ i p q. absurd (omega arith); once = λ i j p q. absurd (omega arith) };
-        up = λ p o. absurd (omega (arith, zero-at a p));
-        low = λ p. omega (arith, zero-at a p);
+        up = λ p o. absurd (omega (arith, all-one {A = ℕ} 0 a p));
+        low = λ p. omega (arith, all-one {A = ℕ} 0 a p);
         reached = λ i p q. absurd (omega arith);
       };
       companions = λ k v. absurd (omega (arith, v .low, v .high));

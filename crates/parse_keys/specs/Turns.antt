@@ -10,8 +10,8 @@ use lib.ListN.{getD}
 use borrow.Author.Tests.{eq-eqb, ne-eqb, eqb-true, eqb-false}
 use Rattle.model.specs.Requirement.{Requirement, negateReq}
 use Rattle.model.specs.Parse.{mapReq, signed}
+use Rattle.model.specs.Laws.Normal.{neg-neg}
 use Rattle.shop_codes.specs.Codes.{requirementOf}
-use Rattle.expr.specs.Requirement.{negate-twice}
 use Rattle.parse_keys.specs.Entries.{turned, entryReq, Valid}
 
 pub turn-even : (k : ℕ) → k % 2 ≡ 0 → turned true k ≡ k + 1
@@ -44,7 +44,7 @@ req-odd ks k e = rw (eq-eqb (k % 2) 1 e)
 pub turn-req : (ks : List ℕ) (k : ℕ) → entryReq ks (turned true k) ≡ negateReq (entryReq ks k)
 turn-req ks k = by-parity k
     (λ e. let h : (k + 1) / 2 ≡ k / 2 = omega arith in rw (turn-even k e, req-odd ks (k + 1) (omega arith), req-even ks k e, h))
-    (λ e. let h : (k - 1) / 2 ≡ k / 2 = omega arith in rw (turn-odd k e, req-even ks (k - 1) (omega arith), req-odd ks k e, h) (sym (negate-twice (requirementOf (getD ks (k / 2) 0)))))
+    (λ e. let h : (k - 1) / 2 ≡ k / 2 = omega arith in rw (turn-odd k e, req-even ks (k - 1) (omega arith), req-odd ks k e, h) (sym (neg-neg (requirementOf (getD ks (k / 2) 0)))))
 
 pub turn-valid : (m k : ℕ) (n : Bool) → Valid m k → Valid m (turned n k)
 turn-valid m k false v = rw (turn-plain k) v
@@ -54,5 +54,5 @@ turn-valid m k true v = by-parity k
 
 pub signs-meet : (n : Bool) (o : Option Requirement) → mapReq (signed n) (mapReq negateReq o) ≡ mapReq (signed (not n)) o
 signs-meet n none = refl
-signs-meet true (some r) = ap some (negate-twice r)
+signs-meet true (some r) = ap some (neg-neg r)
 signs-meet false (some r) = refl

@@ -1,6 +1,6 @@
 -- What a block does to all slots: the slots that it wrote to, the lowest first, and the others as they were. Assumes nothing.
 use mathlib.Core.Path.{_≡_, refl, sym, ap, _∙_, subst}
-use mathlib.Core.Bool.{Bool, true, false, and-false}
+use mathlib.Core.Bool.{Bool, true, false, and-false, true≢false}
 use mathlib.Core.Option.{Option, none}
 use mathlib.Core.List.{List, [], _∷_}
 use Prim.Native.Nat.{ℕ, zero, suc, _+_, _≤_, _<_}
@@ -15,6 +15,7 @@ use Rattle.model.specs.Requirement.{Requirement}
 use Rattle.model.specs.Shop
 use Rattle.model.specs.Parse.{updateSlot, updateSlots, fewEntries, blank}
 use Rattle.model.specs.Laws.Walks.{updates-length}
+use Rattle.model.specs.Laws.Places.{all-from}
 use Rattle.shop.specs.Shapes.{slotOf, slotsOf, placed}
 use Rattle.shop.specs.Good.{beyond, GoodSlot, GoodShop, own-few}
 use Rattle.shop.specs.declared.Slot.{Slot}
@@ -38,9 +39,6 @@ pub record SlotsUpdated (shop : Shop) (items : ℕ) (ms ns : List (Option ℤ)) 
 
 -- ---- lists
 
-true-false : true ≡ false → ⊥
-true-false e = let z : _≡_ {A = ℕ} 0 1 = cc in omega arith
-
 slots-at : (h : Sheet) (rs : List Requirement) (ms ns : List (Option ℤ)) (xs : List Shop.Slot) (j : ℕ) (d : Shop.Slot) → length ms ≡ length xs → length ns ≡ length xs → j < length xs
     → getD (updateSlots h rs ms ns xs) j d ≡ updateSlot h rs (getD ms j none) (getD ns j none) (getD xs j d)
 slots-at h rs ms ns [] j d p q l = absurd (omega arith)
@@ -48,10 +46,6 @@ slots-at h rs [] ns (x ∷ xs) j d p q l = absurd (omega arith)
 slots-at h rs (a ∷ ms) [] (x ∷ xs) j d p q l = absurd (omega arith)
 slots-at h rs (a ∷ ms) (b ∷ ns) (x ∷ xs) zero d p q l = refl
 slots-at h rs (a ∷ ms) (b ∷ ns) (x ∷ xs) (suc j) d p q l = slots-at h rs ms ns xs j d (omega arith) (omega arith) (omega arith)
-
-all-true : {A : Type 0} (p : A → Bool) (l : List A) (d : A) → ((j : ℕ) → j < length l → p (getD l j d) ≡ true) → all p l ≡ true
-all-true p [] d f = refl
-all-true p (x ∷ l) d f = rw (f 0 (omega arith)) (all-true p l d (λ j h. f (suc j) (omega arith)))
 
 all-false : {A : Type 0} (p : A → Bool) (l : List A) (j : ℕ) (d : A) → j < length l → p (getD l j d) ≡ false → all p l ≡ false
 all-false p [] j d h e = absurd (omega arith)
@@ -62,7 +56,7 @@ all-false p (x ∷ l) (suc j) d h e = rw (all-false p l j d (omega arith) e) (an
 good-few : (shop : Shop) → GoodShop shop → length (shop .slots) ≡ slotCount → all fewEntries (slotsOf shop) ≡ true
 unfolding slotsOf
 good-few shop g p =
-    all-true fewEntries (slotsOf shop) (slotOf beyond)
+    all-from fewEntries (slotsOf shop) (slotOf beyond)
     (λ j l. ap fewEntries (List·getD-map slotOf (shop .slots) j beyond) ∙ own-few (getD (shop .slots) j beyond) (g .each j (omega (arith, length-map (shop .slots) slotOf))))
 
 -- ---- the loop
@@ -151,8 +145,8 @@ module _ (shop : Shop) (items : ℕ) (ms ns : List (Option ℤ)) (P : List Requi
         ap fewEntries (z ∙ ap (updateSlot h rs (getD ms i none) (getD ns i none)) (List·getD-map slotOf (shop .slots) i beyond ∙ ap slotOf (sym (v .rest i (omega arith))))) ∙ sym (a .ok) ∙ f in
         record {
           ok = sym (all-false fewEntries (slotsThen h rs ms ns shop) i (slotOf beyond) (omega (arith, updates-length h rs ms ns (slotsOf shop), k)) y);
-          is = λ t. absurd (true-false (sym t));
-          good = λ t. absurd (true-false (sym t));
+          is = λ t. absurd (true≢false (sym t));
+          good = λ t. absurd (true≢false (sym t));
         }
 
   -- at the end

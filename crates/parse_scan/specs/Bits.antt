@@ -1,5 +1,5 @@
 -- A mask as a list of bits, the lowest first: a bit set, the lowest set bit, two masks merged. Assumes nothing.
-use mathlib.Core.Path.{_≡_, refl, sym, ap, ap₂, _∙_}
+use mathlib.Core.Path.{_≡_, refl, sym, ap, _∙_}
 use mathlib.Core.Bool.{Bool, true, false}
 use mathlib.Core.List.{List, [], _∷_}
 use Prim.Native.Nat.{ℕ, zero, suc, _+_, _/_, _%_, _^_, _-_, _≤_, _<_, max}
@@ -9,7 +9,7 @@ use lib.ListN.{length, getD, set}
 use lib.Dec.{eqb}
 use borrow.Author.Tests.{eqb-true, eqb-false}
 use lib.Pow.{pow-add}
-use lib.Bits.{bitOr, or-step, or-zero-r}
+use lib.Bits.{bitOr, or-step, or-zero-r, or-shr}
 use lib.Count.{trailingZeros, under}
 
 unfoldable pub bitsOf : ℕ → ℕ → List Bool
@@ -99,12 +99,6 @@ module _ (m at : ℕ) where
 
 -- ---- two masks merged
 
-or-shift : (j a b : ℕ) → bitOr a b / 2 ^ j ≡ bitOr (a / 2 ^ j) (b / 2 ^ j)
-or-shift zero a b = rw (div-one (bitOr a b), div-one a, div-one b)
-or-shift (suc j) a b =
-    sym (half-more (bitOr a b) j) ∙ ap (λ x. x / 2 ^ j) (low-half a b) ∙ or-shift j (a / 2) (b / 2)
-    ∙ ap₂ bitOr (half-more a j) (half-more b j)
-
 -- a bit that is not in the merged mask is in neither
 pub or-none : (a b j : ℕ) → bitAt (bitOr a b) j ≡ false → bitAt b j ≡ false
 or-none a b j h = by (bitAt b j) refl
@@ -115,5 +109,5 @@ or-none a b j h = by (bitAt b j) refl
         let x : ℕ = a / 2 ^ j % 2 in
         let y : b / 2 ^ j % 2 ≡ 1 = eqb-true (b / 2 ^ j % 2) 1 e in
         let m : max (a / 2 ^ j % 2) (b / 2 ^ j % 2) ≡ 1 = rw y (max-eq-right {n = a / 2 ^ j % 2} {m = 1} (omega arith)) in
-        let z : bitOr a b / 2 ^ j % 2 ≡ 1 = ap (λ k. k % 2) (or-shift j a b) ∙ low-digit (a / 2 ^ j) (b / 2 ^ j) ∙ m in
+        let z : bitOr a b / 2 ^ j % 2 ≡ 1 = ap (λ k. k % 2) (or-shr a b j) ∙ low-digit (a / 2 ^ j) (b / 2 ^ j) ∙ m in
         absurd (eqb-false (bitOr a b / 2 ^ j % 2) 1 h z)

@@ -1,16 +1,19 @@
 -- The negations of requirements joining a set: one by one, or as a set of their own that joins. Assumes nothing.
 use mathlib.Core.Path.{_≡_, refl, sym, ap, _∙_}
-use mathlib.Core.Bool.{Bool, true, false, cond, _||_}
+use mathlib.Core.Bool.{Bool, true, false, cond, _||_, or-comm, or-false}
 use mathlib.Core.List.{List, [], _∷_, map}
 use Prim.Native.Nat.{ℕ, suc, _≤_}
 use native.Mathlib.Omega.{arith}
 use lib.ListN.{length}
-use Rattle.model.specs.Requirement.{Requirement, haveItem, missingItem, haveAtc, missingAtc, haveFlag, missingFlag, negateReq, sameReq, before, insert, member, extend}
+use Rattle.model.specs.Requirement.{Requirement, negateReq, sameReq, before, insert, member, extend}
 use Rattle.model.specs.Laws.Sets.{Sorted, insert-sorted, member-insert, ext}
-use Rattle.shop_codes.specs.Codes.{codeOf, Narrow, AllNarrow}
+use Rattle.model.specs.Laws.Normal.{extend-sorted, extend-member}
+use Rattle.model.specs.Laws.Bools.{or-move}
+use Rattle.shop_codes.specs.Codes.{codeOf, AllNarrow}
 use Rattle.shop.specs.Sets.{insertCode}
 use Rattle.shop.specs.SetLaws.{insert-more}
 use Rattle.shop.specs.Codes.{insert-code, insert-narrow}
+use Rattle.shop_codes.specs.Subjects.{negate-narrow}
 
 -- the requirements ls join xs
 abbrev pub joined : List Requirement → List Requirement → List Requirement
@@ -24,42 +27,19 @@ insertCodes cs (c ∷ ds) = insertCodes (insertCode c cs) ds
 
 -- ---- order and members
 
-extend-sorted : (xs rs : List Requirement) → Sorted xs → Sorted (extend xs rs)
-extend-sorted xs [] s = s
-extend-sorted xs (r ∷ rs) s = extend-sorted (insert (negateReq r) xs) rs (insert-sorted (negateReq r) xs s)
-
 joined-sorted : (xs ls : List Requirement) → Sorted xs → Sorted (joined xs ls)
 joined-sorted xs [] s = s
 joined-sorted xs (r ∷ ls) s = joined-sorted (insert r xs) ls (insert-sorted r xs s)
 
-or-none : (x : Bool) → x ≡ x || false
-or-none true = refl
-or-none false = refl
-
-or-move : (a x e : Bool) → (a || x) || e ≡ x || (a || e)
-or-move true true e = refl
-or-move true false e = refl
-or-move false true e = refl
-or-move false false e = refl
-
-or-comm : (x y : Bool) → x || y ≡ y || x
-or-comm true true = refl
-or-comm true false = refl
-or-comm false true = refl
-or-comm false false = refl
-
 member-joined : (q : Requirement) (xs ls : List Requirement) → member q (joined xs ls) ≡ member q xs || member q ls
 unfolding member
-member-joined q xs [] = or-none (member q xs)
-member-joined q xs (r ∷ ls) = member-joined q (insert r xs) ls ∙ ap (λ b. b || member q ls) (member-insert q r xs) ∙ or-move (sameReq q r) (member q xs) (member q ls)
+member-joined q xs [] = sym (or-false (member q xs))
+member-joined q xs (r ∷ ls) = member-joined q (insert r xs) ls ∙ ap (λ b. b || member q ls) (member-insert q r xs) ∙ sym (or-move (sameReq q r) (member q xs) (member q ls))
 
 member-extend : (q : Requirement) (xs rs : List Requirement) → member q (extend xs rs) ≡ member q xs || member q (extend [] rs)
 unfolding member
-member-extend q xs [] = or-none (member q xs)
-member-extend q xs (r ∷ rs) =
-    member-extend q (insert (negateReq r) xs) rs ∙ ap (λ b. b || member q (extend [] rs)) (member-insert q (negateReq r) xs)
-    ∙ or-move (sameReq q (negateReq r)) (member q xs) (member q (extend [] rs))
-    ∙ ap (λ b. member q xs || b) (ap (λ b. b || member q (extend [] rs)) (or-none (sameReq q (negateReq r)) ∙ sym (member-insert q (negateReq r) [])) ∙ sym (member-extend q (insert (negateReq r) []) rs))
+member-extend q xs rs =
+    extend-member q xs rs ∙ or-comm (member (negateReq q) rs) (member q xs) ∙ ap (λ b. member q xs || b) (sym (extend-member q [] rs ∙ or-false (member (negateReq q) rs)))
 
 -- two sorted lists with the same members are one
 pub extend-joined : (xs rs : List Requirement) → Sorted xs → extend xs rs ≡ joined xs (extend [] rs)
@@ -71,9 +51,6 @@ joined-comm : (xs ls : List Requirement) → Sorted xs → Sorted ls → joined 
 joined-comm xs ls s t =
     ext (joined xs ls) (joined ls xs) (joined-sorted xs ls s) (joined-sorted ls xs t)
     (λ q. member-joined q xs ls ∙ or-comm (member q xs) (member q ls) ∙ sym (member-joined q ls xs))
-
-pub sorted-extend : (xs rs : List Requirement) → Sorted xs → Sorted (extend xs rs)
-sorted-extend xs rs s = extend-sorted xs rs s
 
 -- ---- lengths: sets only grow
 
@@ -102,14 +79,6 @@ codes-longer cs [] = omega arith
 codes-longer cs (d ∷ ds) = omega (arith, insert-more d cs .0, codes-longer (insertCode d cs) ds)
 
 -- ---- codes
-
-negate-narrow : (r : Requirement) → Narrow r → Narrow (negateReq r)
-negate-narrow (haveItem i) p = record { fits = p .fits }
-negate-narrow (missingItem i) p = record { fits = p .fits }
-negate-narrow (haveAtc a) p = record { fits = p .fits }
-negate-narrow (missingAtc a) p = record { fits = p .fits }
-negate-narrow (haveFlag f) p = record { fits = p .fits }
-negate-narrow (missingFlag f) p = record { fits = p .fits }
 
 pub extend-narrow : (xs rs : List Requirement) → AllNarrow xs → AllNarrow rs → AllNarrow (extend xs rs)
 extend-narrow xs [] p q = p

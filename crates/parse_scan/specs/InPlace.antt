@@ -1,6 +1,6 @@
 -- Slots changed in their arrays: one that is hidden, one that is filled, and the others as they were. Assumes nothing.
 use mathlib.Core.Path.{_≡_, refl, sym, ap, _∙_}
-use mathlib.Core.Bool.{Bool, true, false}
+use mathlib.Core.Bool.{Bool, true, false, true≢false}
 use mathlib.Core.Option.{Option, none, some}
 use mathlib.Core.List.{List, _++_}
 use Prim.Native.Nat.{ℕ, zero, suc, _*_, _≤_, _<_}
@@ -76,13 +76,10 @@ held-in x ds g =
 same-reqs : {us vs : List ℕ} {p q : ℕ} → us ≡ vs → p ≡ q → reqsIn us p ≡ reqsIn vs q
 same-reqs e f = rw (e, f)
 
-true-not : true ≡ false → ⊥
-true-not e = let z : _≡_ {A = ℕ} 0 1 = cc in omega arith
-
 module _ (cs ks : List ℕ) (i : ℕ) (low : i < slotCount) (more : List ℕ) (n : ℕ) where
   -- too many by themselves
   pub hidden-none : entryLimit < n → HiddenIn cs ks i more n false cs ks
-  hidden-none h = record { became = λ is ls rs g w. hides-none (slotAt (arraysIn is ls cs ks) i) g rs more n w _ h; others = λ t. absurd (true-not (sym t)) }
+  hidden-none h = record { became = λ is ls rs g w. hides-none (slotAt (arraysIn is ls cs ks) i) g rs more n w _ h; others = λ t. absurd (true≢false (sym t)) }
 
   module _ (l : n ≤ entryLimit) (cs′ : List ℕ) (r : ℕ) (p : PartHid cs (entryLimit * i) (getD ks i 0) (take n more) cs′ r) where
     -- too many in the slot
@@ -90,8 +87,8 @@ module _ (cs ks : List ℕ) (i : ℕ) (low : i < slotCount) (more : List ℕ) (n
     unfolding slotAt
     hidden-over h = record {
       became = λ is ls rs g w. hides-more (slotAt (arraysIn is ls cs ks) i) g rs more n w l false _
-          (record { ok = sym (lt-leb (length (insertCodes (take (getD ks i 0) (rowAt cs i)) (take n more))) entryLimit (p .hid .over h)); is = λ t. absurd (true-not (sym t)) });
-      others = λ t. absurd (true-not (sym t));
+          (record { ok = sym (lt-leb (length (insertCodes (take (getD ks i 0) (rowAt cs i)) (take n more))) entryLimit (p .hid .over h)); is = λ t. absurd (true≢false (sym t)) });
+      others = λ t. absurd (true≢false (sym t));
     }
 
     module _ (long : length cs ≡ entryLimit * slotCount) (wide : length ks ≡ slotCount) (h : r ≤ entryLimit) where

@@ -1,6 +1,6 @@
 -- Whether a block hides a slot (01, Parser: item below 0 or absent adds the negated requirements). Assumes nothing.
 use mathlib.Core.Path.{_≡_, refl, sym, ap, ap₂, _∙_}
-use mathlib.Core.Bool.{Bool, true, false, _||_}
+use mathlib.Core.Bool.{Bool, true, false, _||_, or-true}
 use mathlib.Core.Option.{Option, none, some}
 use mathlib.Core.List.{List, [], _∷_}
 use Prim.Native.Nat.{ℕ, zero, suc, _+_, _≤_, _<_}
@@ -15,6 +15,7 @@ use Rattle.model.specs.Sheet.{Sheet}
 use Rattle.model.specs.Requirement.{Requirement}
 use Rattle.model.specs.Shop.{Slot}
 use Rattle.model.specs.Parse.{updateSlot, updateSlots}
+use Rattle.model.specs.Laws.Bools.{or-no}
 use Rattle.parse_scan.specs.Bits.{one-there}
 use Rattle.parse_scan.specs.Table.{tableOf, table-long, nextTouched, untouched, there}
 
@@ -31,10 +32,6 @@ hidesOne [] ns = false
 hidesOne (o ∷ ms) [] = false
 hidesOne (o ∷ ms) (n ∷ ns) = hidesBy o n || hidesOne ms ns
 
-or-false : (a b : Bool) → a || b ≡ false → (a ≡ false) × (b ≡ false)
-or-false false b e = (refl, e)
-or-false true b e = let c : _≡_ {A = ℕ} 0 1 = cc in absurd (omega arith)
-
 -- ---- one of them is, or none
 
 none-hidden : (ms ns : List (Option ℤ)) → ((j : ℕ) → j < length ms → hidesBy (getD ms j none) (getD ns j none) ≡ false) → hidesOne ms ns ≡ false
@@ -42,10 +39,6 @@ unfolding hidesOne
 none-hidden [] ns f = refl
 none-hidden (o ∷ ms) [] f = refl
 none-hidden (o ∷ ms) (n ∷ ns) f = rw (f 0 (omega arith)) (none-hidden ms ns (λ j l. f (suc j) (omega arith)))
-
-or-true : (a : Bool) → a || true ≡ true
-or-true true = refl
-or-true false = refl
 
 one-hidden : (ms ns : List (Option ℤ)) (j : ℕ) → j < length ms → j < length ns → hidesBy (getD ms j none) (getD ns j none) ≡ true → hidesOne ms ns ≡ true
 unfolding hidesOne
@@ -110,7 +103,7 @@ shown-any h rs qs [] ns xs e = refl
 shown-any h rs qs (o ∷ ms) [] xs e = refl
 shown-any h rs qs (o ∷ ms) (n ∷ ns) [] e = refl
 shown-any h rs qs (o ∷ ms) (n ∷ ns) (x ∷ xs) e =
-    let p = or-false (hidesBy o n) (hidesOne ms ns) e in
+    let p = or-no (hidesBy o n) (hidesOne ms ns) e in
     ap₂ (λ y l. y ∷ l) (one o n (p .0)) (shown-any h rs qs ms ns xs (p .1))
   where
     one : (o n : Option ℤ) → hidesBy o n ≡ false → updateSlot h rs o n x ≡ updateSlot h qs o n x

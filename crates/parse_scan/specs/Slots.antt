@@ -15,6 +15,7 @@ use Rattle.model.specs.Sheet.{Sheet, itemCount}
 use Rattle.model.specs.Requirement.{Requirement, extend}
 use Rattle.model.specs.Shop
 use Rattle.model.specs.Parse.{fillItem, newCount, updateSlot, fewEntries}
+use Rattle.model.specs.Laws.Normal.{extend-sorted}
 use Rattle.shop_codes.specs.Codes.{codeOf, requirementOf, AllNarrow}
 use Rattle.shop.specs.Shapes.{entries, itemOf, slotOf}
 use Rattle.shop.specs.Sets.{held, reqsOf}
@@ -22,7 +23,7 @@ use Rattle.shop.specs.Slots.{slot-narrow}
 use Rattle.shop.specs.Good.{ownReqs, GoodSlot, stands-for, good-slot, own-held, own-few}
 use Rattle.shop.specs.declared.Slot.{Slot}
 use Rattle.shop.specs.declared.Reqs.{Reqs}
-use Rattle.parse_scan.specs.Extend.{insertCodes, sorted-extend, extend-longer, extend-narrow, extend-codes}
+use Rattle.parse_scan.specs.Extend.{insertCodes, extend-longer, extend-narrow, extend-codes}
 
 -- n codes in more stand for the negations of rs as a set; an n past the array says that they are too many
 pub record Stands (more : List ℕ) (n : ℕ) (rs : List Requirement) : Type 0 where
@@ -83,7 +84,7 @@ module _ (x : Slot) (g : GoodSlot x) (rs : List Requirement) (more : List ℕ) (
           ok = k;
           is = λ t. ap (λ (z : Slot). record { item = itemOf (z .item); limit = z .limit; requirements = slotOf y .requirements }) (same t)
               ∙ ap (λ c. record { item = itemOf (x .item); limit = x .limit; requirements = c }) (stands-for y zs new-narrow (holds t));
-          good = λ t. good-slot y zs new-narrow (holds t) (sorted-extend (slotOf x .requirements) rs (g .sorted)) (leb-true (length zs) entryLimit (sym k ∙ t));
+          good = λ t. good-slot y zs new-narrow (holds t) (extend-sorted (slotOf x .requirements) rs (g .sorted)) (leb-true (length zs) entryLimit (sym k ∙ t));
         }
 
 -- ---- filled

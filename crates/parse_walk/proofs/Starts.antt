@@ -1,6 +1,6 @@
 -- Before the first block: the walk of the setup block alone, nothing marked, is the parse from it. Assumes nothing.
 use mathlib.Core.Path.{_≡_, refl, ap, ap₂, _∙_}
-use mathlib.Core.Bool.{Bool, true, false}
+use mathlib.Core.Bool.{Bool, false, false≢true}
 use mathlib.Core.Option.{none}
 use mathlib.Core.List.{List, [], _∷_, map}
 use Prim.Native.Nat.{ℕ, zero, suc, _+_, _*_, _≤_, _<_}
@@ -21,6 +21,7 @@ use Rattle.shop.specs.declared.Shop as Code
 use Rattle.shop.specs.Good.{good-start}
 use Rattle.reach.specs.Dfs.{entry}
 use Rattle.model.specs.Laws.Marks.{unmarked, unmarked-replicate}
+use Rattle.model.specs.Laws.Places.{all-one}
 use Rattle.reach.specs.Weights.{weightOf, weight-all}
 use Rattle.reach.specs.Stacks.{stackOf, AllLow}
 use Rattle.expr.specs.Requirement.{Has}
@@ -105,11 +106,6 @@ module _ (m : Memory) (k : ℕ) (few : m .count ≤ k) (stack : List ℕ) (none-
 
 -- ---- the tables, all zeros
 
-nothing-at : (n e : ℕ) → getD (replicate n false) e false ≡ false
-nothing-at zero e = refl
-nothing-at (suc n) zero = refl
-nothing-at (suc n) (suc e) = nothing-at n e
-
 -- n keys, l entries; s marks, v words alive
 abbrev pub zeros : (n a c l s v r : ℕ) → Stored
 zeros n a c l s v r = storedIn (replicate n 0) (replicate a 0) (replicate c 0) (replicate l 0) (replicate s false) (replicate v 0) (replicate r 0)
@@ -128,9 +124,9 @@ start-holds known n a c l s v r p q ka kc ks kv kl = record {
     marks = simp length-replicate (omega arith);
   };
   marked = record {
-    marks = λ e. nothing-at s e ∙ rw (entries-none (replicate c 0) (replicate r 0) (replicate l 0));
+    marks = λ e. all-one false s e ∙ rw (entries-none (replicate c 0) (replicate r 0) (replicate l 0));
     some = λ e o. let z : _≡_ {A = ℕ} 0 1 = cc in absurd (omega arith);
-    all = λ e o u. absurd (none-there (rw (entries-none (replicate c 0) (replicate r 0) (replicate l 0)) at o));
+    all = λ e o u. absurd (false≢true (rw (entries-none (replicate c 0) (replicate r 0) (replicate l 0)) at o));
     few = omega arith;
   };
   below = omega arith;
@@ -139,9 +135,6 @@ start-holds known n a c l s v r p q ka kc ks kv kl = record {
   nothing = refl;
   reads = λ h k d u. let z : d ≡ 0 = omega arith in rw (z, entries-none (replicate c 0) (replicate r 0) (replicate l 0)) tt;
 }
-  where
-    none-there : false ≡ true → ⊥
-    none-there e = let z : _≡_ {A = ℕ} 0 1 = cc in omega arith
 
 -- the stack, all zeros but for the setup block
 abbrev pub firstStack : (n b : ℕ) → List ℕ

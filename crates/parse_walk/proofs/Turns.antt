@@ -21,6 +21,7 @@ use Rattle.memory.specs.Transfer.{blocks-counted, judged-kept}
 use Rattle.shop.specs.declared.Shop.{Shop}
 use Rattle.reach.specs.Dfs.{Entry, entry, Ways, nowhere, to, to-both, waysBy, pushed, walksA}
 use Rattle.model.specs.Laws.Marks.{unmarked, unmarked-set}
+use Rattle.model.specs.Laws.Bools.{or-left}
 use Rattle.reach.specs.Weights.{weightOf, weight-set}
 use Rattle.reach.specs.Stacks.{stackOf, topOf, ways, grows, Pushed, isCodeAt, AllLow, top-most, top-free, low-top, low-pushed}
 use Rattle.parse_visit.specs.declared.Walk.{Walk}
@@ -28,7 +29,6 @@ use Rattle.parse_visit.specs.declared.Visited.{Visited}
 use Rattle.parse_visit.specs.State.{Accepted, stateOf, commandsOf, stateAfter, scanIn, Open, Entered, nodesAt}
 use Rattle.parse_walk.specs.Steps.{stepBy, step, walks, stack-skip, stack-visit, stack-off}
 use Rattle.parse_walk.specs.Walks.{under, walksIn, nodesLeft, Ready, Came}
-use Rattle.parse_filter.specs.Members.{or-left}
 
 pub few-blocks : (m : Memory) → Accepted m → m .count ≤ blockLimit
 few-blocks m a = judged-kept m (a .blocks) (a .rest) (a .is) .0

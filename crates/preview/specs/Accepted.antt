@@ -1,8 +1,8 @@
 -- A preview that no check refuses: its pairs are those of the shop's slots, each at its slot's number. Assumes nothing.
-use mathlib.Core.Path.{_≡_, refl, ap, _∙_}
+use mathlib.Core.Path.{_≡_, ap, _∙_}
 use mathlib.Core.Bool.{true}
-use mathlib.Core.List.{List, [], _∷_, _++_, map, append-nil}
-use Prim.Native.Nat.{ℕ, zero, suc, _+_}
+use mathlib.Core.List.{List, _++_, map, append-nil}
+use Prim.Native.Nat.{ℕ, _+_}
 use native.Mathlib.Omega.{arith}
 use lib.IntN.{ℤ, pos}
 use lib.ListN.{length, take, drop, replicate, length-map}
@@ -10,17 +10,11 @@ use lib.Seq.{sets, sets-eq}
 use Rattle.model.specs.Limits.{slotCount}
 use Rattle.model.specs.Save.{Save}
 use Rattle.model.specs.Sheet.{Sheet, sheetRefusal, saveRefusal}
-use Rattle.model.specs.Shop.{Slot, padded, withSlots, shopRefusal}
+use Rattle.model.specs.Shop.{Slot, withSlots, shopRefusal}
 use Rattle.model.specs.Flags.{shopInside}
 use Rattle.model.specs.Preview.{Preview, previewCall}
+use Rattle.model.specs.Laws.Places.{padded-all}
 use Rattle.preview.specs.Shown.{meaningsOf, previewedOf}
-
-padded-all : (n : ℕ) (xs : List Slot) → length xs ≡ n → padded n xs ≡ xs
-unfolding padded
-padded-all zero [] e = refl
-padded-all zero (x ∷ xs) e = absurd (omega arith)
-padded-all (suc n) [] e = absurd (omega arith)
-padded-all (suc n) (x ∷ xs) e = ap (λ l. x ∷ l) (padded-all n xs (omega arith))
 
 -- twenty slots are the shop's already
 pub with-all : (xs : List Slot) → length xs ≡ slotCount → withSlots xs ≡ xs

@@ -1,15 +1,15 @@
 -- From stage to stage of a reclaim: the packed record, its image, what is read from it, and the answer (02, A.4). Assumes nothing.
-use mathlib.Core.Path.{_≡_, refl, sym, ap, _∙_, subst}
+use mathlib.Core.Path.{_≡_, sym, ap, _∙_, subst}
 use mathlib.Core.Bool.{Bool, true, false}
-use mathlib.Core.List.{List, [], _∷_}
-use Prim.Native.Nat.{ℕ, zero, suc, _≤_, _<_}
+use mathlib.Core.List.{List, []}
+use Prim.Native.Nat.{ℕ, _≤_, _<_}
 use native.Mathlib.Omega.{arith}
 use lib.IntN.{ℤ}
 use lib.ListN.{length, take, drop, length-append}
 use lib.Seq.{sets, take-at}
 use borrow.Author.Tests.{le-leb}
 use Rattle.model.specs.Limits.{blockLimit, commandLimit, nodeLimit}
-use Rattle.model.specs.Refusal.{badRoots, firstOf}
+use Rattle.model.specs.Refusal.{badRoots}
 use Rattle.model.specs.Script.{Block}
 use Rattle.model.specs.Reading.{got, refusalOf}
 use Rattle.model.specs.Image.{image, readImage}
@@ -19,6 +19,7 @@ use Rattle.model.specs.Files.{Wrote, over, writeChecked}
 use Rattle.model.specs.RecordCalls.{Born, recordRefusal, writeIn}
 use Rattle.model.specs.Laws.Files.{write-then-read}
 use Rattle.model.specs.Laws.Refused.{Accepts, accepts}
+use Rattle.model.specs.Laws.Checks.{first-alone}
 use Rattle.memory.specs.View.{memoryOf, bornOf, emptyIn}
 use Rattle.memory.specs.declared.Counts.{Counts}
 use Rattle.memory.specs.RecordLaws.{judged-sound, proper-record}
@@ -171,11 +172,7 @@ module _ (k : Born) (rs moved : List ℕ) where
   module _ (ok : rootsOk (k .memory .count) rs ≡ true) where
     judged-next : recordRefusal (k .memory) ≡ reclaimRefusalIn k rs
     unfolding reclaimRefusalIn
-    judged-next = rw ok (by (recordRefusal (k .memory)))
-      where
-        by : (n : ℕ) → n ≡ firstOf (n ∷ [])
-        by zero = refl
-        by (suc n) = refl
+    judged-next = rw ok (first-alone (recordRefusal (k .memory)))
 
     pub answer-judged : (n : ℕ) → n ≡ recordRefusal (k .memory) → (n ≡ 0 → ⊥) → ReclaimedAs k rs moved n k moved
     answer-judged n e z = answer-refused n (e ∙ judged-next) z

@@ -1,7 +1,7 @@
 -- The marks at the end of the queue are those of the definition, where the words are safe. Assumes nothing.
 use mathlib.Core.Path.{_≡_, refl, sym, ap, _∙_, subst}
 use mathlib.Core.Bool.{Bool, true, false}
-use mathlib.Core.List.{List, [], _∷_, List·Memᴰ, List·Memᴰ·head, List·Memᴰ·tail}
+use mathlib.Core.List.{List, [], _∷_, List·Memᴰ}
 use Prim.Native.Nat.{ℕ, zero, suc, _+_, _≤_, _<_}
 use native.Mathlib.Omega.{arith}
 use lib.ListN.{getD, length, replicate, take}
@@ -13,7 +13,7 @@ use Rattle.memory.specs.RecordLaws.{block-at}
 use Rattle.memory.specs.Transfer.{blocks-counted}
 use Rattle.reclaim_model.specs.Rename.{linksOf, Every}
 use Rattle.reclaim_model.specs.Reclaim.{reached}
-use Rattle.reclaim_model.specs.Laws.Reached.{Leads, root, onward, mark-in, every-at, marks-are}
+use Rattle.reclaim_model.specs.Laws.Reached.{Leads, root, onward, mark-in, every-at, marks-are, every-of}
 use Rattle.reclaim_reach.specs.Words.{linksAt, links-are, every-to, below-low, Safe, SafeAt}
 use Rattle.reclaim_reach.specs.Queue.{Queue, queueIn, IsLive, Queued}
 use Rattle.reclaim_reach.specs.Pieces.{Marking}
@@ -48,12 +48,8 @@ module _ (cw bw : List ℕ) (n : ℕ) (s : Safe cw bw n) (rs : List ℕ) where
   abbrev P : ℕ → Type 0
   P = LedTo cw bw n rs
 
-  each : (Q : ℕ → Type 0) (ks : List ℕ) → ((k : ℕ) → List·Memᴰ k ks → Q k) → Every Q ks
-  each Q [] h = tt
-  each Q (k ∷ ks) h = (h k (List·Memᴰ·head refl), each Q ks (λ j p. h j (List·Memᴰ·tail p)))
-
   roots-led : Every (λ r. r < n) rs → Every (LedTo cw bw n rs) rs
-  roots-led a = each P rs (λ k p. (every-at (λ r. r < n) rs k a p, root p))
+  roots-led a = every-of P rs (λ k p. (every-at (λ r. r < n) rs k a p, root p))
 
   module _ (b : ℕ) (p : LedTo cw bw n rs b) where
     safe-at : SafeAt cw bw b
@@ -61,7 +57,7 @@ module _ (cw bw : List ℕ) (n : ℕ) (s : Safe cw bw n) (rs : List ℕ) where
 
     links-led : Every (LedTo cw bw n rs) (linksAt cw bw b)
     links-led =
-        each P (linksAt cw bw b)
+        every-of P (linksAt cw bw b)
         (λ k q. (every-at (λ j. j < n) (linksAt cw bw b) k (s .inside b (p .0)) q, onward (p .1) (subst (List·Memᴰ k) (sym (links-in words b (p .0))) q)))
 
   -- the roots in a queue that was empty

@@ -9,8 +9,8 @@ use lib.ListN.{getD, set, length, replicate, length-set, length-replicate}
 use lib.Seq.{getD-set-same, getD-set-other}
 use Rattle.model.specs.Limits.{blockLimit}
 use Rattle.reclaim_model.specs.Rename.{Every}
-use Rattle.model.specs.Laws.Marks.{unmarked, unmarked-set, unmarked-replicate, all-one}
-use Rattle.reclaim_model.specs.Laws.Reached.{mark-in}
+use Rattle.model.specs.Laws.Marks.{unmarked, unmarked-set, unmarked-replicate}
+use Rattle.model.specs.Laws.Places.{marks-stay, all-one}
 use Rattle.reclaim_reach.specs.Words.{Low}
 
 -- the marks, and the array whose first `count` elements are the queue
@@ -70,13 +70,6 @@ module _ (q : Queue) (k : ℕ) where
   unfolding marked
   marked-off e = rw e
 
-set-keeps : (ms : List Bool) (k b : ℕ) → getD ms b false ≡ true → getD (set ms k true) b false ≡ true
-set-keeps ms k b e = by (ℕ-discrete b k)
-  where
-    by : Dec (b ≡ k) → getD (set ms k true) b false ≡ true
-    by (yes d) = subst (λ (j : ℕ). getD (set ms j true) b false ≡ true) d (getD-set-same ms b true false (mark-in ms b e))
-    by (no d) = getD-set-other ms k b true false d ∙ e
-
 module _ (q : Queue) (k : ℕ) (h : Queued q) (l : k < blockLimit) (e : getD (q .live) k false ≡ false) where
   -- the queue has room for a block without a mark
   pub free : q .count < blockLimit
@@ -99,7 +92,7 @@ module _ (q : Queue) (k : ℕ) (h : Queued q) (l : k < blockLimit) (e : getD (q 
 
   held-one : (i : ℕ) → i < q .count + 1 → Dec (i ≡ q .count) → getD live′ (getD todo′ i 0) false ≡ true
   held-one i p (yes d) = rw (d, last) here
-  held-one i p (no d) = rw (earlier i (omega arith)) (set-keeps (q .live) k (getD (q .todo) i 0) (h .held i (omega arith)))
+  held-one i p (no d) = rw (earlier i (omega arith)) (marks-stay (q .live) k (getD (q .todo) i 0) (h .held i (omega arith)))
 
   listed-one : (b : ℕ) → getD live′ b false ≡ true → Dec (b ≡ k) → Place todo′ (q .count + 1) b
   listed-one b p (yes d) = record { at = q .count; low = omega arith; is = last ∙ sym d }
@@ -134,7 +127,7 @@ module _ (q : Queue) (k : ℕ) where
       by false = record {
         more = omega arith;
         same = λ i p. getD-set-other (q .todo) (q .count) i k 0 (λ z. omega arith);
-        keeps = λ b e. set-keeps (q .live) k b e;
+        keeps = λ b e. marks-stay (q .live) k b e;
       }
 
   one-queued : Queued q → k < blockLimit → Queued (marked q k)

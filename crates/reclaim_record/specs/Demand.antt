@@ -140,12 +140,12 @@ module _ (h : Sheet) (k : Born) (e : ℕ) (bad : judgedRecord (k .memory) ≡ re
   number-stays (compile c) b = refl
   number-stays (reclaim rs) b = refused-stays k rs (never (reclaim rs)) .number b
 
-  record Unmoved (xs : List Change) : Type 0 where
+  pub record Unmoved (xs : List Change) : Type 0 where
     pub after : afterAll (changesIn h) k xs ≡ k
     pub now : (b : ℕ) → nowAt (changesIn h) k xs b ≡ some b
     pub last : (b : ℕ) → lastAt (changesIn h) k xs b ≡ none
 
-  unmoved : (xs : List Change) → Unmoved xs
+  pub unmoved : (xs : List Change) → Unmoved xs
   unfolding afterAll nowAt lastFrom
   unmoved [] = record { after = refl; now = λ b. refl; last = λ b. refl }
   unmoved (x ∷ xs) =

@@ -46,12 +46,6 @@ module _ (t : Table) (h : Model.Sheet) (s : Shop) (u i : ℕ) (f : Field) (x : S
   unfolding shopEdited
   edited-now p = ap (λ k. answeredAs k (shopWith f x i s) s) p
 
--- what a read past the array would give does not matter within it
-pub any-default : (l : List Slot) (i : ℕ) (d e : Slot) → i < length l → getD l i d ≡ getD l i e
-any-default [] i d e l = absurd (omega arith)
-any-default (x ∷ xs) zero d e l = refl
-any-default (x ∷ xs) (suc i) d e l = any-default xs i d e (omega arith)
-
 -- ---- the loop over the slots that are shown
 
 module _ (t : Table) (u : ℕ) where

@@ -21,7 +21,7 @@ use Rattle.model.specs.Script.{Command, return, goto, setVariable, setOther, if
 use Rattle.model.specs.Run.{Outcome, next, halt, follow, store, orHalt, execute, enter, step, stepBy}
 use Rattle.model.specs.Memory.{Coded, codedIn, Memory, tree, commandWord, setIn, commandBy, commandIn, commandsIn, blockWord, linkIn, blockBy, blockIn, scriptOf}
 use Rattle.model.specs.declared.BlockNo.{BlockNo}
-use Rattle.memory.specs.RecordLaws.{length-blocksIn, block-at}
+use Rattle.memory.specs.RecordLaws.{length-blocksIn, block-at, next-command}
 use Rattle.expr.specs.Value.{valueOf}
 use Rattle.expr.specs.declared.Value.{Value}
 use Rattle.expr.specs.declared.Value.the-variants.{Is, Refused}
@@ -178,19 +178,11 @@ module _ (s : Save) (nx : Option ℕ) (ws : List ℕ) (vs : List ℤ) (cw : List
       }
 
   module _ {v : List ℤ} {i : ℕ} (p : Passed s nx ws vs cw first many v₀ v i) where
-    -- the command that comes next, before those after it
-    next-command : (co : Coded) → i < many → commandsIn co (many - i) (first + i) ≡ commandIn co (first + i) ∷ commandsIn co (many - (i + 1)) (first + (i + 1))
-    unfolding commandsIn
-    next-command co h =
-        let y : many - i ≡ suc (many - (i + 1)) = omega arith in
-        let z : suc (first + i) ≡ first + (i + 1) = omega arith in
-        ap (λ j. commandsIn co j (first + i)) y ∙ ap (λ f. commandIn co (first + i) ∷ commandsIn co (many - (i + 1)) f) z
-
     module _ {f : Flow} {v′ : List ℤ} (h : i < many) (w : (n m : ℕ) → Flows s nx (commandIn (codedIn ws vs cw n m) (first + i)) v f v′) where
       moved : (n m : ℕ) → execute s nx (commandsIn (codedIn ws vs cw n m) many first) v₀ ≡ after s nx (commandsIn (codedIn ws vs cw n m) (many - (i + 1)) (first + (i + 1))) f v′
       moved n m =
           p .is n m
-          ∙ ap (λ cs. execute s nx cs v) (next-command (codedIn ws vs cw n m) h)
+          ∙ ap (λ cs. execute s nx cs v) (next-command (codedIn ws vs cw n m) many first i h)
           ∙ w n m .is (commandsIn (codedIn ws vs cw n m) (many - (i + 1)) (first + (i + 1)))
 
       pub one-passed : f ≡ On → Passed s nx ws vs cw first many v₀ v′ (i + 1)

@@ -109,11 +109,11 @@ module _ (h : Model.Sheet) (x : Shops.Slot) where
 
 -- ---- a slot that passed 1 and 8
 
-item-none : (x : Slot) → x .item ≡ Nothing → slotOf x .item ≡ none
+pub item-none : (x : Slot) → x .item ≡ Nothing → slotOf x .item ≡ none
 unfolding slotOf
 item-none x e = rw e
 
-item-some : (x : Slot) (w : ItemId) → x .item ≡ Of w → slotOf x .item ≡ some (w .0)
+pub item-some : (x : Slot) (w : ItemId) → x .item ≡ Of w → slotOf x .item ≡ some (w .0)
 unfolding slotOf
 item-some x w e = rw e
 

@@ -1,6 +1,6 @@
 -- The rule of faithful slots on the codes of requirements is the rule on requirements. Assumes nothing.
 use mathlib.Core.Path.{_≡_, refl, sym, ap, _∙_}
-use mathlib.Core.Bool.{Bool, true, false, not, cond, _&&_, _||_}
+use mathlib.Core.Bool.{Bool, true, false, not, cond, _&&_}
 use mathlib.Core.Option.{Option, none, some}
 use mathlib.Core.List.{List, [], _∷_, map}
 use Prim.Native.Nat.{ℕ, _+_, _*_, _-_, _/_, _%_, _≤_, _<_}
@@ -26,6 +26,7 @@ use Rattle.shop_codes.specs.Subjects.{negate-narrow}
 use Rattle.shop.specs.Shapes.{atcAt, itemOf, sheetOf, slotOf}
 use Rattle.shop.specs.Slots.{atc-for, atcs-few, entries-take, items-few, slot-exact}
 use Rattle.model.specs.declared.ItemId.{ItemId}
+use Rattle.model.specs.Laws.Bools.{not-or}
 use Rattle.shop.specs.declared.Sheet.{Sheet}
 use Rattle.shop.specs.declared.Slot.{Slot}
 use Rattle.shop.specs.declared.SlotItem.the-variants.{Of}
@@ -64,10 +65,6 @@ negated-code (haveAtc a) p = up 1 (a + 2147483648) (omega (arith, p .fits))
 negated-code (missingAtc a) p = down 1 (a + 2147483648) (omega (arith, p .fits))
 negated-code (haveFlag f) p = up 2 (shift f) (shift-most f (p .fits))
 negated-code (missingFlag f) p = down 2 (shift f) (shift-most f (p .fits))
-
-not-or : (a b : Bool) → not (a || b) ≡ not a && not b
-not-or true b = refl
-not-or false b = refl
 
 pub lacks-is : (r : Requirement) (rs : List Requirement) → Narrow r → AllNarrow rs → lacksCode (codeOf r) (map codeOf rs) ≡ not (member r rs)
 unfolding lacksCode member

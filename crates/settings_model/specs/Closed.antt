@@ -16,8 +16,9 @@ use Rattle.model.specs.Compile.{acquiredReq, rateOf}
 use Rattle.model.specs.Normal.{acquiredOf}
 use Rattle.model.specs.Laws.Checks.{and-left, and-right}
 use Rattle.model.specs.Laws.Normal.{both-ways}
+use Rattle.model.specs.Laws.Bools.{or-right, never-true, not-or}
 use Rattle.faithful_model.specs.Faithful.{faithfulFilled, noPair}
-use Rattle.faithful_model.specs.Lists.{all-member, all-of, is-false, of-pairs, or-right, pair-own, pairs}
+use Rattle.faithful_model.specs.Lists.{all-member, all-of, of-pairs, pair-own, pairs}
 use Rattle.settings_model.specs.Settings.{Subject, rateIs, agree, answerIn, combos, count, distinct, hiddenCount, listedBy, listedCount, listedFilled, listedFor, listedWith, meets, memberS, orRate, rates, sameSubject, subjectOf, subjects, subjectsFilled, subjectsFor, wanted, without}
 use Rattle.settings_model.specs.Combos.{count-all, count-more, count-none, count-same, count-split, each-once, same-own, same-true, sameList}
 use Rattle.settings_model.specs.Subjects.{Apart, Asks, asks, differs-sym, distinct-apart, distinct-member, member-without, no-rate, req-other, req-own, reqOf, subject-in, subject-neg, subject-own}
@@ -109,7 +110,7 @@ module _ (us : List Subject) (rs : List Requirement) (n : Names us rs) where
 
   module _ (c : List Bool) (long : length c ≡ length us) where
     pairs-apart : all (meets (answerIn us c)) rs ≡ true → noPair rs ≡ true
-    pairs-apart a = of-pairs rs (λ r m. is-false _ (λ k. true≢false (sym (all-member (meets (answerIn us c)) (negateReq r) rs a k) ∙ meets-neg (answerIn us c) r ∙ ap not (all-member (meets (answerIn us c)) r rs a m))))
+    pairs-apart a = of-pairs rs (λ r m. never-true _ (λ k. true≢false (sym (all-member (meets (answerIn us c)) (negateReq r) rs a k) ∙ meets-neg (answerIn us c) r ∙ ap not (all-member (meets (answerIn us c)) r rs a m))))
 
     only-target : all (meets (answerIn us c)) rs ≡ true → target ≡ c
     unfolding target meets
@@ -186,14 +187,10 @@ module _ (a : Requirement) (have : wanted a ≡ true) (rs : List Requirement) (r
   one-hidden =
       let y : List Bool → Subject → Bool = answerIn (subjectOf a ∷ rest) in
       let all-met = count-same (suc (length rest)) (λ c. not (meets (y c) a) && all (meets (y c)) rs) (λ c. all (meets (y c)) (negateReq a ∷ rs)) (λ c l. rw (meets-neg (y c) a)) ∙ count-met (subjectOf a ∷ rest) (negateReq a ∷ rs) n in
-      let rest-met = count-same (suc (length rest)) (λ c. not (meets (y c) a || all (meets (y c)) rs)) (λ c. not (meets (y c) a) && not (all (meets (y c)) rs)) (λ c l. morgan (meets (y c) a) (all (meets (y c)) rs)) in
+      let rest-met = count-same (suc (length rest)) (λ c. not (meets (y c) a || all (meets (y c)) rs)) (λ c. not (meets (y c) a) && not (all (meets (y c)) rs)) (λ c l. not-or (meets (y c) a) (all (meets (y c)) rs)) in
       let b = count-split (λ c. not (meets (y c) a)) (λ c. all (meets (y c)) rs) (combos (suc (length rest))) in
       let d = not-acquired in
       rest-met ∙ omega arith
-    where
-      morgan : (p q : Bool) → not (p || q) ≡ not p && not q
-      morgan true q = refl
-      morgan false q = refl
 
   -- a timer: the rate stands first, and where it is met the slot is listed
   module _ (q : ℕ) where

@@ -1,6 +1,6 @@
 -- The combination that a save gives is listed exactly where the slot's meaning under the save has the item. Assumes nothing.
 use mathlib.Core.Path.{_≡_, refl, sym, ap, _∙_}
-use mathlib.Core.Bool.{Bool, true, false, not, cond, _||_, true≢false}
+use mathlib.Core.Bool.{Bool, true, false, cond, _||_, true≢false, Bool·not-not}
 use mathlib.Core.Option.{Option, none, some}
 use mathlib.Core.List.{List, [], _∷_, _++_, map}
 use Prim.Native.Nat.{ℕ}
@@ -16,24 +16,20 @@ use Rattle.model.specs.Compile.{acquiredReq, rateOf}
 use Rattle.model.specs.Meaning.{acquired, allHold, atRate, held, holds, limitMeaning, meaningOf, uniqueMeaning}
 use Rattle.model.specs.Normal.{acquiredOf}
 use Rattle.model.specs.Laws.Sets.{same-refl}
-use Rattle.faithful_model.specs.Lists.{or-right}
+use Rattle.model.specs.Laws.Bools.{or-right}
 use Rattle.settings_model.specs.Settings.{Subject, rateIs, agree, answerIn, distinct, listedBy, listedFilled, listedFor, listedWith, meets, memberS, orRate, rates, sameSubject, says, settingOf, subjectOf, subjects, subjectsFilled, subjectsFor, wanted}
 use Rattle.settings_model.specs.Subjects.{distinct-member, subject-in, subject-own, subject-true}
 
 -- ---- by the save itself
 
-not-not : (b : Bool) → not (not b) ≡ b
-not-not true = refl
-not-not false = refl
-
 meets-holds : (s : Save) (r : Requirement) → meets (says s) r ≡ holds s r
 unfolding meets says holds
 meets-holds s (haveItem i) = refl
-meets-holds s (missingItem i) = not-not (isZero (held s i))
+meets-holds s (missingItem i) = Bool·not-not (isZero (held s i))
 meets-holds s (haveAtc a) = refl
-meets-holds s (missingAtc a) = not-not (isZero (natAt (s .atcs) (pos a)))
+meets-holds s (missingAtc a) = Bool·not-not (isZero (natAt (s .atcs) (pos a)))
 meets-holds s (haveFlag f) = refl
-meets-holds s (missingFlag f) = not-not (isZero (natAt (s .flags) f))
+meets-holds s (missingFlag f) = Bool·not-not (isZero (natAt (s .flags) f))
 
 all-holds : (s : Save) (rs : List Requirement) → all (meets (says s)) rs ≡ allHold s rs
 unfolding allHold

@@ -14,7 +14,7 @@ use Rattle.model.specs.Normal.{acquiredOf}
 use Rattle.model.specs.Laws.Normal.{both-ways}
 use Rattle.model.specs.Laws.Runs.{sameReq-true}
 use Rattle.model.specs.Laws.Sets.{same-refl}
-use Rattle.faithful_model.specs.Lists.{or-cases, or-right}
+use Rattle.model.specs.Laws.Bools.{or-cases, or-right}
 use Rattle.settings_model.specs.Settings.{Subject, distinct, memberS, rates, sameSubject, subjectOf, subjectsFilled, wanted, without}
 use Rattle.settings_model.specs.Subjects.{no-rate, req-other, req-own, subject-neg, subject-own, subject-true}
 use Rattle.settings_model.specs.Closed.{acquiredFilled, bit}

@@ -1,6 +1,6 @@
 -- Subjects: no repeats, which are there, and how many. Assumes nothing.
 use mathlib.Core.Path.{_≡_, refl, sym, ap, _∙_}
-use mathlib.Core.Bool.{Bool, true, false, not, cond, _&&_, _||_, true≢false}
+use mathlib.Core.Bool.{Bool, true, false, not, cond, _&&_, _||_, true≢false, and-false}
 use mathlib.Core.Option.{Option, none, some}
 use mathlib.Core.List.{List, [], _∷_, _++_, map}
 use Prim.Native.Nat.{ℕ, zero, suc, _+_, _≤_}
@@ -9,29 +9,18 @@ use lib.Dec.{leb, eqb}
 use borrow.Author.Tests.{eqb-true, eq-eqb}
 use lib.ListN.{length, length-map}
 use lib.IntN.{ℤ, pos, negsuc}
-use Rattle.model.specs.Signed.{eqZ}
 use Rattle.model.specs.Sheet.{Sheet}
 use Rattle.model.specs.Requirement.{Requirement, haveItem, missingItem, haveAtc, missingAtc, haveFlag, missingFlag, negateReq, sameReq, member}
 use Rattle.model.specs.Shop.{Slot, limitOf, timerOf}
 use Rattle.model.specs.Compile.{rateOf}
 use Rattle.model.specs.Normal.{acquiredOf}
 use Rattle.model.specs.Laws.Checks.{and-left, and-right}
-use Rattle.model.specs.Laws.Runs.{sameReq-true}
-use Rattle.model.specs.Laws.Sets.{same-refl}
-use Rattle.faithful_model.specs.Lists.{is-false, or-cases, or-right}
+use Rattle.model.specs.Laws.Runs.{sameReq-true, eqZ-true}
+use Rattle.model.specs.Laws.Sets.{same-refl, eqZ-refl}
+use Rattle.model.specs.Laws.Bools.{or-cases, or-right, never-true}
 use Rattle.settings_model.specs.Settings.{Subject, heldItem, heldAtc, setFlag, rateIs, distinct, mark, memberS, rates, sameSubject, sort, subjectOf, subjects, subjectsFor, subjectsFilled, wanted, without}
 
 -- ---- one subject
-
-eqZ-true : (a b : ℤ) → eqZ a b ≡ true → a ≡ b
-eqZ-true (pos a) (pos b) e = ap pos (eqb-true a b e)
-eqZ-true (pos a) (negsuc b) e = absurd (true≢false (sym e))
-eqZ-true (negsuc a) (pos b) e = absurd (true≢false (sym e))
-eqZ-true (negsuc a) (negsuc b) e = ap negsuc (eqb-true a b e)
-
-eqZ-refl : (z : ℤ) → eqZ z z ≡ true
-eqZ-refl (pos n) = eq-eqb n n refl
-eqZ-refl (negsuc n) = eq-eqb n n refl
 
 size : ℤ → ℕ
 size (pos n) = n
@@ -62,7 +51,7 @@ unfolding sameSubject
 subject-own a = rw (eq-eqb (sort a) (sort a) refl, eqZ-refl (mark a))
 
 pub differs-sym : (a b : Subject) → sameSubject a b ≡ false → sameSubject b a ≡ false
-differs-sym a b e = is-false _ (λ t. true≢false (sym (subject-own a) ∙ ap (λ c. sameSubject a c) (sym (subject-true b a t)) ∙ e))
+differs-sym a b e = never-true _ (λ t. true≢false (sym (subject-own a) ∙ ap (λ c. sameSubject a c) (sym (subject-true b a t)) ∙ e))
 
 -- no requirement's subject is a rate
 pub no-rate : (q : Requirement) (r : ℕ) → sameSubject (subjectOf q) (rateIs r) ≡ false
@@ -119,11 +108,7 @@ Apart (u ∷ us) = (memberS u us ≡ false) × Apart us
 
 pub member-without : (v u : Subject) (us : List Subject) → memberS v (without u us) ≡ not (sameSubject v u) && memberS v us
 unfolding memberS without
-member-without v u [] = by (not (sameSubject v u))
-  where
-    by : (b : Bool) → false ≡ b && false
-    by true = refl
-    by false = refl
+member-without v u [] = sym (and-false (not (sameSubject v u)))
 member-without v u (x ∷ xs) = by (sameSubject x u) (sameSubject v x) refl refl (member-without v u xs)
   where
     by : (c e : Bool) → sameSubject x u ≡ c → sameSubject v x ≡ e → memberS v (without u xs) ≡ not (sameSubject v u) && memberS v xs
@@ -140,7 +125,7 @@ apart-without u (x ∷ xs) a = by (sameSubject x u) (apart-without u xs (a .1))
   where
     by : (c : Bool) → Apart (without u xs) → Apart (cond c (without u xs) (x ∷ without u xs))
     by true ih = ih
-    by false ih = (is-false _ (λ t. true≢false (sym (and-right (not (sameSubject x u)) _ (sym (member-without x u xs) ∙ t)) ∙ a .0)), ih)
+    by false ih = (never-true _ (λ t. true≢false (sym (and-right (not (sameSubject x u)) _ (sym (member-without x u xs) ∙ t)) ∙ a .0)), ih)
 
 pub distinct-apart : (us : List Subject) → Apart (distinct us)
 unfolding distinct

@@ -1,5 +1,5 @@
 -- Sheets, slots and shops as values: what check 8 tells of the entries, and slots put into a shop one by one. Assumes nothing.
-use mathlib.Core.Path.{_≡_, refl, sym, ap, _∙_}
+use mathlib.Core.Path.{_≡_, refl, ap, _∙_}
 use mathlib.Core.Bool.{Bool, true, false, cond, _&&_}
 use mathlib.Core.List.{List, [], _∷_, map}
 use Prim.Native.Nat.{ℕ, zero, suc, _+_, _*_, _-_, _/_, _%_, _≤_, _<_}
@@ -11,10 +11,10 @@ use borrow.Author.Tests.{ltb-true, ltb-false, leb-true}
 use Rattle.model.specs.Limits.{fewestItems, mostItems, mostAtcs, entryLimit, slotCount, wide}
 use Rattle.model.specs.Sheet as Model
 use Rattle.model.specs.Sheet.{sheetOk, timersOk, atcKnown, itemCount, atcFor, all}
-use Rattle.model.specs.Shop as Shops
-use Rattle.model.specs.Shop.{slotOk, itemKnown, reqKnown, padded, withSlots}
+use Rattle.model.specs.Shop.{slotOk, itemKnown, reqKnown, withSlots}
 use Rattle.model.specs.Printer.{atcEntry}
 use Rattle.model.specs.Laws.Checks.{and-left, and-right}
+use Rattle.model.specs.Laws.Places.{padded-all}
 use Rattle.shop_codes.specs.Codes.{half, codeOf, idOf, ofKind, unshift, requirementOf, AllNarrow}
 use Rattle.shop.specs.Shapes.{sheetOf, atcAt, entries, itemOf, partsOk, slotOf, slotsOf, placed}
 use Rattle.shop.specs.Sets.{Exact, AllExact}
@@ -134,11 +134,6 @@ slots-placed s i x = map-set (s .slots) i x
 
 -- ---- twenty slots are neither dropped nor filled up
 
-all-slots : (xs : List Shops.Slot) → padded (length xs) xs ≡ xs
-unfolding padded
-all-slots [] = refl
-all-slots (x ∷ xs) = ap (λ l. x ∷ l) (all-slots xs)
-
 pub with-all : (s : Shop) → length (s .slots) ≡ slotCount → withSlots (slotsOf s) ≡ slotsOf s
 unfolding slotsOf
-with-all s e = ap (λ n. padded n (slotsOf s)) (sym (length-map (s .slots) slotOf ∙ e)) ∙ all-slots (slotsOf s)
+with-all s e = padded-all slotCount (slotsOf s) (length-map (s .slots) slotOf ∙ e)

@@ -58,18 +58,18 @@ rows-from a i (suc n) =
     ∙ sym (take-add entryLimit (entryLimit * n) c)
     ∙ ap (λ k. take k c) s
 
+pub same-arrays : {is js ls ms : List ℤ} {cs ds ns ps : List ℕ} → is ≡ js → ls ≡ ms → cs ≡ ds → ns ≡ ps → arraysIn is ls cs ns ≡ arraysIn js ms ds ps
+same-arrays e f g h = rw (e, f, g, h)
+
 module _ (a : Arrays) (full : Full a) where
   rows-back : rows (shopFrom a .slots) ≡ a .codes
   unfolding shopFrom
   rows-back = rows-from a 0 slotCount ∙ take-all (entryLimit * slotCount) (a .codes) (omega (arith, full .codes))
 
-  same : {is js ls ms : List ℤ} {cs ds ns ps : List ℕ} → is ≡ js → ls ≡ ms → cs ≡ ds → ns ≡ ps → arraysIn is ls cs ns ≡ arraysIn js ms ds ps
-  same e f g h = rw (e, f, g, h)
-
   pub arrays-back : ((j : ℕ) → j < slotCount → slotAt a j .item ≡ Of (record { 0 = noSuchItem }) → ⊥) → a ≡ arraysOf (shopFrom a)
   unfolding arraysOf slotAt past
   arrays-back d =
       sym
-      (same (column (λ (x : Slot). itemTo (x .item)) a (a .items) (full .items) (λ j h. number-back (getD (a .items) j (pos 0)) (d j h)))
+      (same-arrays (column (λ (x : Slot). itemTo (x .item)) a (a .items) (full .items) (λ j h. number-back (getD (a .items) j (pos 0)) (d j h)))
       (column (λ (x : Slot). x .limit) a (a .limits) (full .limits) (λ j h. refl)) rows-back
       (column (λ (x : Slot). x .len) a (a .lens) (full .lens) (λ j h. refl)))

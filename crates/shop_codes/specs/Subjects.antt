@@ -1,6 +1,7 @@
 -- What the requirement of a code is about, by its kind, and whether that has to be missing. Assumes nothing.
 use mathlib.Core.Path.{_≡_, refl, sym, ap, _∙_}
-use mathlib.Core.Bool.{false}
+use mathlib.Core.Bool.{false, Bool, true, cond}
+use mathlib.Core.List.{[], _∷_, List}
 use Prim.Native.Nat.{ℕ, zero, suc, _+_, _/_, _%_, _≤_, _<_}
 use native.Mathlib.Omega.{arith}
 use lib.IntN.{ℤ, negsuc, _-ℤ_}
@@ -8,8 +9,8 @@ use mir.Syntax.{w32}
 use mir.Val.{toZ}
 use mir.Facts.{toZ-pos}
 use Rattle.model.specs.Limits.{mostItems, wide}
-use Rattle.model.specs.Requirement.{Requirement, haveItem, missingItem, haveAtc, missingAtc, haveFlag, missingFlag, number, negateReq}
-use Rattle.shop_codes.specs.Codes.{half, InRange, unshift, codeOf, idOf, ofKind, requirementOf, Narrow, subject, isMissing}
+use Rattle.model.specs.Requirement.{Requirement, haveItem, missingItem, haveAtc, missingAtc, haveFlag, missingFlag, number, negateReq, keep}
+use Rattle.shop_codes.specs.Codes.{half, InRange, unshift, codeOf, idOf, ofKind, requirementOf, Narrow, subject, isMissing, AllNarrow}
 use Rattle.shop_codes.specs.Laws.{code-narrow}
 use Rattle.model.specs.Laws.Signed.{minus-one}
 
@@ -117,3 +118,11 @@ negate-narrow (haveAtc a) n = record { fits = n .fits }
 negate-narrow (missingAtc a) n = record { fits = n .fits }
 negate-narrow (haveFlag f) n = record { fits = n .fits }
 negate-narrow (missingFlag f) n = record { fits = n .fits }
+
+pub keep-narrow : (p : Requirement → Bool) (rs : List Requirement) → AllNarrow rs → AllNarrow (keep p rs)
+keep-narrow p [] a = a
+keep-narrow p (r ∷ rs) a = by (p r) (keep-narrow p rs (a .1))
+  where
+    by : (t : Bool) → AllNarrow (keep p rs) → AllNarrow (cond t (r ∷ keep p rs) (keep p rs))
+    by true b = (a .0, b)
+    by false b = b

@@ -10,6 +10,7 @@ use lib.Seq.{getD-take}
 use Rattle.model.specs.Limits.{entryLimit, slotCount}
 use Rattle.model.specs.Shop as Model
 use Rattle.model.specs.Shop.{emptySlot, padded, withSlots}
+use Rattle.model.specs.Laws.Places.{any-default}
 use Rattle.shop.specs.Shapes.{entries, slotOf, slotsOf}
 use Rattle.shop_arrays.specs.Arrays.{Arrays, itemFrom, rowAt, slotAt, slotsFrom, shopFrom}
 use Rattle.shop_arrays.specs.Slots.{row-at}
@@ -53,11 +54,6 @@ module _ {A : Type 0} (z : A) where
 
 -- ---- the slots
 
-getD-in : {A : Type 0} (xs : List A) (i : ℕ) (d e : A) → i < length xs → getD xs i d ≡ getD xs i e
-getD-in [] i d e h = absurd (omega arith)
-getD-in (x ∷ xs) zero d e h = refl
-getD-in (x ∷ xs) (suc i) d e h = getD-in xs i d e (omega arith)
-
 -- entries are told by the codes at their places
 entries-same : (n : ℕ) (xs ys : List ℕ) → ((j : ℕ) → getD xs j 0 ≡ getD ys j 0) → entries n xs ≡ entries n ys
 unfolding entries
@@ -88,7 +84,7 @@ module _ (a : Arrays) (i : ℕ) (h : i < slotCount) where
   slot-same : i < k → slotOf (slotAt (twenty a) i) ≡ slotOf (slotAt a i)
   unfolding twenty slotOf slotAt
   slot-same l =
-      let item : getD (twenty a .items) i (pos 0) ≡ getD (a .items) i (pos 0) = getD-filled (negsuc 0) slotCount i (a .items) (pos 0) h ∙ getD-in (a .items) i (negsuc 0) (pos 0) l in
+      let item : getD (twenty a .items) i (pos 0) ≡ getD (a .items) i (pos 0) = getD-filled (negsuc 0) slotCount i (a .items) (pos 0) h ∙ any-default (a .items) i (negsuc 0) (pos 0) l in
       let limit : getD (twenty a .limits) i (pos 0) ≡ getD (a .limits) i (pos 0) = getD-cut (pos 0) slotCount k i (a .limits) h l in
       let len : getD (twenty a .lens) i 0 ≡ getD (a .lens) i 0 = getD-cut 0 slotCount k i (a .lens) h l in
       rw (item, limit, len, entries-same (getD (a .lens) i 0) (rowAt (twenty a .codes) i) (rowAt (a .codes) i) (row-same l))

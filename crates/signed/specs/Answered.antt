@@ -16,6 +16,7 @@ use Rattle.model.specs.Shop.{Slot, limitOf, shopRefusal, slotOk, withSlots}
 use Rattle.model.specs.Flags.{reqInside, slotInside}
 use Rattle.model.specs.Normal.{acquiredOf, lone, normal}
 use Rattle.model.specs.Laws.Checks.{first-passed, passed}
+use Rattle.model.specs.Laws.Places.{any-default}
 use Rattle.shop_codes.specs.Codes.{AllNarrow, codeOf, requirementOf}
 use Rattle.shop_codes.specs.Laws.{codes-stand}
 use Rattle.shop.specs.Shapes.{noSlot, slotOf, slotsOf}
@@ -28,7 +29,7 @@ use Rattle.shop_arrays.specs.Slots.{slot-in, slots-long}
 use Rattle.signed_model.specs.Saves.{Faithful, witness}
 use Rattle.signed_model.specs.Rule.{leftOf, normal-left}
 use Rattle.signed_model.specs.Witness.{Tells}
-use Rattle.signed_model.specs.Places.{First, any-default}
+use Rattle.signed_model.specs.Places.{First}
 use Rattle.signed_model.specs.Findings as Told
 use Rattle.signed_model.specs.Findings.{faithful, pair, own, outside, checkCall, checkChecks, checkedAs, finding, isHave, settingsFor, verdict}
 use Rattle.signed_model.specs.Told.{Concerned, Right, isApart, isOutside, shownBy, told-right}
@@ -36,6 +37,7 @@ use Rattle.signed_check.specs.Answer.{checkedOf, findingOf, noFinding, verdictO
 use Rattle.signed_check.specs.Shops.{slot-passed, with-shop}
 use Rattle.signed_check.specs.declared.Finding.{Finding}
 use Rattle.signed_check.specs.declared.Checked.{Checked}
+use Rattle.shop_codes.specs.Subjects.{keep-narrow}
 
 -- the save that the codes are: these are had, and all else is 0
 abbrev pub savedBy : Sheet → Finding → Save
@@ -95,14 +97,6 @@ at-outside (own i) e = absurd (omega arith)
 at-outside (outside i) e = refl
 
 -- ---- the codes stand for the settings
-
-keep-narrow : (p : Requirement → Bool) (rs : List Requirement) → AllNarrow rs → AllNarrow (keep p rs)
-keep-narrow p [] a = tt
-keep-narrow p (r ∷ rs) a = by (p r) (keep-narrow p rs (a .1))
-  where
-    by : (b : Bool) → AllNarrow (keep p rs) → AllNarrow (cond b (r ∷ keep p rs) (keep p rs))
-    by true k = (a .0, k)
-    by false k = k
 
 left-narrow : (h : Sheet) (w l : ℕ) (rs : List Requirement) → AllNarrow rs → AllNarrow (leftOf h w l rs)
 unfolding leftOf settled

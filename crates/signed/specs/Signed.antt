@@ -19,6 +19,7 @@ use Rattle.model.specs.Normal.{normal, normalShop}
 use Rattle.model.specs.Preview.{previewCall}
 use Rattle.model.specs.RecordCalls.{Born, parseIn, runIn}
 use Rattle.model.specs.Lists.{afterAll, lastAt, nowAt}
+use Rattle.model.specs.Laws.Places.{any-default}
 use Rattle.shop.specs.Shapes.{noSlot, slotOf, slotsOf}
 use Rattle.shop_arrays.specs.Arrays.{Arrays, shopFrom, slotAt}
 use Rattle.shop_arrays.specs.Slots.{slot-in}
@@ -34,7 +35,6 @@ use Rattle.library.specs.Delivered.{Delivered, Made, made, shopOf}
 use Rattle.faithful_model.specs.Faithful.{isFaithful}
 use Rattle.signed_model.specs.Witness.{Tells}
 use Rattle.signed_model.specs.Findings.{Verdict, faithful, pair, own, outside, checkCall, finding, verdict}
-use Rattle.signed_model.specs.Places.{any-default}
 use Rattle.signed_model.specs.Told.{told-rule}
 use Rattle.signed_model.specs.Shops.{preview-same, shop-inside, shop-ok}
 use Rattle.signed_check.specs.Answer.{checkedOf, findingOf, noFinding, verdictOf}

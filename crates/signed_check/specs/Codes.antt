@@ -14,10 +14,11 @@ use Rattle.model.specs.Limits.{wide}
 use Rattle.model.specs.Save.{flagInside}
 use Rattle.model.specs.Requirement.{number}
 use Rattle.model.specs.Flags.{reqInside}
+use Rattle.model.specs.Laws.Places.{any-default}
 use Rattle.shop_codes.specs.Codes.{isMissing, ofKind, requirementOf, unshift}
 use Rattle.settings.specs.Codes.{lacksCode, negatedCode}
 use Rattle.signed_model.specs.Findings.{Verdict, faithful, pair, own, outside, firstPlace, orElse}
-use Rattle.signed_model.specs.Places.{First, any-default, first-place, place-first}
+use Rattle.signed_model.specs.Places.{First, first-place, place-first}
 
 -- c is a reason for the verdict of that number: 3 a flag outside, 1 a contradicting pair, else the acquired test
 unfoldable pub concernsCode : ℕ → ℕ → List ℕ → ℕ → Bool

@@ -1,7 +1,7 @@
 -- The loop that collects the codes that pass a test, each after the last. Assumes nothing.
 use mathlib.Core.Path.{_≡_, refl, sym, ap, _∙_}
 use mathlib.Core.Bool.{Bool, true, false, cond}
-use mathlib.Core.List.{List, [], _∷_, _++_, append-assoc}
+use mathlib.Core.List.{List, [], _∷_, _++_, append-assoc, append-nil}
 use Prim.Native.Nat.{ℕ, suc, _+_, _-_, _<_, _≤_}
 use native.Mathlib.Numerals.{add-one}
 use native.Mathlib.Omega.{arith}
@@ -28,10 +28,6 @@ pick-end p (x ∷ xs) c = by (p x) (pick-end p xs c)
         → cond b (x ∷ pick p (xs ++ c ∷ [])) (pick p (xs ++ c ∷ [])) ≡ cond b (x ∷ pick p xs) (pick p xs) ++ cond (p c) (c ∷ []) []
     by true e = rw e
     by false e = e
-
-append-none : (xs : List ℕ) → xs ++ [] ≡ xs
-append-none [] = refl
-append-none (x ∷ xs) = ap (λ l. x ∷ l) (append-none xs)
 
 -- one code more takes the place of a zero
 set-more : (l : List ℕ) (c : ℕ) → length l < entryLimit → reqsIn (set (reqsOf l .codes) (length l) c) (length l + 1) ≡ reqsOf (l ++ c ∷ [])
@@ -74,7 +70,7 @@ module _ (p : ℕ → Bool) (cs : List ℕ) where
       by false t e f = record {
         low = omega arith;
         few = omega (arith, e, q .few);
-        is = let z : m + 0 ≡ m = omega arith in ap (reqsIn next) (e ∙ z) ∙ ap (λ l. reqsIn l m) f ∙ q .is ∙ ap reqsOf (sym ((rw t at all) ∙ append-none got));
+        is = let z : m + 0 ≡ m = omega arith in ap (reqsIn next) (e ∙ z) ∙ ap (λ l. reqsIn l m) f ∙ q .is ∙ ap reqsOf (sym ((rw t at all) ∙ append-nil got));
       }
 
   pub picked-all : (out : List ℕ) (m i : ℕ) → Picked p cs out m i → length cs ≤ i → reqsIn out m ≡ reqsOf (pick p cs)

@@ -11,12 +11,12 @@ use Rattle.model.specs.Limits.{slotCount}
 use Rattle.model.specs.Refusal.{badSheet, badShop}
 use Rattle.model.specs.Sheet.{Sheet, all, sheetOk}
 use Rattle.model.specs.Shop.{slotOk, withSlots}
+use Rattle.model.specs.Laws.Places.{padded-all}
 use Rattle.shop.specs.Shapes.{noSlot, slotOf, slotsOf}
 use Rattle.shop.specs.Slots.{shop-slot}
 use Rattle.shop_arrays.specs.Arrays.{Arrays, shopFrom, slotAt}
 use Rattle.shop_arrays.specs.Slots.{slot-in, slots-long}
 use Rattle.signed_model.specs.Findings.{checkCall, finding}
-use Rattle.signed_model.specs.Shops.{padded-all}
 use Rattle.signed_check.specs.Answer.{checkedOf, findingOf, nothingTold}
 use Rattle.signed_check.specs.declared.Finding.{Finding}
 use Rattle.signed_check.specs.declared.Checked.{Checked}

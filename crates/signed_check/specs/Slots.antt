@@ -1,6 +1,6 @@
 -- What is found on the codes of a slot that passed 1 and 8 is what is told of it. Assumes nothing.
 use mathlib.Core.Path.{_≡_, refl, sym, ap, _∙_}
-use mathlib.Core.Bool.{Bool, true, false, not, cond, _&&_, true≢false}
+use mathlib.Core.Bool.{Bool, true, false, not, cond, _&&_, true≢false, Bool·not-not}
 use mathlib.Core.Option.{Option, none, some}
 use mathlib.Core.List.{List, [], _∷_, map}
 use Prim.Native.Nat.{ℕ, _-_, _≤_}
@@ -32,11 +32,10 @@ use Rattle.shop.specs.declared.Reqs.{Reqs}
 use Rattle.settings_model.specs.Settings.{hiddenCount, listedCount, settingsCall}
 use Rattle.settings_model.specs.Closed.{none-listed}
 use Rattle.settings.specs.Codes.{codes-are, lacks-is, negated-code, own-narrow}
-use Rattle.settings.specs.Answer.{settingsOf}
+use Rattle.settings.specs.Answer.{settingsOf, item-none, item-some}
 use Rattle.settings.specs.declared.Settings.{Settings}
 use Rattle.signed_model.specs.Findings as Told
 use Rattle.signed_model.specs.Findings.{faithful, pair, own, outside, doubled, finding, firstPlace, isHave, limitFor, listedAs, settingsFor, verdict, verdictFilled}
-use Rattle.signed_model.specs.Holds.{not-not}
 use Rattle.signed_model.specs.Rule.{leftOf, normal-left}
 use Rattle.signed_check.specs.Codes.{concernsCode, leftCode, pick, placeCode, shownCode, verdictCode}
 use Rattle.signed_check.specs.Answer.{findingOf, verdictOf}
@@ -121,7 +120,7 @@ module _ (h : Model.Sheet) (w : ℕ) (low : Narrow (acquiredOf h w)) where
 
     place-pair : placeCode 1 (codeOf a) (map codeOf rs) ≡ firstPlace (λ r. member (negateReq r) rs) rs
     unfolding placeCode concernsCode
-    place-pair = place-map _ (λ r. member (negateReq r) rs) (λ r k. rw (negated-code r k, lacks-is (negateReq r) rs (negate-narrow r k) n) (not-not (member (negateReq r) rs))) rs n
+    place-pair = place-map _ (λ r. member (negateReq r) rs) (λ r k. rw (negated-code r k, lacks-is (negateReq r) rs (negate-narrow r k) n) (Bool·not-not (member (negateReq r) rs))) rs n
 
     place-own : placeCode 2 (codeOf a) (map codeOf rs) ≡ firstPlace (sameReq a) rs
     unfolding placeCode concernsCode
@@ -145,14 +144,6 @@ module _ (h : Model.Sheet) (w : ℕ) (low : Narrow (acquiredOf h w)) where
         ∙ ap (map codeOf) (sym (keep-keep isHave (λ r. not (member (negateReq r) rs)) rs))
 
 -- ---- a slot as the code holds it
-
-item-none : (x : Slot) → x .item ≡ Nothing → slotOf x .item ≡ none
-unfolding slotOf
-item-none x e = rw e
-
-item-some : (x : Slot) (w : ItemId) → x .item ≡ Of w → slotOf x .item ≡ some (w .0)
-unfolding slotOf
-item-some x w e = rw e
 
 limit-is : (x : Slot) → slotOf x .limit ≡ x .limit
 unfolding slotOf

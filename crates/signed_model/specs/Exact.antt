@@ -1,24 +1,25 @@
 -- The rule is exact: where all flags lie in 0 to 2,047 it says faithful exactly where the slot is, and with one clause more for every slot. Assumes nothing.
 use mathlib.Core.Path.{_≡_, refl, sym, ap, _∙_}
-use mathlib.Core.Bool.{Bool, true, false, not, _&&_, _||_, true≢false}
+use mathlib.Core.Bool.{Bool, true, false, not, _||_, true≢false}
 use mathlib.Core.Option.{Option, none, some}
 use Prim.Native.Nat.{ℕ}
 use native.Mathlib.Omega.{arith}
-use lib.Dec.{leb, eqb}
-use borrow.Author.Tests.{ltb-false, eqb-true}
+use lib.Dec.{leb}
+use borrow.Author.Tests.{ltb-false}
 use lib.ListN.{length, List·getD-eq-default}
 use lib.IntN.{pos, negsuc}
-use mir.Syntax.{w16, w32}
-use Rattle.model.specs.Limits.{entryLimit, flagCount, timeCount, variableCount}
-use Rattle.model.specs.Signed.{isZero, inRange}
+use Rattle.model.specs.Limits.{entryLimit, flagCount}
+use Rattle.model.specs.Signed.{isZero}
 use Rattle.model.specs.Save.{Save}
 use Rattle.model.specs.Flags.{reqInside, slotInside}
-use Rattle.model.specs.Sheet.{Sheet, all, isBit, isCount, itemCount, saveOk}
+use Rattle.model.specs.Sheet.{Sheet, all, itemCount, saveOk}
 use Rattle.model.specs.Requirement.{Requirement, haveItem, missingItem, haveAtc, missingAtc, haveFlag, missingFlag}
 use Rattle.model.specs.Shop.{Slot, itemKnown, limitOf, reqKnown, slotOk}
 use Rattle.model.specs.Meaning.{allHold, filledMeaning, holds, meaningOf}
 use Rattle.model.specs.Normal.{normal}
-use Rattle.model.specs.Laws.Checks.{and-left, and-right}
+use Rattle.model.specs.Laws.Checks.{and-right}
+use Rattle.model.specs.Laws.Saves.{Kept, save-kept}
+use Rattle.model.specs.Refusal.{check, badSave}
 use Rattle.faithful_model.specs.Faithful.{isFaithful}
 use Rattle.signed_model.specs.Saves.{Faithful, canHold, witnessFor}
 use Rattle.faithful_model.specs.Lists.{all-member, all-of}
@@ -32,30 +33,13 @@ isSame h x = isFaithful h x || not (all (canHold h) (normal h x .requirements))
 
 -- ---- what no save that fits has never holds
 
-record Lengths (h : Sheet) (s : Save) : Type 0 where
-  items : length (s .items) ≡ itemCount h
-  atcs : length (s .atcs) ≡ h .atcCount
-  flags : length (s .flags) ≡ flagCount
-
-lengths : (h : Sheet) (s : Save) → saveOk h s ≡ true → Lengths h s
-unfolding saveOk
-lengths h s ok =
-    let four = and-left _ (eqb (length (s .variables)) variableCount && all (inRange w32) (s .variables)) ok in
-    let three = and-left _ (eqb (length (s .times)) timeCount && all (inRange w16) (s .times)) four in
-    let two = and-left _ (eqb (length (s .flags)) flagCount && all isBit (s .flags)) three in
-    record {
-      items = eqb-true _ _ (and-left (eqb (length (s .items)) (itemCount h)) _ (and-left _ (eqb (length (s .atcs)) (h .atcCount) && all isBit (s .atcs)) two));
-      atcs = eqb-true _ _ (and-left (eqb (length (s .atcs)) (h .atcCount)) _ (and-right (eqb (length (s .items)) (itemCount h) && all isCount (s .items)) _ two));
-      flags = eqb-true _ _ (and-left (eqb (length (s .flags)) flagCount) _ (and-right ((eqb (length (s .items)) (itemCount h) && all isCount (s .items)) && (eqb (length (s .atcs)) (h .atcCount) && all isBit (s .atcs))) _ three));
-    }
-
-cannot : (h : Sheet) (s : Save) → Lengths h s → (r : Requirement) → canHold h r ≡ false → holds s r ≡ false
+cannot : (h : Sheet) (s : Save) → Kept h s → (r : Requirement) → canHold h r ≡ false → holds s r ≡ false
 unfolding holds
-cannot h s l (haveItem i) c = ap (λ z. not (isZero z)) (List·getD-eq-default (s .items) (pos 0) (omega (arith, l .items, ltb-false i (itemCount h) c)))
+cannot h s l (haveItem i) c = ap (λ z. not (isZero z)) (List·getD-eq-default (s .items) (pos 0) (omega (arith, l .items-long, ltb-false i (itemCount h) c)))
 cannot h s l (missingItem i) c = absurd (true≢false c)
-cannot h s l (haveAtc a) c = ap (λ z. not (isZero (pos z))) (List·getD-eq-default (s .atcs) 0 (omega (arith, l .atcs, ltb-false a (h .atcCount) c)))
+cannot h s l (haveAtc a) c = ap (λ z. not (isZero (pos z))) (List·getD-eq-default (s .atcs) 0 (omega (arith, l .atcs-long, ltb-false a (h .atcCount) c)))
 cannot h s l (missingAtc a) c = absurd (true≢false c)
-cannot h s l (haveFlag (pos f)) c = ap (λ z. not (isZero (pos z))) (List·getD-eq-default (s .flags) 0 (omega (arith, l .flags, ltb-false f flagCount c)))
+cannot h s l (haveFlag (pos f)) c = ap (λ z. not (isZero (pos z))) (List·getD-eq-default (s .flags) 0 (omega (arith, l .flags-long, ltb-false f flagCount c)))
 cannot h s l (haveFlag (negsuc f)) c = refl
 cannot h s l (missingFlag f) c = absurd (true≢false c)
 
@@ -68,7 +52,7 @@ blind-same h x c s ok = by (x .item) refl
     by (some w) e =
         let qs = leftOf h w (limitOf h w (x .limit)) (x .requirements) in
         let f = find (canHold h) qs (rw (normal-left h x w e) at c) in
-        let low = cannot h s (lengths h s ok) (f .which) (f .fails) in
+        let low = cannot h s (save-kept h s (ap (λ b. check b badSave) ok)) (f .which) (f .fails) in
         let a : allHold s (x .requirements) ≡ false = hold-fails s (f .which) (x .requirements) (left-was h w (limitOf h w (x .limit)) (f .which) (x .requirements) (f .inside) .0) low in
         let b : allHold s qs ≡ false = hold-fails s (f .which) qs (f .inside) low in
         slot-meaning h s x w e ∙ ap (filledMeaning h s w (limitOf h w (x .limit))) (a ∙ sym b) ∙ sym (normal-meaning h s x w e)

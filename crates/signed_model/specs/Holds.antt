@@ -1,6 +1,6 @@
 -- Requirements that all hold under a save, what a list fails by, and lists made by a function. Assumes nothing.
 use mathlib.Core.Path.{_≡_, refl, sym, ap, _∙_}
-use mathlib.Core.Bool.{Bool, true, false, not, _&&_, _||_, true≢false}
+use mathlib.Core.Bool.{Bool, true, false, not, _&&_, true≢false, or-true, Bool·not-not}
 use mathlib.Core.List.{List, [], _∷_}
 use Prim.Native.Nat.{ℕ, zero, suc, _<_}
 use native.Mathlib.Omega.{arith}
@@ -15,10 +15,6 @@ use Rattle.model.specs.Laws.Sets.{same-refl}
 use Rattle.faithful_model.specs.Lists.{all-member, all-of}
 use Rattle.signed_model.specs.Saves.{table}
 
-pub not-not : (b : Bool) → not (not b) ≡ b
-not-not true = refl
-not-not false = refl
-
 -- if not of all, then there is one of which it does not hold
 pub record Without (p : Requirement → Bool) (xs : List Requirement) : Type 0 where
   pub which : Requirement
@@ -30,10 +26,6 @@ unfolding member
 find p [] a = absurd (true≢false a)
 find p (x ∷ xs) a = by (p x) refl a (find p xs)
   where
-    or-true : (b : Bool) → b || true ≡ true
-    or-true true = refl
-    or-true false = refl
-
     by : (b : Bool) → p x ≡ b → b && all p xs ≡ false → (all p xs ≡ false → Without p xs) → Without p (x ∷ xs)
     by true e a ih = let w = ih a in record { which = w .which; inside = rw (w .inside) (or-true (sameReq (w .which) x)); fails = w .fails }
     by false e a ih = record { which = x; inside = rw (same-refl x); fails = e }
@@ -41,11 +33,11 @@ find p (x ∷ xs) a = by (p x) refl a (find p xs)
 module _ (s : Save) where
   pub holds-neg : (r : Requirement) → holds s (negateReq r) ≡ not (holds s r)
   unfolding holds
-  holds-neg (haveItem i) = sym (not-not (isZero (held s i)))
+  holds-neg (haveItem i) = sym (Bool·not-not (isZero (held s i)))
   holds-neg (missingItem i) = refl
-  holds-neg (haveAtc a) = sym (not-not (isZero (natAt (s .atcs) (pos a))))
+  holds-neg (haveAtc a) = sym (Bool·not-not (isZero (natAt (s .atcs) (pos a))))
   holds-neg (missingAtc a) = refl
-  holds-neg (haveFlag f) = sym (not-not (isZero (natAt (s .flags) f)))
+  holds-neg (haveFlag f) = sym (Bool·not-not (isZero (natAt (s .flags) f)))
   holds-neg (missingFlag f) = refl
 
   pub hold-all : (xs : List Requirement) → allHold s xs ≡ all (holds s) xs

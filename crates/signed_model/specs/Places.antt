@@ -26,12 +26,6 @@ pub record First {A : Type 0} (p : A → Bool) (xs : List A) (i : ℕ) : Type 0 
   pub is : (d : A) → p (getD xs i d) ≡ true
   pub none-before : (j : ℕ) (d : A) → j < i → p (getD xs j d) ≡ false
 
--- within the list the default does not matter
-pub any-default : {A : Type 0} (xs : List A) (i : ℕ) (d e : A) → i < length xs → getD xs i d ≡ getD xs i e
-any-default [] i d e l = absurd (omega arith)
-any-default (x ∷ xs) zero d e l = refl
-any-default (x ∷ xs) (suc i) d e l = any-default xs i d e (omega arith)
-
 module _ {A : Type 0} (p : A → Bool) where
   pub place-all : (xs : List A) → isNone (firstPlace p xs) ≡ all (λ x. not (p x)) xs
   unfolding firstPlace

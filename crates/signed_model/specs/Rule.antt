@@ -11,15 +11,15 @@ use Rattle.model.specs.Sheet.{Sheet}
 use Rattle.model.specs.Requirement.{Requirement, negateReq, sameReq, member, keep, settled, sorted}
 use Rattle.model.specs.Shop.{Slot, timerOf, limitOf}
 use Rattle.model.specs.Compile.{rateOf}
-use Rattle.model.specs.Meaning.{acquired, allHold, atRate, filledMeaning, holds, limitMeaning, meaningOf, uniqueMeaning}
+use Rattle.model.specs.Meaning.{acquired, allHold, filledMeaning, holds, limitMeaning, meaningOf, uniqueMeaning}
 use Rattle.model.specs.Normal.{acquiredOf, filledSlot, lone, normal}
 use Rattle.model.specs.Laws.Checks.{and-left, and-right}
-use Rattle.model.specs.Laws.Runs.{sameReq-true}
-use Rattle.model.specs.Laws.Sets.{member-keep, same-refl}
+use Rattle.model.specs.Laws.Runs.{sameReq-true, rate-false}
+use Rattle.model.specs.Laws.Sets.{member-keep, same-refl, member-sorted}
 use Rattle.faithful_model.specs.Faithful.{isFaithful, noPair}
 use Rattle.signed_model.specs.Saves.{Faithful}
 use Rattle.faithful_model.specs.Lists.{all-member}
-use Rattle.moves_model.specs.Settles.{limit-again, limit-one, sorted-member}
+use Rattle.moves_model.specs.Settles.{limit-again, limit-one}
 use Rattle.signed_model.specs.Holds.{holds-neg, hold-member, hold-of}
 use Rattle.model.specs.Laws.Normal.{both-ways}
 
@@ -61,11 +61,11 @@ slot-meaning h s x w e = rw e
 
 settled-member : (q : Requirement) (rs : List Requirement) → member q (settled (sorted rs)) ≡ not (member (negateReq q) rs) && member q rs
 unfolding settled
-settled-member q rs = member-keep (λ r. not (member (negateReq r) (sorted rs))) q (sorted rs) ∙ rw (sorted-member q rs, sorted-member (negateReq q) rs)
+settled-member q rs = member-keep (λ r. not (member (negateReq r) (sorted rs))) q (sorted rs) ∙ rw (member-sorted q rs, member-sorted (negateReq q) rs)
 
 lone-member : (a q : Requirement) (rs : List Requirement) → member q (keep (lone a (sorted rs)) (sorted rs)) ≡ (not (member (negateReq q) rs) && (not (sameReq q a) && not (sameReq q (negateReq a)))) && member q rs
 unfolding lone
-lone-member a q rs = member-keep (lone a (sorted rs)) q (sorted rs) ∙ rw (sorted-member q rs, sorted-member (negateReq q) rs)
+lone-member a q rs = member-keep (lone a (sorted rs)) q (sorted rs) ∙ rw (member-sorted q rs, member-sorted (negateReq q) rs)
 
 -- what is left was there, and not its negation
 pub left-was : (h : Sheet) (w l : ℕ) (q : Requirement) (rs : List Requirement) → member q (leftOf h w l rs) ≡ true → (member q rs ≡ true) × (member (negateReq q) rs ≡ false)
@@ -113,11 +113,6 @@ module _ (s : Save) (rs : List Requirement) (p : noPair rs ≡ true) where
       each r m t true c e f = absurd (true≢false (sym m ∙ ap (λ q. member q rs) (sameReq-true r a e) ∙ out))
       each r m t false true e f = ap (holds s) (sameReq-true r (negateReq a) f) ∙ holds-neg s a ∙ ap not low
       each r m t false false e f = hold-member s r ks t (lone-member a r rs ∙ rw (alone r m, e, f) m)
-
-rate-false : (s : Save) (o : Option ℕ) (b : Bool) → atRate s o b ≡ false → b ≡ false
-rate-false s none b e = e
-rate-false s (some r) true e = e
-rate-false s (some r) false e = refl
 
 unique-same : (h : Sheet) (s : Save) (w : ℕ) (rs : List Requirement) → noPair rs ≡ true → member (acquiredOf h w) rs ≡ false
     → uniqueMeaning h s w (acquired h s w) (allHold s rs) ≡ uniqueMeaning h s w (acquired h s w) (allHold s (keep (lone (acquiredOf h w) (sorted rs)) (sorted rs)))

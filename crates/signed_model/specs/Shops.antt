@@ -3,7 +3,7 @@ use mathlib.Core.Path.{_≡_, refl, sym, ap, _∙_}
 use mathlib.Core.Bool.{Bool, true, false, not, cond, _&&_}
 use mathlib.Core.Option.{Option, none, some}
 use mathlib.Core.List.{List, [], _∷_, map}
-use Prim.Native.Nat.{ℕ, zero, suc, _≤_}
+use Prim.Native.Nat.{ℕ, _≤_}
 use native.Mathlib.Omega.{arith}
 use lib.Dec.{leb}
 use borrow.Author.Tests.{leb-true, le-leb}
@@ -13,26 +13,19 @@ use Rattle.model.specs.Limits.{entryLimit, slotCount}
 use Rattle.model.specs.Save.{Save}
 use Rattle.model.specs.Sheet.{Sheet, all}
 use Rattle.model.specs.Requirement.{Requirement, keep, member, negateReq, settled, sorted}
-use Rattle.model.specs.Shop.{Slot, itemKnown, limitOf, padded, reqKnown, slotOk, withSlots}
+use Rattle.model.specs.Shop.{Slot, itemKnown, limitOf, reqKnown, slotOk, withSlots}
 use Rattle.model.specs.Flags.{insideFor, reqInside, shopInside, slotInside}
 use Rattle.model.specs.Meaning.{meaningOf, orOld, tempAfter}
 use Rattle.model.specs.Normal.{acquiredOf, filledSlot, lone, normal, normalFor, normalShop}
 use Rattle.model.specs.Preview.{previewCall}
 use Rattle.model.specs.Laws.Checks.{and-left, and-right}
-use Rattle.model.specs.Laws.Normal.{sorted-length}
+use Rattle.model.specs.Laws.Normal.{sorted-length, keep-length}
+use Rattle.model.specs.Laws.Places.{padded-all}
 use Rattle.faithful_model.specs.Faithful.{isFaithful}
 use Rattle.faithful_model.specs.Lists.{all-member, all-of}
 use Rattle.signed_model.specs.Rule.{left-was, leftOf, normal-left, rule-same}
 
 -- ---- the normal form passes 8 where the slot does
-
-keep-length : (p : Requirement → Bool) (xs : List Requirement) → length (keep p xs) ≤ length xs
-keep-length p [] = omega arith
-keep-length p (x ∷ xs) = by (p x) (keep-length p xs)
-  where
-    by : (c : Bool) → length (keep p xs) ≤ length xs → length (cond c (x ∷ keep p xs) (keep p xs)) ≤ suc (length xs)
-    by true ih = omega arith
-    by false ih = omega arith
 
 left-length : (h : Sheet) (w l : ℕ) (rs : List Requirement) → length (leftOf h w l rs) ≤ length rs
 unfolding leftOf settled
@@ -99,13 +92,6 @@ module _ (h : Sheet) (s : Save) where
   temp-same [] z f = refl
   temp-same (x ∷ xs) z f =
       temp-same xs (orOld (meaningOf h s (normal h x) .temp) z) (and-right (isFaithful h x) _ f) ∙ ap (λ m. tempAfter h s xs (orOld (m .temp) z)) (sym (rule-same h x (and-left (isFaithful h x) _ f) s))
-
-pub padded-all : (n : ℕ) (xs : List Slot) → length xs ≡ n → padded n xs ≡ xs
-unfolding padded
-padded-all zero [] e = refl
-padded-all zero (x ∷ xs) e = absurd (omega arith)
-padded-all (suc n) [] e = absurd (omega arith)
-padded-all (suc n) (x ∷ xs) e = ap (λ l. x ∷ l) (padded-all n xs (omega arith))
 
 module _ (h : Sheet) (xs : List Slot) (long : length xs ≡ slotCount) (ok : all (slotOk h) xs ≡ true) (in-save : shopInside xs ≡ true) (f : all (isFaithful h) xs ≡ true) where
   with-own : withSlots xs ≡ xs

@@ -20,9 +20,10 @@ use Rattle.model.specs.Compile.{rateOf, acquiredReq}
 use Rattle.model.specs.Meaning.{acquired, allHold, atRate, filledMeaning, held, hidden, holds, limitMeaning, meaningOf, uniqueMeaning}
 use Rattle.model.specs.Normal.{acquiredOf, normal}
 use Rattle.model.specs.Laws.Checks.{and-left, and-right}
+use Rattle.model.specs.Laws.Bools.{never-true}
 use Rattle.faithful_model.specs.Faithful.{isFaithful, noPair}
 use Rattle.signed_model.specs.Saves.{bit, canHold, table, witness, witnessFor}
-use Rattle.faithful_model.specs.Lists.{all-member, is-false}
+use Rattle.faithful_model.specs.Lists.{all-member}
 use Rattle.signed_model.specs.Holds.{Without, find, hold-fails, hold-of, holds-neg, table-all, table-at, table-default, table-length}
 use Rattle.signed_model.specs.Rule.{leftOf, left-own, left-was, normal-left, normal-meaning, slot-meaning}
 
@@ -137,10 +138,10 @@ module _ (h : Sheet) (x : Slot) (w : ℕ) (e : x .item ≡ some w) (can : all (c
   left-holds = hold-of (witness h qs) qs (λ r m. has h qs r m (apart r m) (all-member (canHold h) r qs (rw (normal-left h x w e) at can) m))
     where
       apart : (r : Requirement) → member r qs ≡ true → member (negateReq r) qs ≡ false
-      apart r m = is-false _ (λ n. true≢false (sym (left-was h w limit (negateReq r) rs n .0) ∙ left-was h w limit r rs m .1))
+      apart r m = never-true _ (λ n. true≢false (sym (left-was h w limit (negateReq r) rs n .0) ∙ left-was h w limit r rs m .1))
 
   own-out : leb limit 1 ≡ true → member (acquiredOf h w) qs ≡ false
-  own-out p = is-false _ (left-own h w limit rs p)
+  own-out p = never-true _ (left-own h w limit rs p)
 
   -- a contradicting pair never holds
   pair-fails : (s : Save) → noPair rs ≡ false → allHold s rs ≡ false

@@ -7,8 +7,7 @@ use Prim.Native.Nat.{ℕ, zero, suc, _+_, _≤_, _<_}
 use native.Mathlib.Omega.{arith}
 use borrow.Author.Tests.{leb-true, le-leb, lt-leb}
 use lib.Dec.{leb}
-use lib.ListN.{length, getD, drop, length-append, length-map}
-use lib.Seq.{sets, sets-eq}
+use lib.ListN.{length, getD, length-append, length-map}
 use Rattle.model.specs.Limits.{fewestItems, mostItems, mostAtcs}
 use Rattle.model.specs.Reading.{word}
 use Rattle.model.specs.Laws.Checks.{and-left, and-right}
@@ -19,7 +18,7 @@ use Rattle.shop.specs.Shapes.{sheetOf}
 use Rattle.shop.specs.declared.Sheet.{Sheet}
 use Rattle.image_numbers.specs.Lengths.{word-1}
 use Rattle.image_numbers.specs.Stored.{Stored, Room}
-use Rattle.image_write.specs.Call.{wrote}
+use Rattle.image_write.specs.Call.{wrote, over-is}
 use Rattle.image_write.specs.Loop.{Pieces}
 use Rattle.slots_heading.specs.Bytes.{entryOf, atcsBytes, headBytes, writeHead, headLength, headBy}
 use Rattle.slots_heading.specs.RoundTrip.{entry-number, entry-known, Judged, judged}
@@ -120,14 +119,11 @@ module _ (ks : List ℕ) (h : Sheet) (b : ℕ) (xs : List ℕ) where
       pub call-room : Room xs 0 (headBytes (headBy ks h b))
       call-room = record { fits = omega (arith, head-length ks h b ok) }
 
-      over-is : (c : List ℕ) → length c ≤ length xs → sets xs 0 c ≡ over c xs
-      over-is c f = let e : 0 + length c ≡ length c = omega arith in sets-eq c xs 0 (omega arith) ∙ ap (λ (k : ℕ). c ++ drop k xs) e
-
       pub call-fine : {ys : List ℕ} {r : ℕ} → Stored xs 0 (headBytes (headBy ks h b)) ys r → (wrote 0 ys ≡ writeHead (headBy ks h b) xs) × (r ≡ headLength (headBy ks h b) xs)
       unfolding writeHead headLength
       call-fine {ys} {r} s =
           let c = headBytes (headBy ks h b) in
           let f : length c ≤ length xs = omega (arith, head-length ks h b ok) in
-          let e : ys ≡ over c xs = s .is ∙ over-is c f in
+          let e : ys ≡ over c xs = s .is ∙ over-is xs c f in
           let n : r ≡ length c = omega (arith, s .place) in
           (rw (ok, le-leb (length c) (length xs) f, e), rw (ok, le-leb (length c) (length xs) f, n))

@@ -26,8 +26,8 @@ abbrev pub NoDigit : List ℕ → Type 0
 NoDigit [] = Unit {0}
 NoDigit (c ∷ s) = isDigit c ≡ false
 
-digit-is : (d : ℕ) → d < 10 → isDigit (48 + d) ≡ true
-digit-is d l = rw (le-leb 48 (48 + d) (omega arith), le-leb (48 + d) 57 (omega arith))
+pub is-digit : (d : ℕ) → d < 10 → isDigit (48 + d) ≡ true
+is-digit d l = rw (le-leb 48 (48 + d) (omega arith), le-leb (48 + d) 57 (omega arith))
 
 digit-in : (c : ℕ) → isDigit c ≡ true → (48 ≤ c) × (c ≤ 57)
 digit-in c h = (leb-true 48 c (and-left (leb 48 c) (leb c 57) h), leb-true c 57 (and-right (leb 48 c) (leb c 57) h))
@@ -62,7 +62,7 @@ module _ (e b : ℕ) where
   unfolding readDigits
   one-more n d s l h =
       let a : 48 + d - 48 ≡ d = omega arith in
-      rw (digit-is d l, a, lt-ltb (10 * n + d) b h)
+      rw (is-digit d l, a, lt-ltb (10 * n + d) b h)
 
   digits-read : (f n : ℕ) (s : List ℕ) → 0 < n → n < tens f → n < b → readNatural e b (digitsTo f n ++ s) ≡ readDigits e b n s
   unfolding readNatural digitsTo
@@ -73,7 +73,7 @@ module _ (e b : ℕ) where
           → readNatural e b (cond t ((48 + n) ∷ []) (digitsTo f (n / 10) ++ (48 + n % 10) ∷ []) ++ s) ≡ readDigits e b n s
       by true k ih =
           let a : 48 + n - 48 ≡ n = omega arith in
-          rw (ne-eqb (48 + n) 48 (omega arith), digit-is n (ltb-true n 10 k), a)
+          rw (ne-eqb (48 + n) 48 (omega arith), is-digit n (ltb-true n 10 k), a)
       by false k ih =
           let m = ltb-false n 10 k in
           let a : 10 * (n / 10) + n % 10 ≡ n = omega arith in

@@ -5,7 +5,7 @@ use mathlib.Core.List.{List, [], _∷_}
 use Prim.Native.Nat.{ℕ, zero, suc, _+_, _-_, _*_, _≤_, _<_}
 use native.Mathlib.Omega.{arith}
 use native.Mathlib.Numerals.{add-one}
-use borrow.Author.Tests.{lt-ltb, le-ltb, le-leb, lt-leb, ne-eqb, eqb-true}
+use borrow.Author.Tests.{lt-ltb, le-ltb, lt-leb, ne-eqb, eqb-true}
 use lib.Dec.{leb, ltb, eqb}
 use lib.IntN.{pos, negsuc}
 use lib.ListN.{length, drop, getD, drop-of-length-le}
@@ -13,6 +13,7 @@ use lib.Seq.{drop-cons}
 use Rattle.model.specs.Reading.{Answer, got, refused, onward}
 use Rattle.shop_codes.specs.Codes.{half}
 use Rattle.text_model.specs.Text.{isDigit, readDigits, readNatural, negative, readSigned}
+use Rattle.text_model.specs.Numbers.{is-digit}
 use Rattle.text_read.specs.Told.{ByteAt, here, behind, Is, Other, DigitAt, digit, noDigit, Bound, Took, Told, took, left, noRead, IsNumber, IsSigned}
 use Rattle.text_read.specs.declared.Read.{Read}
 
@@ -73,9 +74,6 @@ digit-in h (noDigit e o) = absurd (omega arith)
 -- ---- numbers
 
 module _ (e b : ℕ) where
-  is-digit : (d : ℕ) → d < 10 → isDigit (48 + d) ≡ true
-  is-digit d h = rw (le-leb 48 (48 + d) (omega arith), le-leb (48 + d) 57 (omega arith))
-
   natural-other : (t : List ℕ) → Other isDigit t → readNatural e b t ≡ refused e
   unfolding readNatural
   natural-other [] h = refl

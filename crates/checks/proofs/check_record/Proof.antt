@@ -3,7 +3,7 @@ use mathlib.Core.Path.{sym, ap}
 use borrow.Author.Needs.{needs}
 use Rattle.model.specs.Reading.{refusalOf}
 use Rattle.memory.specs.View.{memoryOf}
-use Rattle.checks.proofs.Checks.{fine-got, no-got}
+use Rattle.judge_record.specs.Stages.{fine-of, no-of}
 use Rattle.checks.proofs.check_record.Statement.{statement}
 use Rattle.checks.proofs.check_record.Tie as tie
 
@@ -15,14 +15,14 @@ returns-2 c =
     let a = c .before .before in
     let s = a .before .before .before in
     let m = memoryOf (s .args .ws .now) (s .args .val .now) (s .args .cw .now) (s .args .bw .now) (s .args .counts) in
-    sym (ap refusalOf (fine-got m (a .judge-record .ensures) (c .enum-told .given .1) .judged))
+    sym (ap refusalOf (fine-of m (a .judge-record .ensures) (c .enum-told .given .1) .judged))
 
 returns-3 : tie.Need-returns-3
 returns-3 c =
     let a = c .before .before .before in
     let s = a .before .before .before in
     let m = memoryOf (s .args .ws .now) (s .args .val .now) (s .args .cw .now) (s .args .bw .now) (s .args .counts) in
-    sym (ap refusalOf (no-got m (a .judge-record .ensures) (c .before .j .given .1)))
+    sym (ap refusalOf (no-of m (a .judge-record .ensures) (c .before .j .given .1)))
 
 pub check-record-spec : {M : Type 1} → statement M
 check-record-spec =

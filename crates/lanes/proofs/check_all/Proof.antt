@@ -11,8 +11,9 @@ use Rattle.checks.specs.Calls.{saveOf}
 use Rattle.shop.specs.Shapes.{sheetOf}
 use Rattle.lanes_model.specs.Walk.{walkOk}
 use Rattle.lanes_model.specs.Flat.{savesOk}
-use Rattle.lanes.proofs.Saves.{check-refused, few-items, check-saves, call-safe, check-walk, check-passed}
+use Rattle.lanes.proofs.Saves.{check-refused, check-saves, call-safe, check-walk, check-passed}
 use borrow.Author.Needs.{needs}
+use Rattle.checks.specs.Passed.{items-low}
 use Rattle.lanes.proofs.check_all.Statement.{statement}
 use Rattle.lanes.proofs.check_all.Tie as tie
 
@@ -43,7 +44,7 @@ returns c =
 check-saves-requires : tie.Need-check-saves-requires
 check-saves-requires c κs =
     let a = c .before .before .before .before .before in
-    few-items (a .args .attached .now) (a .args .sheet) (memory a) (a .args .start .0) (answered (called a) (c .before .check-call .ensures) (c .if1 .left))
+    items-low (a .args .attached .now) (a .args .sheet) (memory a) (a .args .start .0) (answered (called a) (c .before .check-call .ensures) (c .if1 .left))
 
 returns-2 : tie.Need-returns-2
 returns-2 c =

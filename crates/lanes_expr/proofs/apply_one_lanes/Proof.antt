@@ -7,10 +7,10 @@ use Rattle.model.specs.declared.Op2.the-variants.{Equal}
 use Rattle.expr.specs.Value as value
 use Rattle.lanes_expr.specs.Lanes.{applyIn}
 use Rattle.lanes_expr.specs.Each.{Each, each-as}
-use Rattle.lanes_expr.proofs.Values.{same-at}
 use lib.ListN.{getD}
 use mathlib.Core.Path.{ap, _≡_, _∙_}
 use borrow.Author.Needs.{needs}
+use Rattle.model.specs.Laws.Places.{all-one}
 use Rattle.lanes_expr.proofs.apply_one_lanes.Statement.{statement}
 use Rattle.lanes_expr.proofs.apply_one_lanes.Tie as tie
 
@@ -20,7 +20,7 @@ arm : (c : tie.Start) (p : Op1) {xs′ : List ℤ} → c .args .o ≡ p → Each
 arm c p e h = rw e h
 
 returns : tie.Need-returns
-returns c = arm (c .before .before .before .before .before .before .before .before) _ (c .before .before .before .before .enum-told .given .1) (each-as (c .two-each .ensures) (λ j x. ap (λ (y : List ℤ). apply2 Equal x (getD y j (pos 0))) (c .before .before .before .repeated .ensures) ∙ ap (apply2 Equal x) (same-at 64 j (pos 0))))
+returns c = arm (c .before .before .before .before .before .before .before .before) _ (c .before .before .before .before .enum-told .given .1) (each-as (c .two-each .ensures) (λ j x. ap (λ (y : List ℤ). apply2 Equal x (getD y j (pos 0))) (c .before .before .before .repeated .ensures) ∙ ap (apply2 Equal x) (all-one (pos 0) 64 j)))
 
 pub apply-one-lanes-spec : {M : Type 1} → statement M
 apply-one-lanes-spec =

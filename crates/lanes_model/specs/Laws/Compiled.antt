@@ -20,7 +20,7 @@ use Rattle.model.specs.Script.{Block, blockAt}
 use Rattle.model.specs.Compile.{acquiredExpr, blocksFor, enableBlocks, joinTests, lastOf, limitBlocks, redirect, rootOf, slotBlocks, slotsBlocks, test, uniqueBlocks}
 use Rattle.model.specs.Laws.Compiled.{Linked, lastOf-is}
 use Rattle.model.specs.Laws.FitBlocks.{from-slots}
-use Rattle.model.specs.Laws.FitTests.{SheetLow}
+use Rattle.model.specs.Laws.Checked.{SheetLow}
 use Rattle.reclaim_model.specs.Rename.{linksOf, targets, Every}
 use Rattle.reclaim_model.specs.Laws.Lower.{above-slots, after-links}
 use Rattle.reclaim_model.specs.Laws.Reached.{root, onward, every-at}

@@ -6,23 +6,21 @@ use Prim.Native.Nat.{ℕ, zero, suc, _<_, _≤_}
 use native.Mathlib.Omega.{arith}
 use native.Mathlib.Decide.{ℕ-discrete, decLe}
 use lib.Dec.{ltb}
-use lib.ListN.{getD, set, length, length-set, List·getD-eq-default, replicate, length-replicate}
-use lib.Seq.{getD-set-same, getD-set-other}
-use borrow.Author.Tests.{ltb-true, lt-ltb}
+use lib.ListN.{getD, length, List·getD-eq-default, replicate, length-replicate}
+use lib.Seq.{getD-set-other}
+use borrow.Author.Tests.{lt-ltb}
 use Rattle.model.specs.Sheet.{all}
 use Rattle.model.specs.Script.{Block, placeholder, blockAt}
 use Rattle.model.specs.Laws.Checks.{and-left, and-right}
-use Rattle.model.specs.Laws.Marks.{all-one}
+use Rattle.model.specs.Laws.Places.{marks-stay, all-one}
+use Rattle.model.specs.Laws.Normal.{both-ways}
 use Rattle.reclaim_model.specs.Rename.{linksOf}
 use Rattle.reclaim_model.specs.Reclaim.{markRoots}
-use Rattle.reclaim_model.specs.Laws.Reached.{root, onward, no-links}
+use Rattle.reclaim_model.specs.Laws.Reached.{root, onward, no-links, length-roots, root-marked}
+use Rattle.reclaim_model.specs.Laws.Twice.{all-in}
 use Rattle.lanes_model.specs.Falls.{Link, LedTo, Falls, fallsAt, marksAfter, sweep, falls}
 
 -- ---- lists of links
-
-lower-all : (n : ℕ) (ks : List ℕ) → all (λ k. ltb k n) ks ≡ true → (k : ℕ) → List·Memᴰ k ks → k < n
-lower-all n ks p k (List·Memᴰ·head {x} {xs} e) = rw e (ltb-true x n (and-left (ltb x n) (all (λ k. ltb k n) xs) p))
-lower-all n ks p k (List·Memᴰ·tail {x} {xs} m) = lower-all n xs (and-right (ltb x n) (all (λ k. ltb k n) xs) p) k m
 
 all-lower : (n : ℕ) (ks : List ℕ) → ((k : ℕ) → List·Memᴰ k ks → k < n) → all (λ k. ltb k n) ks ≡ true
 all-lower n [] f = refl
@@ -30,24 +28,9 @@ all-lower n (k ∷ ks) f = rw (lt-ltb k n (f k (List·Memᴰ·head refl))) (all-
 
 -- ---- marks
 
-set-keeps : (ms : List Bool) (j k : ℕ) → getD ms j false ≡ true → getD (set ms k true) j false ≡ true
-set-keeps [] j k h = h
-set-keeps (x ∷ xs) zero zero h = refl
-set-keeps (x ∷ xs) zero (suc k) h = h
-set-keeps (x ∷ xs) (suc j) zero h = h
-set-keeps (x ∷ xs) (suc j) (suc k) h = set-keeps xs j k h
-
 mark-keeps : (ks : List ℕ) (ms : List Bool) (j : ℕ) → getD ms j false ≡ true → getD (markRoots ks ms) j false ≡ true
 mark-keeps [] ms j h = h
-mark-keeps (k ∷ ks) ms j h = set-keeps (markRoots ks ms) j k (mark-keeps ks ms j h)
-
-pub length-mark : (ks : List ℕ) (ms : List Bool) → length (markRoots ks ms) ≡ length ms
-length-mark [] ms = refl
-length-mark (k ∷ ks) ms = length-set (markRoots ks ms) k true ∙ length-mark ks ms
-
-mark-sets : (ks : List ℕ) (ms : List Bool) (j : ℕ) → j < length ms → List·Memᴰ j ks → getD (markRoots ks ms) j false ≡ true
-mark-sets ks ms j l (List·Memᴰ·head {x} {xs} e) = rw e (getD-set-same (markRoots xs ms) x true false (omega (arith, length-mark xs ms)))
-mark-sets ks ms j l (List·Memᴰ·tail {x} {xs} m) = set-keeps (markRoots xs ms) j x (mark-sets xs ms j l m)
+mark-keeps (k ∷ ks) ms j h = marks-stay (markRoots ks ms) k j (mark-keeps ks ms j h)
 
 -- a mark is one of these or was there before
 mark-from : {A : Type 0} (ks : List ℕ) (ms : List Bool) (j : ℕ) → getD (markRoots ks ms) j false ≡ true → (List·Memᴰ j ks → A) → (getD ms j false ≡ true → A) → A
@@ -81,7 +64,7 @@ module _ (bs : List Block) where
   after-length n ms = by (getD ms n false)
     where
       by : (b : Bool) → length (cond b (markRoots (linksOf (blockAt bs n)) ms) ms) ≡ length ms
-      by true = length-mark (linksOf (blockAt bs n)) ms
+      by true = length-roots (linksOf (blockAt bs n)) ms
       by false = refl
 
   -- a step that is in order sets no mark from n on
@@ -89,7 +72,7 @@ module _ (bs : List Block) where
   after-old n ms j o l h = by (getD ms n false) o h
     where
       by : (b : Bool) → cond b (all (λ k. ltb k n) (linksOf (blockAt bs n))) true ≡ true → getD (cond b (markRoots (linksOf (blockAt bs n)) ms) ms) j false ≡ true → getD ms j false ≡ true
-      by true p q = mark-from (linksOf (blockAt bs n)) ms j q (λ m. let z = lower-all n (linksOf (blockAt bs n)) p j m in absurd (omega arith)) (λ e. e)
+      by true p q = mark-from (linksOf (blockAt bs n)) ms j q (λ m. let z = all-in n (linksOf (blockAt bs n)) p j m in absurd (omega arith)) (λ e. e)
       by false p q = q
 
   final-old : (n : ℕ) (ms : List Bool) (j : ℕ) → sweep bs n ms ≡ true → n ≤ j → getD (final bs n ms) j false ≡ true → getD ms j false ≡ true
@@ -116,8 +99,8 @@ module _ (bs : List Block) where
 
       top : (b : Bool) → getD ms n false ≡ b → b ≡ true → cond b (all (λ k. ltb k n) (linksOf (blockAt bs n))) true ≡ true → Link bs n k → Closed (final bs n (marksAfter bs n ms)) (length ms) n k
       top true q t u w = record {
-        low = lower-all n (linksOf (blockAt bs n)) u k w;
-        marked = λ i. final-keeps n (marksAfter bs n ms) k (rw q (mark-sets (linksOf (blockAt bs n)) ms k i w));
+        low = all-in n (linksOf (blockAt bs n)) u k w;
+        marked = λ i. final-keeps n (marksAfter bs n ms) k (rw q (root-marked (linksOf (blockAt bs n)) ms k w i));
       }
       top false q t u w = absurd (true≢false (sym t))
 
@@ -146,10 +129,10 @@ module _ (bs : List Block) where
     begun = markRoots (linksOf (blockAt bs b)) (replicate n false)
 
     begun-length : length begun ≡ n
-    begun-length = length-mark (linksOf (blockAt bs b)) (replicate n false) ∙ length-replicate n false
+    begun-length = length-roots (linksOf (blockAt bs b)) (replicate n false) ∙ length-replicate n false
 
     reached : sweep bs (length bs) begun ≡ true → (c : ℕ) → LedTo bs b c → c < length bs → getD (final bs (length bs) begun) c false ≡ true
-    reached p c (root m) i = final-keeps (length bs) begun c (mark-sets (linksOf (blockAt bs b)) (replicate n false) c (omega (arith, length-replicate n false)) m)
+    reached p c (root m) i = final-keeps (length bs) begun c (root-marked (linksOf (blockAt bs b)) (replicate n false) c m (omega (arith, length-replicate n false)))
     reached p c (onward {b = d} q m) i = closed (length bs) begun p d (inside d c m) (reached p d q (inside d c m)) c m .marked (omega (arith, begun-length))
 
     sweep-paths : sweep bs (length bs) begun ≡ true → Falls bs b
@@ -185,11 +168,6 @@ module _ (bs : List Block) where
     unfolding falls
     paths-falls f = paths-sweep b (length bs) (omega arith) f
 
-    both : (x y : Bool) → (x ≡ true → y ≡ true) → (y ≡ true → x ≡ true) → x ≡ y
-    both true y f g = sym (f refl)
-    both false true f g = g refl
-    both false false f g = refl
-
     -- one array of marks serves every script that is not longer
     pub falls-any : (n : ℕ) → length bs ≤ n → sweep bs (length bs) (markRoots (linksOf (blockAt bs b)) (replicate n false)) ≡ falls bs b
-    falls-any n long = both (sweep bs (length bs) (begun b n long)) (falls bs b) (λ p. paths-falls (sweep-paths b n long p)) (λ p. paths-sweep b n long (falls-paths p))
+    falls-any n long = both-ways (sweep bs (length bs) (begun b n long)) (falls bs b) (λ p. paths-falls (sweep-paths b n long p)) (λ p. paths-sweep b n long (falls-paths p))

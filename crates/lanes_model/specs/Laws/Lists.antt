@@ -1,15 +1,14 @@
 -- After any list of compiles and reclaims, a walk at a block with a last accepted shop: 1 to 64 saves that fit are never refused, and at most 142 blocks are read. Assumes nothing.
 use mathlib.Core.Path.{_≡_, refl, sym, ap, _∙_, subst}
-use mathlib.Core.Bool.{Bool, true, false, cond}
+use mathlib.Core.Bool.{true, false}
 use mathlib.Core.Logic.{_≢_, _⊎_, inl, inr}
-use mathlib.Core.Option.{Option, none, some}
+use mathlib.Core.Option.{some}
 use mathlib.Core.List.{List, [], _∷_, map, List·Memᴰ, List·Memᴰ·head, List·Memᴰ·tail}
 use Prim.Native.Nat.{ℕ, zero, suc, _+_, _-_, _<_, _≤_}
 use native.Mathlib.Omega.{arith}
 use native.Mathlib.Decide.{ℕ-discrete}
-use lib.Dec.{eqb}
 use lib.ListN.{getD, length, length-map}
-use borrow.Author.Tests.{eqb-true, eqb-false, le-leb, lt-ltb}
+use borrow.Author.Tests.{le-leb, lt-ltb}
 use Rattle.model.specs.Limits.{laneBudget, mostSaves, slotCount, walkBlocks}
 use Rattle.model.specs.Save.{Save}
 use Rattle.model.specs.Sheet.{Sheet, all, saveOk, sheetOk}
@@ -18,27 +17,27 @@ use Rattle.model.specs.Script.{Block, blockAt, isCode}
 use Rattle.model.specs.Run.{runCall}
 use Rattle.model.specs.Judge.{callRefusal, sharedRefusal}
 use Rattle.model.specs.Compile.{Call, redirect, rootOf, slotsBlocks}
-use Rattle.model.specs.Lists.{afterAll, lastAt, latest, nowAt}
+use Rattle.model.specs.Lists.{afterAll, lastAt, nowAt}
 use Rattle.model.specs.Laws.Checks as Checks
 use Rattle.model.specs.Laws.Compiled.{fresh-linked, lastOf-is}
 use Rattle.model.specs.Laws.FitBlocks.{length-padded}
-use Rattle.model.specs.Laws.FitTests.{sheet-low}
-use Rattle.model.specs.Laws.Lists.{along-any, kept-all}
+use Rattle.model.specs.Laws.Checked.{sheet-low}
 use Rattle.reclaim_model.specs.Rename.{linksOf, renameBlock}
 use Rattle.reclaim_model.specs.Reclaim.{rank}
-use Rattle.reclaim_model.specs.Changes.{BornScript, birthAt, compileRefusalBorn, appendedBorn, lives, keptOnly, Change, changed, numberAfter, changes}
-use Rattle.reclaim_model.specs.Laws.Born.{Borne, appended-borne, passed-born}
+use Rattle.reclaim_model.specs.Changes.{BornScript, birthAt, compileRefusalBorn, appendedBorn, lives, keptOnly, Change, changes}
+use Rattle.reclaim_model.specs.Laws.Born.{Borne, passed-born}
 use Rattle.reclaim_model.specs.Laws.Carried.{Carried, Kept, appended-other, carried-compile, carried-fresh, carried-reclaim}
-use Rattle.reclaim_model.specs.Laws.Mixed.{borne-left, by-answer, survives}
-use Rattle.reclaim_model.specs.Laws.Reached.{root, onward}
+use Rattle.reclaim_model.specs.Laws.Mixed.{stands-all}
+use Rattle.reclaim_model.specs.Laws.Reached.{root, onward, every-of}
 use Rattle.reclaim_model.specs.Laws.Reclaimed.{reclaim-renamed}
 use Rattle.reclaim_model.specs.Laws.RenamedRun.{Renamed}
 use Rattle.reclaim_model.specs.Laws.Renames.{rename-same}
 use Rattle.reclaim_model.specs.Laws.Survivors.{rank-grows}
+use Rattle.reclaim_model.specs.Laws.Twice.{in-map}
 use Rattle.lanes_model.specs.Falls.{Link, LedTo, Falls}
 use Rattle.lanes_model.specs.Walk.{blocksEntered, unlessRefused, walkCall, walkChecks, walkRefusal}
 use Rattle.lanes_model.specs.Laws.Falls.{paths-falls}
-use Rattle.lanes_model.specs.Laws.Steps.{every-of, not-again}
+use Rattle.lanes_model.specs.Laws.Steps.{not-again}
 use Rattle.lanes_model.specs.Laws.Led.{LedFrom, led-back, falls-renamed}
 use Rattle.lanes_model.specs.Laws.Compiled.{led-home, linked-falls, slots-few}
 use Rattle.lanes_model.specs.Laws.Counts.{count-list}
@@ -62,10 +61,6 @@ in-numbers lo (suc n) c p q = by (ℕ-discrete c lo) (λ l. in-numbers (suc lo) 
     by : Dec (c ≡ lo) → (suc lo ≤ c → List·Memᴰ c (numbersFrom (suc lo) n)) → List·Memᴰ c (numbersFrom lo (suc n))
     by (yes e) ih = List·Memᴰ·head e
     by (no d) ih = List·Memᴰ·tail (ih (omega arith))
-
-in-map : (f : ℕ → ℕ) (k : ℕ) (ks : List ℕ) → List·Memᴰ k ks → List·Memᴰ (f k) (map f ks)
-in-map f k ks (List·Memᴰ·head e) = List·Memᴰ·head (ap f e)
-in-map f k ks (List·Memᴰ·tail {x} {xs} m) = List·Memᴰ·tail (in-map f k xs m)
 
 -- ---- one call: the links of a carried shop go on falling
 
@@ -133,46 +128,15 @@ module _ (h : Sheet) (k : BornScript) where
 -- ---- a list
 
 module _ (h : Sheet) where
-  -- the shop accepted last at a block is carried there, and its links fall
-  abbrev Standing : BornScript → ℕ → Option (List Slot) → Type 0
-  Standing k b none = Unit {0}
-  Standing k b (some ys) = Carried h k b ys × Falls (k .script .blocks) b
-
-  module _ (k : BornScript) (e : Borne k) (b : ℕ) where
-    standing-compile : (c : Call) → compileRefusalBorn h k c ≡ 0 → (o : Option (List Slot)) → Standing k b o
-        → (t : Bool) → eqb (c .setup) b ≡ t → Standing (appendedBorn h k c) b (cond t (some (withSlots (c .shop))) o)
-    standing-compile c z o p true q =
-        subst (λ (i : ℕ). Standing (appendedBorn h k c) i (some (withSlots (c .shop)))) (eqb-true (c .setup) b q) (carried-fresh h k c e z, fresh-falls h k c z)
-    standing-compile c z none p false q = tt
-    standing-compile c z (some ys) p false q =
-        let ne = eqb-false (c .setup) b q in
-        (carried-compile h k b ys e (p .0) c z ne, compile-falls h k b ys (p .0) (p .1) c z ne)
-
-    standing-reclaim : (rs : List ℕ) (o : Option (List Slot)) (j : ℕ) → Standing k b o → (getD (lives k rs) b false ≡ true) × (rank (lives k rs) b ≡ j) → Standing (keptOnly (lives k rs) k) j o
-    standing-reclaim rs none j p s = tt
-    standing-reclaim rs (some ys) j p s =
-        subst (λ (i : ℕ). Standing (keptOnly (lives k rs) k) i (some ys)) (s .1) (carried-reclaim h k b ys e (p .0) rs (s .0), reclaim-falls h k b ys (p .0) (p .1) rs (s .0))
-
-  -- with as many marks as blocks
-  abbrev Held : BornScript → ℕ → Option (List Slot) → Type 0
-  Held m i o = Borne m × Standing m i o
-
-  held-once : (m : BornScript) (x : Change) (i i′ : ℕ) (o : Option (List Slot)) → Unit {0} → numberAfter m x i ≡ some i′ → Held m i o → Held (changed h m x) i′ (latest (changes h) m x i o)
-  held-once m x i i′ o u moves held =
-      by-answer h m (λ left number last. number i ≡ some i′ → Held left i′ (last i o)) (λ q. here m o q held)
-      (λ c z q. here (appendedBorn h m c) (cond (eqb (c .setup) i) (some (withSlots (c .shop))) o) q (appended-borne h m c (held .0), standing-compile m (held .0) i c z o (held .1) (eqb (c .setup) i) refl))
-      (λ rs z q. (borne-left m rs (held .0), standing-reclaim m (held .0) i rs o i′ (held .1) (survives (lives m rs) i i′ q))) x moves
-    where
-      -- a call that moves no block
-      here : (left : BornScript) (last : Option (List Slot)) → _≡_ {A = Option ℕ} (some i) (some i′) → Held left i last → Held left i′ last
-      here left last q p = let w : i ≡ i′ = cc in subst (λ (j : ℕ). Held left j last) w p
-
   module _ (k : BornScript) (xs : List Change) (e : Borne k) (b b′ : ℕ) (ys : List Slot) (now : nowAt (changes h) k xs b ≡ some b′) (last : lastAt (changes h) k xs b ≡ some ys) where
     abbrev end : BornScript
     end = afterAll (changes h) k xs
 
     standing : Carried h (afterAll (changes h) k xs) b′ ys × Falls (afterAll (changes h) k xs .script .blocks) b′
-    standing = subst (Held end b′) last (kept-all (changes h) (λ m x. Unit {0}) Held held-once k xs (along-any (changes h) k xs) b b′ none now (e, tt)) .1
+    standing =
+        stands-all h (λ m i zs. Carried h m i zs × Falls (m .script .blocks) i) (λ m c d z. (carried-fresh h m c d z, fresh-falls h m c z))
+        (λ m i zs d p c z ne. (carried-compile h m i zs d (p .0) c z ne, compile-falls h m i zs (p .0) (p .1) c z ne))
+        (λ m i zs d p rs s. (carried-reclaim h m i zs d (p .0) rs s, reclaim-falls h m i zs (p .0) (p .1) rs s)) k xs e b b′ ys now last
 
     carried : Carried h (afterAll (changes h) k xs) b′ ys
     carried = standing .0

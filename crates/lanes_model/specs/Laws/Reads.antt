@@ -13,11 +13,12 @@ use borrow.Author.Tests.{eqb-true, eqb-false, eq-eqb, ne-eqb}
 use Rattle.model.specs.Save.{Save}
 use Rattle.model.specs.Script.{Block}
 use Rattle.model.specs.Run.{Outcome, next, done, halt, step, Ran, oneMore, run, runBy}
+use Rattle.model.specs.Laws.Bools.{clash, or-cases, never-true}
 use Rattle.reclaim_model.specs.Laws.Reached.{root, onward}
+use Rattle.reclaim_model.specs.Rename.{Every}
 use Rattle.lanes_model.specs.Falls.{Link, LedTo, Falls}
 use Rattle.lanes_model.specs.Walk.{any, beyond, trail, countBelow}
 use Rattle.lanes_model.specs.Lanes.{State, at, ended, Lane, moved, isAt, stepState, stepLane, anyAt, Walk, oneRead, walk, startLane, walkAll}
-use Rattle.lanes_model.specs.Laws.Bools.{clash, or-split, not-true}
 use Rattle.lanes_model.specs.Laws.Steps.{step-link, not-again}
 use Rattle.lanes_model.specs.Laws.Runs.{ahead, ahead-step, ahead-some, ahead-less, visit-is}
 
@@ -74,7 +75,7 @@ module _ (bs : List Block) (b : ℕ) (f : Falls bs b) (s : Save) where
       go : (o : Outcome) → step bs s k v ≡ o → eqb c k || any (eqb c) (beyond (λ b′ v′. trail bs s j b′ v′) o) ≡ true
           → ((k′ : ℕ) (v′ : List ℤ) → LedTo bs b k′ → any (eqb c) (trail bs s j k′ v′) ≡ true → Reached k′ c) → Reached k c
       go (next k′ v′) e h ih =
-          or-split (eqb c k) (any (eqb c) (trail bs s j k′ v′)) h
+          or-cases (eqb c k) (any (eqb c) (trail bs s j k′ v′)) h
           (λ q. rw (eqb-true c k q) (record { leads = g; low = omega arith }))
           (λ q.
           let l = step-link bs s k k′ v v′ e in
@@ -82,14 +83,14 @@ module _ (bs : List Block) (b : ℕ) (f : Falls bs b) (s : Save) where
           let low = f .lower g l in
           let under = r .low in
           record { leads = r .leads; low = omega arith })
-      go (done v′) e h ih = or-split (eqb c k) false h (λ q. rw (eqb-true c k q) (record { leads = g; low = omega arith })) (λ q. clash (sym q))
-      go (halt r v′) e h ih = or-split (eqb c k) false h (λ q. rw (eqb-true c k q) (record { leads = g; low = omega arith })) (λ q. clash (sym q))
+      go (done v′) e h ih = or-cases (eqb c k) false h (λ q. rw (eqb-true c k q) (record { leads = g; low = omega arith })) (λ q. clash (sym q))
+      go (halt r v′) e h ih = or-cases (eqb c k) false h (λ q. rw (eqb-true c k q) (record { leads = g; low = omega arith })) (λ q. clash (sym q))
 
   pub trail-low : (j k : ℕ) (v : List ℤ) → LedTo bs b k → (c : ℕ) → k < c → any (eqb c) (trail bs s j k v) ≡ false
-  trail-low j k v g c l = not-true _ (λ h. let q = trail-leads j k v g c h .low in omega arith)
+  trail-low j k v g c l = never-true _ (λ h. let q = trail-leads j k v g c h .low in omega arith)
 
   pub trail-without : (j k : ℕ) (v : List ℤ) → LedTo bs b k → any (eqb b) (trail bs s j k v) ≡ false
-  trail-without j k v g = not-true _ (λ h. not-again f (trail-leads j k v g b h .leads))
+  trail-without j k v g = never-true _ (λ h. not-again f (trail-leads j k v g b h .leads))
 
   -- any budgets that are enough give the same
   abbrev Alike : ℕ → Type 0
@@ -127,11 +128,7 @@ abbrev stillEnters : List Block → ℕ → Save → State → List ℕ
 stillEnters bs j s (at k v n) = trail bs s j k v
 stillEnters bs j s (ended r) = []
 
-abbrev Each : {A : Type 0} → (A → Type 0) → List A → Type 0
-Each P [] = Unit {0}
-Each P (x ∷ xs) = P x × Each P xs
-
-any-same : {A B : Type 0} (p : A → Bool) (q : B → Bool) (g : A → B) (P : A → Type 0) (xs : List A) → Each P xs → ((x : A) → P x → p x ≡ q (g x)) → any p xs ≡ any q (map g xs)
+any-same : {A B : Type 0} (p : A → Bool) (q : B → Bool) (g : A → B) (P : A → Type 0) (xs : List A) → Every P xs → ((x : A) → P x → p x ≡ q (g x)) → any p xs ≡ any q (map g xs)
 any-same p q g P [] h e = refl
 any-same p q g P (x ∷ xs) h e = rw (e x (h .0), any-same p q g P xs (h .1) e)
 
@@ -139,7 +136,7 @@ map-itself : {A : Type 0} (xs : List A) → map (λ x. x) xs ≡ xs
 map-itself [] = refl
 map-itself (x ∷ xs) = ap (λ r. x ∷ r) (map-itself xs)
 
-each-map : {A B : Type 0} (P : A → Type 0) (Q : B → Type 0) (g : A → B) (xs : List A) → Each P xs → ((x : A) → P x → Q (g x)) → Each Q (map g xs)
+each-map : {A B : Type 0} (P : A → Type 0) (Q : B → Type 0) (g : A → B) (xs : List A) → Every P xs → ((x : A) → P x → Q (g x)) → Every Q (map g xs)
 each-map P Q g [] h e = tt
 each-map P Q g (x ∷ xs) h e = (e x (h .0), each-map P Q g xs (h .1) e)
 
@@ -207,7 +204,7 @@ module _ (bs : List Block) (b : ℕ) (f : Falls bs b) (j : ℕ) where
   read-count true y w n e r = rw (← e, r)
   read-count false y w n e r = rw (← e, r)
 
-  reads-are : (m : ℕ) (ls : List Lane) → ahead b m ≤ j → Each (λ l. Good m (l .state)) ls → walk bs m ls .read ≡ countBelow m (enters ls)
+  reads-are : (m : ℕ) (ls : List Lane) → ahead b m ≤ j → Every (λ l. Good m (l .state)) ls → walk bs m ls .read ≡ countBelow m (enters ls)
   unfolding walk
   reads-are zero ls q g = refl
   reads-are (suc m) ls q g =
@@ -230,7 +227,7 @@ any-map : {A B : Type 0} (q : B → Bool) (g : A → B) (xs : List A) → any q 
 any-map q g [] = refl
 any-map q g (x ∷ xs) = ap (λ r. q (g x) || r) (any-map q g xs)
 
-each-made : {A B : Type 0} (Q : B → Type 0) (g : A → B) (xs : List A) → ((x : A) → Q (g x)) → Each Q (map g xs)
+each-made : {A B : Type 0} (Q : B → Type 0) (g : A → B) (xs : List A) → ((x : A) → Q (g x)) → Every Q (map g xs)
 each-made Q g [] e = tt
 each-made Q g (x ∷ xs) e = (e x, each-made Q g xs e)
 
@@ -276,7 +273,7 @@ module _ (bs : List Block) (b : ℕ) (f : Falls bs b) (inside : (k : ℕ) → Li
 
   pub past-leads : (ss : List Save) (c : ℕ) → past ss c ≡ true → LedTo bs b c
   past-leads [] c h = clash (sym h)
-  past-leads (s ∷ ss) c h = or-split (any (eqb c) (rest s)) (past ss c) h (λ q. go (step bs s b (s .variables)) refl q) (λ q. past-leads ss c q)
+  past-leads (s ∷ ss) c h = or-cases (any (eqb c) (rest s)) (past ss c) h (λ q. go (step bs s b (s .variables)) refl q) (λ q. past-leads ss c q)
     where
       go : (o : Outcome) → step bs s b (s .variables) ≡ o → any (eqb c) (beyond (λ k v. trail bs s budget k v) o) ≡ true → LedTo bs b c
       go (next k v) e q = trail-leads bs b f s budget k v (root (step-link bs s b k (s .variables) v e)) c q .leads

@@ -2,7 +2,7 @@
 use mathlib.Core.Path.{_≡_, refl, sym, ap, _∙_}
 use mathlib.Core.Bool.{Bool, true, false, cond}
 use mathlib.Core.Logic.{_≢_}
-use mathlib.Core.List.{List, [], _∷_, map}
+use mathlib.Core.List.{List, [], _∷_, map, map-map}
 use Prim.Native.Nat.{ℕ, zero, suc, _+_, _-_, min, _<_, _≤_}
 use native.Mathlib.Omega.{arith}
 use native.Mathlib.Decide.{decLe}
@@ -12,10 +12,10 @@ use borrow.Author.Tests.{eq-eqb, ne-eqb}
 use Rattle.model.specs.Save.{Save}
 use Rattle.model.specs.Script.{Block}
 use Rattle.model.specs.Run.{Outcome, next, done, halt, step, Ran, oneMore, run, runBy}
+use Rattle.model.specs.Laws.Bools.{or-no}
 use Rattle.reclaim_model.specs.Laws.Reached.{root, onward}
 use Rattle.lanes_model.specs.Falls.{Link, LedTo, Falls}
 use Rattle.lanes_model.specs.Lanes.{State, at, ended, Lane, moved, isAt, stepState, stepLane, anyAt, Walk, oneRead, walk, startLane, walkAll, ranOf}
-use Rattle.lanes_model.specs.Laws.Bools.{or-no}
 use Rattle.lanes_model.specs.Laws.Steps.{step-link, not-again}
 
 -- ---- one lane by itself
@@ -117,10 +117,6 @@ visit-is bs n ls = by (anyAt n ls) refl
 read-lanes : (x : Bool) (w : Walk) → oneRead x w .lanes ≡ w .lanes
 read-lanes true w = refl
 read-lanes false w = refl
-
-pub map-map : {A B C : Type 0} (g : B → C) (f : A → B) (xs : List A) → map g (map f xs) ≡ map (λ x. g (f x)) xs
-map-map g f [] = refl
-map-map g f (x ∷ xs) = ap (λ r. g (f x) ∷ r) (map-map g f xs)
 
 map-id : (ls : List Lane) → map (λ l. l) ls ≡ ls
 map-id [] = refl

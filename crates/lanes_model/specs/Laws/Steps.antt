@@ -1,9 +1,9 @@
 -- A step goes to a block that is linked, and is never refused for want of budget; links of a judged script are blocks; where links fall, the setup block is not reached again. Assumes nothing.
-use mathlib.Core.Path.{_≡_, refl}
+use mathlib.Core.Path.{_≡_}
 use mathlib.Core.Bool.{Bool, true, false, cond}
 use mathlib.Core.Logic.{_≢_}
 use mathlib.Core.Option.{Option, none, some}
-use mathlib.Core.List.{List, [], _∷_, List·Memᴰ, List·Memᴰ·head, List·Memᴰ·tail}
+use mathlib.Core.List.{List, [], _∷_}
 use Prim.Native.Nat.{ℕ, _<_, _≤_}
 use native.Mathlib.Omega.{arith}
 use lib.ListN.{length}
@@ -16,7 +16,7 @@ use Rattle.model.specs.Script.{Command, return, goto, setVariable, setOther, if
 use Rattle.model.specs.Run.{Outcome, next, done, halt, follow, store, orHalt, execute, enter, step, stepBy}
 use Rattle.model.specs.Laws.Sound.{SoundBlocks}
 use Rattle.reclaim_model.specs.Rename.{withLink, targets, linksOf, Every}
-use Rattle.reclaim_model.specs.Laws.Reached.{root, onward, every-at}
+use Rattle.reclaim_model.specs.Laws.Reached.{root, onward, every-at, every-of}
 use Rattle.reclaim_model.specs.Laws.Reclaimed.{links-below, sound-at}
 use Rattle.reclaim_model.specs.Laws.RenamedRun.{IsLink, drop-link, has-link}
 use Rattle.lanes_model.specs.Falls.{Link, LedTo, Falls}
@@ -63,10 +63,6 @@ module _ (K H : ℕ → Type 0) (no-next : H noNext) (met : H metOther) (s : Sav
   enters placeholder v a = met
   enters (code cs nx el) v a = executes nx (has-link K nx _ a) cs v (drop-link K el (targets cs) (drop-link K nx (withLink el (targets cs)) a))
   enters dataBlock v a = met
-
-pub every-of : (K : ℕ → Type 0) (ks : List ℕ) → ((k : ℕ) → List·Memᴰ k ks → K k) → Every K ks
-every-of K [] f = tt
-every-of K (k ∷ ks) f = (f k (List·Memᴰ·head refl), every-of K ks (λ j m. f j (List·Memᴰ·tail m)))
 
 -- a step goes to a link
 any-stop : (x : Value) → Stops (λ n. Unit {0}) x

@@ -36,6 +36,18 @@ pub and-right : (a b : Bool) → a && b ≡ true → b ≡ true
 and-right true b e = e
 and-right false b e = cc
 
+-- the parts of a conjunction of four and of five
+pub and4 : (a b c d : Bool) → a && b && c && d ≡ true → (a ≡ true) × (b ≡ true) × (c ≡ true) × (d ≡ true)
+and4 a b c d e =
+    let abc = and-left (a && b && c) d e in
+    let ab = and-left (a && b) c abc in
+    (and-left a b ab, and-right a b ab, and-right (a && b) c abc, and-right (a && b && c) d e)
+
+pub and5 : (a b c d f : Bool) → a && b && c && d && f ≡ true → (a ≡ true) × (b ≡ true) × (c ≡ true) × (d ≡ true) × (f ≡ true)
+and5 a b c d f e =
+    let r = and4 a b c d (and-left (a && b && c && d) f e) in
+    (r .0, r .1, r .2, r .3, and-right (a && b && c && d) f e)
+
 -- what a call answered, r, is b by its promise; a test of r tells b. The proofs that use these say what b is: filled in by the prover it is a large term
 pub answered : {A : Type 0} {r v : A} (b : A) → r ≡ b → r ≡ v → b ≡ v
 answered b e t = sym e ∙ t
@@ -45,6 +57,10 @@ is-true {r} b e t = answered b e (not-false r t)
 
 pub is-false : {r : Bool} (b : Bool) → r ≡ b → not r ≡ true → b ≡ false
 is-false {r} b e t = answered b e (not-true r t)
+
+pub first-alone : (n : ℕ) → n ≡ firstOf (n ∷ [])
+first-alone zero = refl
+first-alone (suc n) = refl
 
 first2 : (a b : ℕ) → firstOf (a ∷ b ∷ []) ≡ 0 → (a ≡ 0) × (b ≡ 0)
 first2 a b e =

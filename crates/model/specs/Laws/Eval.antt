@@ -1,6 +1,6 @@
 -- A compiled test is 1 or 0 as its requirement holds, or 23 where that has a flag outside the save, whatever BitAnd and BitOr make of other values than 1 and 0. Assumes nothing.
 use mathlib.Core.Path.{_≡_, refl, ap, _∙_}
-use mathlib.Core.Bool.{Bool, true, false, not, cond, _&&_, _||_, and-true, Bool·not-not}
+use mathlib.Core.Bool.{Bool, true, false, not, cond, _&&_, _||_, and-true, Bool·not-not, and-assoc}
 use mathlib.Core.Option.{Option, none, some}
 use mathlib.Core.List.{List, [], _∷_}
 use Prim.Native.Nat.{ℕ, zero, suc, _-_, _≤_}
@@ -29,10 +29,6 @@ bit : (n : ℕ) → n ≤ 1 → pos n ≡ b2z (not (isZero (pos n)))
 bit zero h = refl
 bit (suc zero) h = refl
 bit (suc (suc n)) h = absurd (omega arith)
-
-and-assoc : (a b c : Bool) → (a && b) && c ≡ a && (b && c)
-and-assoc true b c = refl
-and-assoc false b c = refl
 
 -- of two values that are 1 or 0 they make their and and or
 pub record OnBits (j : Joins) : Type 0 where

@@ -22,7 +22,8 @@ use Rattle.model.specs.Laws.Normal.{all-sorted, sorted-length}
 use Rattle.model.specs.Laws.ImageExpr.{FitsExpr}
 use Rattle.model.specs.Laws.Image.{FitsLink}
 use Rattle.model.specs.Laws.Sound.{SoundCommand, SoundCommands, SoundBlock, SoundBlocks, more-block}
-use Rattle.model.specs.Laws.FitTests.{deep-enough, SheetLow, fits-deeper, fits-two, fits-small, fits-hidden, fits-item, fits-entries, fits-acquired, fits-missing, fits-noTimer, fits-remaining, fits-temp}
+use Rattle.model.specs.Laws.FitTests.{deep-enough, fits-deeper, fits-two, fits-small, fits-hidden, fits-item, fits-entries, fits-acquired, fits-missing, fits-noTimer, fits-remaining, fits-temp}
+use Rattle.model.specs.Laws.Checked.{SheetLow}
 
 -- of the blocks right after number e: each links to lower numbers
 unfoldable pub SoundFrom : ℕ → List Block → Type 0

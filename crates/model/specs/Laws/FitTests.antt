@@ -1,28 +1,28 @@
 -- Every expression that the compiler makes fits: its ids are on the sheet, it is at most entryLimit + 5 levels deep. Assumes nothing.
 use mathlib.Core.Path.{_≡_, refl}
-use mathlib.Core.Bool.{Bool, true, false, not, cond, _&&_}
+use mathlib.Core.Bool.{Bool, true, false, cond}
 use mathlib.Core.Option.{Option, none, some}
 use mathlib.Core.List.{List, [], _∷_}
 use Prim.Native.Nat.{ℕ, zero, suc, _+_, _*_, _^_, _≤_, _<_}
 use native.Mathlib.Omega.{arith}
-use lib.Dec.{ltb, leb, eqb}
-use borrow.Author.Tests.{ltb-true, leb-true, lt-ltb}
+use lib.Dec.{ltb}
+use borrow.Author.Tests.{ltb-true, lt-ltb}
 use lib.ListN.{length}
 use lib.IntN.{ℤ, pos, negsuc}
 use mir.Syntax.{w16, w32}
-use Rattle.model.specs.Limits.{depthLimit, entryLimit, fewestItems, mostItems, mostAtcs, wide, wide16}
+use Rattle.model.specs.Limits.{depthLimit, entryLimit, wide, wide16}
 use Rattle.model.specs.Signed.{inRange}
 use Rattle.model.specs.Reading.{zig}
 use Rattle.model.specs.Expr.{Expr, two, one, imm16, imm32, other, negate, imm}
 use Rattle.model.specs.declared.Op2.{Op2}
 use Rattle.model.specs.declared.Op2.the-variants.{BitAnd}
-use Rattle.model.specs.Sheet.{Sheet, itemCount, atcFor, all, atcKnown, timersOk, sheetOk}
+use Rattle.model.specs.Sheet.{Sheet, itemCount, atcFor, all}
 use Rattle.model.specs.Requirement.{Requirement, haveItem, missingItem, haveAtc, missingAtc, haveFlag, missingFlag}
 use Rattle.model.specs.Shop.{Timer, plain, five, ten, fifteen, timerOf, reqKnown}
 use Rattle.model.specs.Compile.{itemTest, atcTest, flagTest, test, joinTests, rateOf, acquiredReq, orRate, acquiredExpr, noTimerExpr, itemExpr, tempVar, remainingExpr}
 use Rattle.model.specs.Laws.ImageExpr.{FitsExpr}
 use Rattle.model.specs.Laws.Checks.{and-left, and-right}
-use Rattle.model.specs.Laws.Checked.{and4, all-at}
+use Rattle.model.specs.Laws.Checked.{SheetLow}
 
 -- the one place where the limits of entries and of depth meet
 pub deep-enough : entryLimit + 5 ≤ depthLimit
@@ -76,34 +76,6 @@ fits-hidden d = omega arith
 
 small-32 : (n : ℕ) → 2 * n < wide16 → inRange w32 (pos n) ≡ true
 small-32 n h = lt-ltb n (2 ^ 31) (omega arith)
-
--- ---- a sheet that check 1 accepts
-
-pub record SheetLow (h : Sheet) : Type 0 where
-  pub items : itemCount h ≤ mostItems
-  pub atcs : h .atcCount ≤ mostAtcs
-  pub known : (w a : ℕ) → atcFor h w ≡ some a → ltb a (h .atcCount) ≡ true
-  pub second : ltb (h .timer10) (itemCount h) ≡ true
-  pub third : ltb (h .timer15) (itemCount h) ≡ true
-
-pub sheet-low : (h : Sheet) → sheetOk h ≡ true → SheetLow h
-unfolding sheetOk
-sheet-low h p =
-    let n = itemCount h in
-    let r = and4 (leb fewestItems n && leb n mostItems) (leb (h .atcCount) mostAtcs) (all (atcKnown (h .atcCount)) (h .atcOf)) (timersOk h) p in
-    let t₁ = ltb (h .timer5) n in
-    let t₂ = ltb (h .timer10) n && not (eqb (h .timer10) (h .timer5)) in
-    let t₃ = ltb (h .timer15) n && (not (eqb (h .timer15) (h .timer5)) && not (eqb (h .timer15) (h .timer10))) in
-    record {
-      items = leb-true n mostItems (and-right (leb fewestItems n) (leb n mostItems) (r .0));
-      atcs = leb-true (h .atcCount) mostAtcs (r .1);
-      known = λ w a q. known w a q (all-at (atcKnown (h .atcCount)) (h .atcOf) none refl (r .2) w);
-      second = and-left (ltb (h .timer10) n) _ (and-right t₁ t₂ (and-left (t₁ && t₂) t₃ (r .3)));
-      third = and-left (ltb (h .timer15) n) _ (and-right (t₁ && t₂) t₃ (r .3));
-    }
-  where
-    known : (w a : ℕ) → atcFor h w ≡ some a → atcKnown (h .atcCount) (atcFor h w) ≡ true → ltb a (h .atcCount) ≡ true
-    known w a q k = rw q at k
 
 -- ---- tests
 

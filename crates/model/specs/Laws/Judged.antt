@@ -24,8 +24,8 @@ use Rattle.model.specs.Laws.Image.{FitsLink, FitsScript, read-image, wri
 use Rattle.model.specs.Laws.Same.{same-read}
 use Rattle.model.specs.Laws.Refused.{Proper, proper-cond, proper-within, accepts}
 use Rattle.model.specs.Laws.Sound.{SoundBlock, SoundBlocks, SoundCommands, more-blocks, sound-append, sound-set, sum-append, sum-set, Held, fits-held, held-fits}
-use Rattle.model.specs.Laws.FitTests.{sheet-low}
 use Rattle.model.specs.Laws.FitBlocks.{shop-sound, length-padded}
+use Rattle.model.specs.Laws.Checked.{sheet-low}
 
 -- ---- acceptance
 

@@ -17,7 +17,7 @@ use Rattle.model.specs.Meaning.{Meaning, Means, meaningOf, orOld, tempAf
 use Rattle.model.specs.Parse.{temp}
 use Rattle.model.specs.Laws.Runs.{length-write}
 use Rattle.model.specs.Laws.SlotRuns.{here}
-use Rattle.model.specs.Laws.Writes.{setTemp, write, writes}
+use Rattle.model.specs.Laws.Writes.{setTemp, write, writes, length-temp}
 
 module _ (i : ℕ) (f : Meaning) (v : List ℤ) where
   write-other : (j : ℕ) → j ≢ 0 → j ≢ itemFirst + i → j ≢ countFirst + i → getD (write i f v) j (pos 0) ≡ getD v j (pos 0)
@@ -36,17 +36,13 @@ module _ (i : ℕ) (f : Meaning) (v : List ℤ) where
       by none = refl
       by (some z) = getD-set-same v 0 z (pos 0) l
 
-  length-temp : (o : Option ℤ) → length (setTemp o v) ≡ length v
-  length-temp none = refl
-  length-temp (some z) = length-set v 0 z
-
   write-item : i < 20 → length v ≡ 1024 → getD (write i f v) (itemFirst + i) (pos 0) ≡ f .item
   unfolding write
-  write-item p q = getD-set-other (set (setTemp (f .temp) v) (itemFirst + i) (f .item)) (countFirst + i) (itemFirst + i) (f .count) (pos 0) (omega arith) ∙ getD-set-same (setTemp (f .temp) v) (itemFirst + i) (f .item) (pos 0) (omega (arith, length-temp (f .temp)))
+  write-item p q = getD-set-other (set (setTemp (f .temp) v) (itemFirst + i) (f .item)) (countFirst + i) (itemFirst + i) (f .count) (pos 0) (omega arith) ∙ getD-set-same (setTemp (f .temp) v) (itemFirst + i) (f .item) (pos 0) (omega (arith, length-temp (f .temp) v))
 
   write-count : i < 20 → length v ≡ 1024 → getD (write i f v) (countFirst + i) (pos 0) ≡ f .count
   unfolding write
-  write-count p q = getD-set-same (set (setTemp (f .temp) v) (itemFirst + i) (f .item)) (countFirst + i) (f .count) (pos 0) (omega (arith, length-temp (f .temp), length-set (setTemp (f .temp) v) (itemFirst + i) (f .item)))
+  write-count p q = getD-set-same (set (setTemp (f .temp) v) (itemFirst + i) (f .item)) (countFirst + i) (f .count) (pos 0) (omega (arith, length-temp (f .temp) v, length-set (setTemp (f .temp) v) (itemFirst + i) (f .item)))
 
 module _ (h : Sheet) (s : Save) where
   length-writes : (i : ℕ) (xs : List Slot) (v : List ℤ) → length (writes h s i xs v) ≡ length v

@@ -24,6 +24,7 @@ use Rattle.model.specs.Laws.Checks.{and-left, and-right}
 use Rattle.model.specs.Laws.Reads.{AllOk, ItemOk, SlotOk, limitReqs, readBack, readFor, uniqueReqs}
 use Rattle.model.specs.Laws.Runs.{sameReq-true}
 use Rattle.model.specs.Laws.Sets.{Sorted, ext, insert-sorted, keep-sorted, member-insert, member-keep, same-refl, sorted-sorted}
+use Rattle.model.specs.Laws.Bools.{or-move}
 
 -- ---- what a compiled test reads as
 
@@ -35,7 +36,7 @@ value-imm z = by (inRange w16 z)
     by true = refl
     by false = refl
 
-neg-neg : (r : Requirement) → negateReq (negateReq r) ≡ r
+pub neg-neg : (r : Requirement) → negateReq (negateReq r) ≡ r
 neg-neg (haveItem i) = refl
 neg-neg (missingItem i) = refl
 neg-neg (haveAtc i) = refl
@@ -77,23 +78,17 @@ ok-neg h (missingFlag f) = refl
 
 -- ---- sets of negations
 
-or-move : (a b c : Bool) → b || (a || c) ≡ (a || b) || c
-or-move true true c = refl
-or-move true false c = refl
-or-move false true c = refl
-or-move false false c = refl
-
-extend-member : (q : Requirement) (s qs : List Requirement) → member q (extend s qs) ≡ member (negateReq q) qs || member q s
+pub extend-member : (q : Requirement) (s qs : List Requirement) → member q (extend s qs) ≡ member (negateReq q) qs || member q s
 unfolding member
 extend-member q s [] = refl
 extend-member q s (x ∷ xs) =
     extend-member q (insert (negateReq x) s) xs ∙ rw (member-insert q (negateReq x) s, same-move q x) (or-move (sameReq (negateReq q) x) (member (negateReq q) xs) (member q s))
 
-extend-sorted : (s qs : List Requirement) → Sorted s → Sorted (extend s qs)
+pub extend-sorted : (s qs : List Requirement) → Sorted s → Sorted (extend s qs)
 extend-sorted s [] k = k
 extend-sorted s (x ∷ xs) k = extend-sorted (insert (negateReq x) s) xs (insert-sorted (negateReq x) s k)
 
-settled-member : (q : Requirement) (g : List Requirement) → member q (settled g) ≡ not (member (negateReq q) g) && member q g
+pub settled-member : (q : Requirement) (g : List Requirement) → member q (settled g) ≡ not (member (negateReq q) g) && member q g
 unfolding settled
 settled-member q g = member-keep (λ r. not (member (negateReq r) g)) q g
 
@@ -102,7 +97,7 @@ back-member : (q : Requirement) (g : List Requirement) → member q (extend [] (
 unfolding member
 back-member q g = extend-member q [] (settled g) ∙ or-false _ ∙ settled-member (negateReq q) g ∙ rw (neg-neg q)
 
-settled-sorted : (g : List Requirement) → Sorted g → Sorted (settled g)
+pub settled-sorted : (g : List Requirement) → Sorted g → Sorted (settled g)
 unfolding settled
 settled-sorted g k = keep-sorted _ g k
 
@@ -248,7 +243,7 @@ unfolding sorted
 sorted-length [] = omega arith
 sorted-length (x ∷ xs) = omega (arith, insert-length x (sorted xs), sorted-length xs)
 
-keep-length : (p : Requirement → Bool) (xs : List Requirement) → length (keep p xs) ≤ length xs
+pub keep-length : (p : Requirement → Bool) (xs : List Requirement) → length (keep p xs) ≤ length xs
 keep-length p [] = omega arith
 keep-length p (x ∷ xs) = by (p x) (keep-length p xs)
   where

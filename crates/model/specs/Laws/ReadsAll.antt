@@ -3,7 +3,7 @@ use mathlib.Core.Path.{_≡_, refl, sym, ap, _∙_}
 use mathlib.Core.Bool.{Bool, true, false}
 use mathlib.Core.Option.{none}
 use mathlib.Core.List.{List, map}
-use Prim.Native.Nat.{ℕ, zero, suc, _-_, _<_}
+use Prim.Native.Nat.{ℕ, _-_, _<_}
 use native.Mathlib.Omega.{arith}
 use native.Mathlib.Nat.{zero-add}
 use lib.ListN.{getD, set, length, length-set, length-map, replicate, length-replicate}
@@ -20,6 +20,7 @@ use Rattle.model.specs.Laws.Compiled.{Linked}
 use Rattle.model.specs.Laws.Normal.{SheetOk, slots-normal, slots-ok}
 use Rattle.model.specs.Laws.Reads.{AllOk, End, Reads, Start, readBack, slots-read}
 use Rattle.model.specs.Laws.Walks.{mk}
+use Rattle.model.specs.Laws.Places.{all-one}
 
 pub record ReadSo (as-read : Slot → Slot) (xs : List Slot) (r : State) : Type 0 where
   pub answer : r .answer ≡ 0
@@ -37,17 +38,7 @@ module _ (h : Sheet) (n : ℕ) (bs : List Block) (b : ℕ) (xs : List Slot) (b-l
 
   unmarked : (j : ℕ) → getD fresh-marks j false ≡ false
   unfolding fresh-marks
-  unmarked j = falses (length bs) j
-    where
-      falses : (m j : ℕ) → getD (replicate m false) j false ≡ false
-      falses zero j = refl
-      falses (suc m) zero = refl
-      falses (suc m) (suc j) = falses m j
-
-  blanks : (m k : ℕ) → getD (replicate m emptySlot) k emptySlot ≡ emptySlot
-  blanks zero k = refl
-  blanks (suc m) zero = refl
-  blanks (suc m) (suc k) = blanks m k
+  unmarked j = all-one false (length bs) j
 
   begin : Start (link .home) root 0 empties (set fresh-marks b true)
   unfolding root empties fresh-marks
@@ -56,7 +47,7 @@ module _ (h : Sheet) (n : ℕ) (bs : List Block) (b : ℕ) (xs : List Slot) (b-l
     tiny = refl;
     fresh = λ j p q. getD-set-other fresh-marks b j true false (omega (arith, link .low)) ∙ unmarked j;
     room = omega (arith, link .inside, length-set fresh-marks b true, length-replicate (length bs) false);
-    empty = λ k p. blanks slotCount k;
+    empty = λ k p. all-one emptySlot slotCount k;
   }
 
   ended : End h bs root 0 (map (readBack h) xs) empties (set fresh-marks b true) (pos 0)

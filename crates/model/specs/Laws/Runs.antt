@@ -1,6 +1,6 @@
 -- A slot by its shape, the list of withSlots, and the run. Assumes nothing.
 use mathlib.Core.Path.{_≡_, refl, sym, ap, _∙_}
-use mathlib.Core.Bool.{Bool, true, false, not, cond, _&&_, and-true}
+use mathlib.Core.Bool.{Bool, true, false, not, cond, _&&_, and-true, true≢false}
 use mathlib.Core.Option.{Option, none, some}
 use mathlib.Core.List.{List, [], _∷_, _++_}
 use Prim.Native.Nat.{ℕ, zero, suc, _-_, _+_, _*_, _<_, _≤_}
@@ -22,11 +22,11 @@ use Rattle.model.specs.Flags.{flagAnswer, insideFor, reqInside, shopInsi
 use Rattle.model.specs.Script.{Block}
 use Rattle.model.specs.Compile.{blocksFor, enableBlocks, filledBlocks, ifBlock, lastOf, limitBlocks, noTimerExpr, slotBlocks, slotsBlocks, uniqueBlocks}
 use Rattle.model.specs.Run.{Outcome, done, halt, oneMore, runBy}
-use Rattle.model.specs.Meaning.{Meaning, acquired, allHold, filledMeaning, held, holds, isHeld, limitMeaning, meaningFor, meaningOf, noTimerHeld, uniqueMeaning}
+use Rattle.model.specs.Meaning.{Meaning, acquired, allHold, filledMeaning, held, holds, isHeld, limitMeaning, meaningFor, meaningOf, noTimerHeld, uniqueMeaning, atRate}
 use Rattle.model.specs.Laws.Checks.{and-left, and-right}
 use Rattle.model.specs.Laws.Eval.{ComesTo, OnBits, Worth, eval-acquired, eval-missing, eval-missing-and, eval-reqs, tested}
 use Rattle.model.specs.Laws.SlotRuns.{After, Fits, Goes, Reach, Stands, Steps, at, does-pair, eval-remaining, go, here, once, stock-bare, stock-hid, unique-bare, unique-hid, weaken}
-use Rattle.model.specs.Laws.Writes.{setTemp, write, writes}
+use Rattle.model.specs.Laws.Writes.{write, writes, length-temp}
 
 -- ---- sorting changes nothing about what is true of each requirement
 
@@ -120,9 +120,6 @@ inside-sorted : (o : Option ℕ) (rs : List Requirement) → insideFor o (sorted
 inside-sorted none rs = refl
 inside-sorted (some w) rs = sorted-all reqInside rs
 
-never : true ≡ false → ⊥
-never e = let z : _≡_ {A = ℕ} 0 1 = cc in omega arith
-
 module _ (bs : List Block) (h : Sheet) (s : Save) (fits : Fits s) (i e : ℕ) (v : List ℤ) (some-var : 0 < length v) where
   not-held : (w : ℕ) → isZero (held s w) ≡ not (isHeld s w)
   not-held w = let c = fits .counts w in rw (c .is) (by (c .size))
@@ -188,17 +185,17 @@ module _ (bs : List Block) (h : Sheet) (s : Save) (fits : Fits s) (i e : ℕ) (v
 
   unique-stops : (w : ℕ) (qs : List Requirement) → all reqInside qs ≡ false → After bs e (uniqueBlocks h i e w qs) → Stops (lastOf e (uniqueBlocks h i e w qs))
   unfolding uniqueBlocks
-  unique-stops w [] t a = absurd (never t)
+  unique-stops w [] t a = absurd (true≢false t)
   unique-stops w (r ∷ rs) t a =
       enable-stops w (timerOf h w) _ _ _ (λ j l. eval-missing-and s v (fits .bits) h w r rs j l ∙ ap (λ b. tested b (not (acquired h s w) && allHold s (r ∷ rs))) t) (a .1 .1 .1 .1)
 
   stock-stops : (w l : ℕ) (qs : List Requirement) → all reqInside qs ≡ false → After bs e (limitBlocks i e w l qs) → Stops (lastOf e (limitBlocks i e w l qs))
   unfolding limitBlocks
-  stock-stops w l [] t a = absurd (never t)
+  stock-stops w l [] t a = absurd (true≢false t)
   stock-stops w l (r ∷ rs) t a = stop-if _ (a .1 .1 .1 .1 .0) (λ j l. eval-reqs s v (fits .bits) r rs j l ∙ ap (λ b. tested b (allHold s (r ∷ rs))) t)
 
   opt-stops : (o : Option ℕ) (z : ℤ) (qs : List Requirement) → insideFor o qs ≡ false → After bs e (blocksFor h i e o z qs) → Stops (lastOf e (blocksFor h i e o z qs))
-  opt-stops none z qs t a = absurd (never t)
+  opt-stops none z qs t a = absurd (true≢false t)
   opt-stops (some w) z qs t a = by (leb (limitOf h w z) 1) a
     where
       by : (b : Bool) → After bs e (cond b (uniqueBlocks h i e w qs) (limitBlocks i e w (limitOf h w z) qs)) → Stops (lastOf e (cond b (uniqueBlocks h i e w qs) (limitBlocks i e w (limitOf h w z) qs)))
@@ -229,11 +226,7 @@ module _ {bs : List Block} {s : Save} where
 
 pub length-write : (i : ℕ) (f : Meaning) (v : List ℤ) → length (write i f v) ≡ length v
 unfolding write
-length-write i f v = simp length-set (temp (f .temp))
-  where
-    temp : (o : Option ℤ) → length (setTemp o v) ≡ length v
-    temp none = refl
-    temp (some z) = length-set v 0 z
+length-write i f v = simp length-set (length-temp (f .temp) v)
 
 -- a step that ends the run, answered n
 abbrev pub ending : ℕ → List ℤ → Outcome
@@ -292,3 +285,9 @@ module _ (bs : List Block) (s : Save) where
   run-alike i j p q zero here d (suc k) = rw (d .eq i p, d .eq j q, runBy)
   run-alike i j p q (suc r) here d (suc k) = rw (d .eq i p, d .eq j q, runBy)
   run-alike i j p q r (go t ts) d (suc k) = rw (t .eq i p, t .eq j q, runBy) (ap oneMore (run-alike i j p q r ts d k))
+
+-- what is not acquired at its rate
+pub rate-false : (s : Save) (o : Option ℕ) (b : Bool) → atRate s o b ≡ false → b ≡ false
+rate-false s none b e = e
+rate-false s (some r) true e = e
+rate-false s (some r) false e = refl

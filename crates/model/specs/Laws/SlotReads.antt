@@ -3,7 +3,7 @@ use mathlib.Core.Path.{_≡_, refl, _∙_}
 use mathlib.Core.Bool.{Bool, true, false}
 use mathlib.Core.Option.{Option, none, some}
 use mathlib.Core.List.{List, [], _∷_}
-use Prim.Native.Nat.{ℕ, zero, suc, _-_, _+_, _<_, _≤_}
+use Prim.Native.Nat.{ℕ, suc, _-_, _+_, _<_, _≤_}
 use native.Mathlib.Omega.{arith}
 use lib.ListN.{getD, set, length, length-set}
 use lib.Seq.{getD-set-same, getD-set-other}
@@ -21,7 +21,8 @@ use Rattle.model.specs.Parse.{State, fewEntries, join, parseRequirements
 use Rattle.model.specs.Normal.{filledSlot}
 use Rattle.model.specs.Laws.Compiled.{lastOf-is}
 use Rattle.model.specs.Laws.SlotRuns.{After, Stands, hidden-blocks}
-use Rattle.model.specs.Laws.Walks.{Walks, all-set, entered-if, entered-left, entered-pair, entered-pairEnd, entered-reset, mk, place-count, place-item, w-fork, w-go, w-seen}
+use Rattle.model.specs.Laws.Walks.{Walks, entered-if, entered-left, entered-pair, entered-pairEnd, entered-reset, mk, place-count, place-item, w-fork, w-go, w-seen}
+use Rattle.model.specs.Laws.Places.{marks-stay, all-set}
 
 -- in the parseBlock of slot i over the blocks e+1 .. : those up to hi are yet to be visited; the slot is x so far
 pub record Ctx (i e hi : ℕ) (x : Slot) (S : List Slot) (M : List Bool) : Type 0 where
@@ -46,15 +47,8 @@ rel-trans a b = record {
   long = b .long ∙ a .long;
 }
 
-mark-mono : (M : List Bool) (b j : ℕ) → getD M j false ≡ true → getD (set M b true) j false ≡ true
-mark-mono [] b j p = p
-mark-mono (m ∷ M) zero zero p = refl
-mark-mono (m ∷ M) (suc b) zero p = p
-mark-mono (m ∷ M) zero (suc j) p = p
-mark-mono (m ∷ M) (suc b) (suc j) p = mark-mono M b j p
-
 pub rel-mark : {i top b : ℕ} {S : List Slot} {M : List Bool} → b ≤ top → Rel i top S M S (set M b true)
-rel-mark {b} {M} l = record { lower = λ k p. refl; mono = mark-mono M b; above = λ j p. getD-set-other M b j true false (omega arith); long = length-set M b true }
+rel-mark {b} {M} l = record { lower = λ k p. refl; mono = marks-stay M b; above = λ j p. getD-set-other M b j true false (omega arith); long = length-set M b true }
 
 rel-set : {i top : ℕ} {S : List Slot} {M : List Bool} (y : Slot) → Rel i top S M (set S i y) M
 rel-set {i} {S} y = record { lower = λ k p. getD-set-other S i k y emptySlot (omega arith); mono = λ j p. p; above = λ j p. refl; long = refl }
@@ -129,7 +123,7 @@ module _ (home i e : ℕ) (ys : List Slot) where
   before-set {S} i-in y t b = record { ctx = ctx-set y t i-in (b .ctx); fresh = b .fresh; empty = λ k p. getD-set-other S i k y emptySlot (omega arith) ∙ b .empty k p }
 
   done-mark : {n : ℕ} {x : Slot} {S : List Slot} {M : List Bool} → Done (suc n) x S M → Done n x S (set M (suc n) true)
-  done-mark {n} {M} d = record { ctx = ctx-mark (d .ctx); seen = mark-mono M (suc n) e (d .seen); upper = d .upper }
+  done-mark {n} {M} d = record { ctx = ctx-mark (d .ctx); seen = marks-stay M (suc n) e (d .seen); upper = d .upper }
 
   done-set : {n : ℕ} {x : Slot} {S : List Slot} {M : List Bool} → i < 20 → (y : Slot) → fewEntries y ≡ true → Done n x S M → Done n y (set S i y) M
   done-set {S} i-in y t d = record { ctx = ctx-set y t i-in (d .ctx); seen = d .seen; upper = λ k p. getD-set-other S i (suc i + k) y emptySlot (omega arith) ∙ d .upper k p }
@@ -194,26 +188,33 @@ module _ (h : Sheet) (bs : List Block) (home i e : ℕ) (ys : List Slot) where
         → Before home i e ys (suc (suc (suc (suc n)))) emptySlot S M
         → Mid (suc (suc (suc (suc n)))) n (filledSlot w 1 []) k (some (negate c)) S M l
     enable-five n k c t S M l p q N D T′ U b =
-        let top : ℕ = suc (suc (suc (suc n))) in
         let b₁ = before-mark home i e ys (omega arith) b in
         let b₂ = before-mark home i e ys (omega arith) b₁ in
-        let b₃ = before-set home i e ys i-in (filledSlot w 0 []) refl (before-mark home i e ys (omega arith) b₂) in
-        let r = rest (suc n) (filledSlot w 0 []) _ _ l (omega arith) b₃ in
-        let d = done-set home i e ys i-in (filledSlot w 1 []) refl (done-mark home i e ys (r .done)) in
-        let q₁ = rel-trans (rel-mark {top = top} {b = suc (suc (suc n))} (omega arith)) (rel-trans (rel-mark {b = suc (suc n)} (omega arith)) (rel-trans (rel-set (filledSlot w 0 []))
-        (rel-trans (rel-up (omega arith) (r .rel)) (rel-trans (rel-mark {b = suc n} (omega arith)) (rel-set (filledSlot w 1 [])))))) in
-        record {
-          S₁ = set (r .S₁) i (filledSlot w 1 []);
-          M₁ = set (r .M₁) (suc n) true;
-          l₁ = r .l₁;
-          done = d;
-          rel = rel-trans (rel-mark {b = top} (omega arith)) q₁;
-          begun = q₁ .mono top (getD-set-same M top true false (b .ctx .room));
-          then = λ st f. v-if h bs i e i-in (b .ctx) (omega arith) U (omega arith) (omega arith)
-              (v-if h bs i e i-in (b₁ .ctx) (omega arith) {st′ = mk (r .S₁) (r .M₁) (r .l₁)} T′ (omega arith) (omega arith)
-              (v-pairEnd h bs i e i-in (b₂ .ctx) (omega arith) (itemExpr w) (imm16 (pos 0)) (pos w) (pos 0) (wi l) refl (filledSlot w 0 []) (rw known) refl D (omega arith) (r .walks))
-              (v-pairEnd h bs i e i-in (r .done .ctx) p (itemExpr w) (imm16 (pos 1)) (pos w) (pos 1) (wi (r .l₁)) refl (filledSlot w 1 []) refl refl N (omega arith) (w-seen (d .seen)))) f;
-        }
+        go b₁ b₂ (rest (suc n) (filledSlot w 0 []) _ _ l (omega arith) (before-set home i e ys i-in (filledSlot w 0 []) refl (before-mark home i e ys (omega arith) b₂)))
+      where
+        top : ℕ
+        top = suc (suc (suc (suc n)))
+
+        -- what is left of the slot's blocks is given: filled in it would be a large term
+        go : Before home i e ys (suc (suc (suc n))) emptySlot S (set M top true) → Before home i e ys (suc (suc n)) emptySlot S (set (set M top true) (suc (suc (suc n))) true)
+            → Rested (suc n) (filledSlot w 0 []) (set S i (filledSlot w 0 [])) (set (set (set M top true) (suc (suc (suc n))) true) (suc (suc n)) true) l
+            → Mid top n (filledSlot w 1 []) k (some (negate c)) S M l
+        go b₁ b₂ r =
+            let d = done-set home i e ys i-in (filledSlot w 1 []) refl (done-mark home i e ys (r .done)) in
+            let q₁ = rel-trans (rel-mark {top = top} {b = suc (suc (suc n))} (omega arith)) (rel-trans (rel-mark {b = suc (suc n)} (omega arith)) (rel-trans (rel-set (filledSlot w 0 []))
+            (rel-trans (rel-up (omega arith) (r .rel)) (rel-trans (rel-mark {b = suc n} (omega arith)) (rel-set (filledSlot w 1 [])))))) in
+            record {
+              S₁ = set (r .S₁) i (filledSlot w 1 []);
+              M₁ = set (r .M₁) (suc n) true;
+              l₁ = r .l₁;
+              done = d;
+              rel = rel-trans (rel-mark {b = top} (omega arith)) q₁;
+              begun = q₁ .mono top (getD-set-same M top true false (b .ctx .room));
+              then = λ st f. v-if h bs i e i-in (b .ctx) (omega arith) U (omega arith) (omega arith)
+                  (v-if h bs i e i-in (b₁ .ctx) (omega arith) {st′ = mk (r .S₁) (r .M₁) (r .l₁)} T′ (omega arith) (omega arith)
+                  (v-pairEnd h bs i e i-in (b₂ .ctx) (omega arith) (itemExpr w) (imm16 (pos 0)) (pos w) (pos 0) (wi l) refl (filledSlot w 0 []) (rw known) refl D (omega arith) (r .walks))
+                  (v-pairEnd h bs i e i-in (r .done .ctx) p (itemExpr w) (imm16 (pos 1)) (pos w) (pos 1) (wi (r .l₁)) refl (filledSlot w 1 []) refl refl N (omega arith) (w-seen (d .seen)))) f;
+            }
 
     enable-walks : (t : Timer) (n k : ℕ) (c : Expr) (S : List Slot) (M : List Bool) (l : ℤ) → e ≤ n → k ≤ suc n
         → Stands bs (suc n) (setSlotEnd e i (itemExpr w) (imm16 (pos 1))) → After bs (suc n) (enableBlocks h i e w t c k (suc n))

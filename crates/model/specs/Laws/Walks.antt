@@ -20,8 +20,8 @@ use Rattle.model.specs.Script.{Block, Command, code, endIf, ifElse, retu
 use Rattle.model.specs.Compile.{emitSet, itemExpr, tempVar}
 use Rattle.model.specs.Parse.{State, blank, countVar, fewEntries, itemVar, parseBlock, parseRequirements, placeOf, scanned, updateSlot, updateSlots, value, visited, written}
 use Rattle.model.specs.Printer.{slots}
-use Rattle.model.specs.Laws.Checks.{and-left, and-right}
 use Rattle.model.specs.Laws.SlotRuns.{Stands}
+use Rattle.model.specs.Laws.Places.{all-set}
 
 pub place-item : (i : ℕ) → i < 20 → placeOf (itemFirst + i) ≡ itemVar i
 unfolding placeOf
@@ -53,11 +53,6 @@ updates-one h rs (suc n) zero a b [] l = refl
 updates-one h rs (suc n) (suc i) a b [] l = refl
 updates-one h rs (suc n) zero a b (x ∷ xs) l = ap {B = List Slot} (λ ys. updateSlot h rs a b x ∷ ys) (updates-blank h rs n xs)
 updates-one h rs (suc n) (suc i) a b (x ∷ xs) l = ap {B = List Slot} (λ ys. x ∷ ys) (updates-one h rs n i a b xs (omega arith))
-
-pub all-set : (p : Slot → Bool) (xs : List Slot) (i : ℕ) (y : Slot) → all p xs ≡ true → p y ≡ true → all p (set xs i y) ≡ true
-all-set p [] i y a q = refl
-all-set p (x ∷ xs) zero y a q = rw q (and-right (p x) (all p xs) a)
-all-set p (x ∷ xs) (suc i) y a q = rw (and-left (p x) (all p xs) a) (all-set p xs i y (and-right (p x) (all p xs) a) q)
 
 -- a state in which nothing is refused
 abbrev pub mk : List Slot → List Bool → ℤ → State

@@ -1,8 +1,9 @@
--- What a shop means, written into the variables slot by slot. Assumes nothing: these are definitions for the laws.
+-- What a shop means, written into the variables slot by slot. Assumes nothing: these are definitions for the laws, and a length.
 use mathlib.Core.Option.{Option, none, some}
 use mathlib.Core.List.{List, [], _∷_}
+use mathlib.Core.Path.{_≡_, refl}
 use Prim.Native.Nat.{ℕ, suc, _+_}
-use lib.ListN.{set}
+use lib.ListN.{set, length, length-set}
 use lib.IntN.{ℤ}
 use Rattle.model.specs.Limits.{countFirst, itemFirst}
 use Rattle.model.specs.Save.{Save}
@@ -14,6 +15,10 @@ use Rattle.model.specs.Parse.{temp}
 abbrev pub setTemp : Option ℤ → List ℤ → List ℤ
 setTemp none v = v
 setTemp (some z) v = set v 0 z
+
+pub length-temp : (o : Option ℤ) (v : List ℤ) → length (setTemp o v) ≡ length v
+length-temp none v = refl
+length-temp (some z) v = length-set v 0 z
 
 unfoldable pub write : ℕ → Meaning → List ℤ → List ℤ
 write i f v = set (set (setTemp (f .temp) v) (itemFirst + i) (f .item)) (countFirst + i) (f .count)

@@ -8,8 +8,8 @@ use Rattle.shop.specs.Shapes.{sheetOf}
 use Rattle.shop_arrays.specs.Arrays.{Arrays, arraysIn, shopFrom}
 use Rattle.shop_arrays.specs.Slots.{shop-none}
 use Rattle.model.specs.RecordCalls.{callIn}
-use Rattle.checks.specs.Passed.{call-passed}
-use Rattle.parse.specs.Checked.{parse-refused, parse-stopped, parse-read, items-counted, atcs-counted, items-low}
+use Rattle.checks.specs.Passed.{call-passed, items-low}
+use Rattle.parse.specs.Checked.{parse-refused, parse-stopped, parse-read, items-counted, atcs-counted}
 use Rattle.parse.proofs.parse_arrays.Statement.{statement}
 use Rattle.parse.proofs.parse_arrays.Tie as tie
 

@@ -31,6 +31,11 @@ ordinal n = by (ltb n mostCompiles)
     by true e = omega arith
     by false e = omega arith
 
+-- no check behind 17 matters where it refuses
+pub then-later : (a : ℕ) (ns : List ℕ) → firstOf (a ∷ bornLater ∷ ns) ≡ firstOf (a ∷ bornLater ∷ [])
+then-later zero ns = refl
+then-later (suc a) ns = refl
+
 -- each block bears a mark
 abbrev pub Borne : BornScript → Type 0
 Borne k = length (k .births) ≡ length (k .script .blocks)
@@ -56,13 +61,9 @@ module _ (h : Sheet) (k : BornScript) (c : Call) where
   unfolding compileRefusalBorn compileChecks
   later-refused d = (
     rw (ne-eqb (birthAt k (c .setup)) 0 d)
-        (by (callRefusal h (k .script) (c .setup)) (shopRefusal h (c .shop) ∷ roomRefusal (c .loader) (k .script) (freshBlocks h (k .script) c) ∷ [])),
+        (then-later (callRefusal h (k .script) (c .setup)) (shopRefusal h (c .shop) ∷ roomRefusal (c .loader) (k .script) (freshBlocks h (k .script) c) ∷ [])),
     refused-is (λ z. d (passed-born z .born)),
   )
-    where
-      by : (a : ℕ) (ns : List ℕ) → firstOf (a ∷ bornLater ∷ ns) ≡ firstOf (a ∷ bornLater ∷ [])
-      by zero ns = refl
-      by (suc a) ns = refl
 
   -- ---- what was appended
 

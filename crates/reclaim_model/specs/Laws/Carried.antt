@@ -1,6 +1,6 @@
 -- The blocks of a compiled shop, wherever later compiles and reclaims have put them. Assumes nothing.
 use mathlib.Core.Path.{_≡_, refl, sym, ap, _∙_, subst}
-use mathlib.Core.Bool.{Bool, true, false, _&&_, _||_}
+use mathlib.Core.Bool.{Bool, true, false, _&&_, _||_, or-true}
 use mathlib.Core.Logic.{_≢_, _⊎_, inl, inr}
 use mathlib.Core.List.{List, _++_}
 use Prim.Native.Nat.{ℕ, _≤_, _<_}
@@ -21,8 +21,8 @@ use Rattle.model.specs.Laws.Checks.{and-left, and-right}
 use Rattle.model.specs.Laws.Calls.{ShopAt}
 use Rattle.model.specs.Laws.Compiled.{Linked, fresh-linked, lastOf-is}
 use Rattle.model.specs.Laws.Judged.{kept-judged}
-use Rattle.model.specs.Laws.FitTests.{SheetLow, sheet-low}
 use Rattle.model.specs.Laws.FitBlocks.{from-slots, length-padded}
+use Rattle.model.specs.Laws.Checked.{SheetLow, sheet-low}
 use Rattle.reclaim_model.specs.Changes.{BornScript, birthAt, compileRefusalBorn, appendedBorn, lives, keptOnly}
 use Rattle.reclaim_model.specs.Rename.{targets, linksOf, Every, renameBlock}
 use Rattle.reclaim_model.specs.Reclaim.{rank}
@@ -152,10 +152,6 @@ module _ (b lo hi j : ℕ) where
   in-true : In b lo hi j → isIn b lo hi j ≡ true
   in-true (inl e) = rw (eq-eqb j b e)
   in-true (inr p) = rw (le-leb lo j (p .0), le-leb j hi (p .1)) (or-true (eqb j b))
-    where
-      or-true : (t : Bool) → t || true ≡ true
-      or-true true = refl
-      or-true false = refl
 
   true-in : isIn b lo hi j ≡ true → In b lo hi j
   true-in = by (eqb j b) refl

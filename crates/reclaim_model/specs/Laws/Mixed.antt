@@ -67,21 +67,25 @@ module _ (h : Sheet) where
   pub borne-once : (k : BornScript) → Borne k → (x : Change) → Borne (changed h k x)
   borne-once k e x = by-answer h k (λ m number last. Borne m) e (λ c z. appended-borne h k c e) (λ rs z. borne-left k rs e) x
 
-  -- the shop accepted last at a block is carried there
+-- P of a block and the shop accepted last there: what a compile brings, and other compiles and reclaims keep, holds after any list
+module _ (h : Sheet) (P : BornScript → ℕ → List Slot → Type 0)
+    (fresh : (k : BornScript) (c : Call) → Borne k → compileRefusalBorn h k c ≡ 0 → P (appendedBorn h k c) (c .setup) (withSlots (c .shop)))
+    (compiles : (k : BornScript) (b : ℕ) (ys : List Slot) → Borne k → P k b ys → (c : Call) → compileRefusalBorn h k c ≡ 0 → (c .setup ≡ b → ⊥) → P (appendedBorn h k c) b ys)
+    (reclaims : (k : BornScript) (b : ℕ) (ys : List Slot) → Borne k → P k b ys → (rs : List ℕ) → getD (lives k rs) b false ≡ true → P (keptOnly (lives k rs) k) (rank (lives k rs) b) ys) where
   abbrev Standing : BornScript → ℕ → Option (List Slot) → Type 0
   Standing k b none = Unit {0}
-  Standing k b (some ys) = Carried h k b ys
+  Standing k b (some ys) = P k b ys
 
   module _ (k : BornScript) (e : Borne k) (b : ℕ) where
     standing-compile : (c : Call) → compileRefusalBorn h k c ≡ 0 → (o : Option (List Slot)) → Standing k b o
         → (t : Bool) → eqb (c .setup) b ≡ t → Standing (appendedBorn h k c) b (cond t (some (withSlots (c .shop))) o)
-    standing-compile c z o p true q = subst (λ (i : ℕ). Carried h (appendedBorn h k c) i (withSlots (c .shop))) (eqb-true (c .setup) b q) (carried-fresh h k c e z)
+    standing-compile c z o p true q = subst (λ (i : ℕ). P (appendedBorn h k c) i (withSlots (c .shop))) (eqb-true (c .setup) b q) (fresh k c e z)
     standing-compile c z none p false q = tt
-    standing-compile c z (some ys) p false q = carried-compile h k b ys e p c z (eqb-false (c .setup) b q)
+    standing-compile c z (some ys) p false q = compiles k b ys e p c z (eqb-false (c .setup) b q)
 
     standing-reclaim : (rs : List ℕ) (o : Option (List Slot)) (j : ℕ) → Standing k b o → (getD (lives k rs) b false ≡ true) × (rank (lives k rs) b ≡ j) → Standing (keptOnly (lives k rs) k) j o
     standing-reclaim rs none j p s = tt
-    standing-reclaim rs (some ys) j p s = subst (λ (i : ℕ). Carried h (keptOnly (lives k rs) k) i ys) (s .1) (carried-reclaim h k b ys e p rs (s .0))
+    standing-reclaim rs (some ys) j p s = subst (λ (i : ℕ). P (keptOnly (lives k rs) k) i ys) (s .1) (reclaims k b ys e p rs (s .0))
 
   abbrev Held : BornScript → ℕ → Option (List Slot) → Type 0
   Held k b o = Borne k × Standing k b o
@@ -96,10 +100,15 @@ module _ (h : Sheet) where
       (appended-borne h k c (p .0), standing-compile k (p .0) b c z o (p .1) (eqb (c .setup) b) refl))
       (λ rs z n. (borne-left k rs (p .0), standing-reclaim k (p .0) b rs o j (p .1) (survives (lives k rs) b j n))) x n
 
-  module _ (k : BornScript) (xs : List Change) (e : Borne k) where
-    pub carried-all : (b b′ : ℕ) (ys : List Slot) → nowAt (changes h) k xs b ≡ some b′ → lastAt (changes h) k xs b ≡ some ys → Carried h (afterAll (changes h) k xs) b′ ys
-    carried-all b b′ ys n l =
-        subst (Held (afterAll (changes h) k xs) b′) l (kept-all (changes h) (λ m x. Unit {0}) Held held-once k xs (along-any (changes h) k xs) b b′ none n (e, tt)) .1
+  pub stands-all : (k : BornScript) (xs : List Change) → Borne k → (b b′ : ℕ) (ys : List Slot) → nowAt (changes h) k xs b ≡ some b′ → lastAt (changes h) k xs b ≡ some ys → P (afterAll (changes h) k xs) b′ ys
+  stands-all k xs e b b′ ys n l =
+      subst (Held (afterAll (changes h) k xs) b′) l (kept-all (changes h) (λ m x. Unit {0}) Held held-once k xs (along-any (changes h) k xs) b b′ none n (e, tt)) .1
+
+-- the shop accepted last at a block is carried there
+pub carried-all : (h : Sheet) (k : BornScript) (xs : List Change) → Borne k → (b b′ : ℕ) (ys : List Slot) → nowAt (changes h) k xs b ≡ some b′ → lastAt (changes h) k xs b ≡ some ys
+    → Carried h (afterAll (changes h) k xs) b′ ys
+carried-all h =
+    stands-all h (Carried h) (λ k c e z. carried-fresh h k c e z) (λ k b ys e p c z ne. carried-compile h k b ys e p c z ne) (λ k b ys e p rs s. carried-reclaim h k b ys e p rs s)
 
 -- ---- marks
 

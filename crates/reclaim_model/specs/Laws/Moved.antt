@@ -9,8 +9,8 @@ use native.Mathlib.Omega.{arith}
 use lib.ListN.{getD, drop, length, replicate, length-replicate}
 use lib.Seq.{sets, sets-eq, getD-drop}
 use Rattle.model.specs.Limits.{blockLimit}
+use Rattle.model.specs.Laws.Places.{all-one}
 use Rattle.reclaim_model.specs.Reclaim.{rank, newNumber, movedWord, movedFrom, movedWords}
-use Rattle.model.specs.Laws.Marks.{all-one}
 
 -- what is stored from the start on over one value reads as it is, and that value past it
 ends-in : {A : Type 0} (d : A) (vs zs : List A) → ((b : ℕ) → getD zs b d ≡ d) → (b : ℕ) → getD (vs ++ zs) b d ≡ getD vs b d

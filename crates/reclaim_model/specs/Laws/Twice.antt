@@ -66,11 +66,11 @@ left-most (false ∷ ms) (x ∷ xs) = left-most ms xs
 
 -- ---- roots that are blocks
 
-in-map : (f : ℕ → ℕ) (k : ℕ) (ks : List ℕ) → List·Memᴰ k ks → List·Memᴰ (f k) (map f ks)
+pub in-map : (f : ℕ → ℕ) (k : ℕ) (ks : List ℕ) → List·Memᴰ k ks → List·Memᴰ (f k) (map f ks)
 in-map f k ks (List·Memᴰ·head e) = List·Memᴰ·head (ap f e)
 in-map f k ks (List·Memᴰ·tail {x} {xs} p) = List·Memᴰ·tail (in-map f k xs p)
 
-all-in : (n : ℕ) (rs : List ℕ) → all (λ r. ltb r n) rs ≡ true → (r : ℕ) → List·Memᴰ r rs → r < n
+pub all-in : (n : ℕ) (rs : List ℕ) → all (λ r. ltb r n) rs ≡ true → (r : ℕ) → List·Memᴰ r rs → r < n
 all-in n rs a r (List·Memᴰ·head {x} {xs} e) = rw e (ltb-true x n (and-left (ltb x n) _ a))
 all-in n rs a r (List·Memᴰ·tail {x} {xs} p) = all-in n xs (and-right (ltb x n) _ a) r p
 

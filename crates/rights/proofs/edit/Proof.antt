@@ -16,8 +16,9 @@ use Rattle.shop.specs.declared.SlotItem.the-variants.{Nothing}
 use Rattle.shop.proofs.All.{length-mapped}
 use Rattle.rights.specs.Values.{editOf, tableOf}
 use Rattle.rights.specs.InShops.{changedSlot}
-use Rattle.rights.specs.ShopLaws.{any-default, edited-not, edited-now}
+use Rattle.rights.specs.ShopLaws.{edited-not, edited-now}
 use borrow.Author.Needs.{needs}
+use Rattle.model.specs.Laws.Places.{any-default}
 use Rattle.rights.proofs.edit.Statement.{statement}
 use Rattle.rights.proofs.edit.Tie as tie
 

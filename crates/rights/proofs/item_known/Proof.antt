@@ -1,14 +1,10 @@
 -- `item_known` meets its contract: no entries are judged. Assumes nothing.
-use mathlib.Core.Path.{_≡_, refl, _∙_}
-use mathlib.Core.Bool.{Bool, true, false, _&&_}
+use mathlib.Core.Path.{_∙_}
+use mathlib.Core.Bool.{and-true}
 use Rattle.shop.specs.Shapes.{entries}
 use borrow.Author.Needs.{needs}
 use Rattle.rights.proofs.item_known.Statement.{statement}
 use Rattle.rights.proofs.item_known.Tie as tie
-
-and-true : (b : Bool) → b && true ≡ b
-and-true true = refl
-and-true false = refl
 
 returns : tie.Need-returns
 unfolding entries

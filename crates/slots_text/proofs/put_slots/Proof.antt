@@ -1,8 +1,7 @@
 -- `text::put_slots` meets its contract. The loop's invariant: the lines from slot i on are still to come. Assumes nothing.
-use mathlib.Core.Path.{_≡_, sym, _∙_}
-use mathlib.Core.List.{List, map}
-use Prim.Native.Nat.{ℕ, _≤_, _-_}
-use lib.ListN.{length, length-map}
+use mathlib.Core.Path.{_≡_}
+use Prim.Native.Nat.{_≤_, _-_}
+use lib.ListN.{length}
 use Rattle.model.specs.Limits.{slotCount}
 use Rattle.model.specs.Printer.{slotLines}
 use Rattle.shop.specs.Shapes.{slotsOf}
@@ -10,6 +9,7 @@ use Rattle.slots_text.specs.Written.{Part, part-of, part-as, part-on, pa
 use Rattle.slots_text.specs.Lines.{linesFrom, lines-all, lines-next, lines-end, lines-space}
 use native.Mathlib.Omega.{arith}
 use borrow.Author.Needs.{needs}
+use Rattle.shop.proofs.All.{length-mapped}
 use Rattle.slots_text.proofs.put_slots.Statement.{statement}
 use Rattle.slots_text.proofs.put_slots.Tie as tie
 
@@ -19,11 +19,8 @@ Inv-loop out₀ shop p₀ i₀ out p i = (i ≤ slotCount) × Part out₀ 0 (slo
 abbrev μ-loop : tie.MeasureT-loop
 μ-loop out₀ shop p₀ i₀ out p i = slotCount - i
 
-mapped : {X Y : Type 0} (f : X → Y) (l : List X) (n : ℕ) → length (map f l) ≡ n → length l ≡ n
-mapped f l n e = sym (length-map l f) ∙ e
-
 size : (c : tie.Start Inv-loop μ-loop) → length (c .args .t2 .slots) ≡ slotCount
-size c = search (mapped, needs)
+size c = search (length-mapped, needs)
 
 loop-holds : tie.Need-loop-holds Inv-loop μ-loop
 loop-holds c = (omega arith, part-of (lines-all (c .args .t2) (size (c))))
