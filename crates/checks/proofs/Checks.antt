@@ -43,8 +43,6 @@ pub save-is : (ks : List ℕ) (h : code.Sheet) (items : List ℤ) (atcs flags : 
 unfolding saveOk sheetOf
 save-is ks h items atcs flags times vars = rw length-map
 
--- ---- the judge's answer
-
 -- ---- the call
 
 module _ (h : Sheet) (m : Memory) (b : ℕ) where

@@ -36,8 +36,6 @@ pub imm-no : (v l n at u : ℕ) → u ≡ v → l ≤ u → No 2 ≡ immJudged v
 unfolding immJudged
 imm-no v l n at u e h = rw (← e, le-ltb u l h)
 
--- ---- the image of a node is its code before its operands' images
-
 -- ---- reading, by what the code is
 
 module _ (l : ℕ) (s : List ℕ) where

@@ -24,6 +24,7 @@ all-at p [] d e a n = e
 all-at p (x ∷ xs) d e a zero = and-left (p x) _ a
 all-at p (x ∷ xs) d e a (suc n) = all-at p xs d e (and-right (p x) _ a) n
 
+-- a sheet that check 1 accepts
 pub record SheetLow (h : Sheet) : Type 0 where
   pub items : itemCount h ≤ mostItems
   pub atcs : h .atcCount ≤ mostAtcs

@@ -1,4 +1,4 @@
--- A save that fits the sheet, part by part, and what a change of one part leaves of that. Assumes nothing.
+-- A save that fits the sheet, part by part, and back. Assumes nothing.
 use mathlib.Core.Path.{_≡_}
 use mathlib.Core.Bool.{Bool, true, _&&_}
 use mathlib.Core.List.{List}
