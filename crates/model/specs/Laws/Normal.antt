@@ -1,4 +1,4 @@
--- The normal form, and that the parseBlock reads it. Assumes nothing.
+-- The normal form, and that the walk reads it. Assumes nothing.
 use mathlib.Core.Path.{_≡_, refl, sym, ap, _∙_}
 use mathlib.Core.Bool.{Bool, true, false, not, cond, _&&_, _||_, or-false}
 use mathlib.Core.Option.{Option, none, some}

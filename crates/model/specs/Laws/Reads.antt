@@ -1,4 +1,4 @@
--- The parseBlock over the list of withSlots. Assumes nothing.
+-- The walk over the list of slots. Assumes nothing.
 use mathlib.Core.Path.{_≡_, refl, _∙_}
 use mathlib.Core.Bool.{Bool, true, false, cond}
 use mathlib.Core.Option.{Option, none, some}
@@ -31,7 +31,7 @@ use Rattle.model.specs.Laws.SlotReads.{Before, Got, Rel, Rested, empty-w
 use Rattle.model.specs.Laws.SlotRuns.{After, Stands, at}
 use Rattle.model.specs.Laws.Walks.{Walks, entered-return, mk, w-end}
 
--- ---- a slot as the parseBlock reads it: its requirements come from the condition of its hiding block
+-- ---- a slot as the walk reads it: its requirements come from the condition of its hiding block
 
 unfoldable pub uniqueReqs : Sheet → ℕ → List Requirement → List Requirement
 uniqueReqs h w [] = []
@@ -51,7 +51,7 @@ readFor h (some w) z qs = filledRead h w (limitOf h w z) qs
 unfoldable pub readBack : Sheet → Slot → Slot
 readBack h x = readFor h (x .item) (x .limit) (sorted (x .requirements))
 
--- what compileRefusal 8 leaves of an item, and that the slot read is fewEntries
+-- what refusal 8 leaves of an item, and that the slot read has few entries
 abbrev pub ItemOk : Sheet → Option ℕ → Type 0
 ItemOk h none = Unit {0}
 ItemOk h (some w) = (ltb w (length (h .atcOf)) ≡ true) × (w < half16)
@@ -106,7 +106,7 @@ module _ (h : Sheet) (bs : List Block) (home i e : ℕ) (ys : List Slot) (i-in :
 
 -- ---- the list
 
--- before and after the parseBlock of the withSlots from i on, whose root is top
+-- before and after the walk of the slots from i on, whose root is top
 pub record Start (home top i : ℕ) (S : List Slot) (M : List Bool) : Type 0 where
   pub count : length S ≡ 20
   pub tiny : all fewEntries S ≡ true
@@ -126,7 +126,7 @@ pub record End (h : Sheet) (bs : List Block) (top i : ℕ) (ys : List Slot) (S :
   pub walks : Walks h bs top none (mk S M l) (mk S₁ M₁ l₁)
 
 module _ (h : Sheet) (bs : List Block) (home : ℕ) (returns : Stands bs home returnBlock) where
-  -- the later withSlots' result, as one slot's parseBlock needs it
+  -- the later slots' result, as one slot's walk needs it
   rested : (i e : ℕ) (ys : List Slot) → ((S : List Slot) (M : List Bool) (l : ℤ) → Start home e (suc i) S M → End h bs e (suc i) ys S M l)
       → (hi : ℕ) (x : Slot) (S : List Slot) (M : List Bool) (l : ℤ) → e ≤ hi → Before home i e ys hi x S M → Rested h bs home i e ys hi x S M l
   rested i e ys f hi x S M l p b =

@@ -1,4 +1,4 @@
--- A slot by its shape, the list of withSlots, and the run. Assumes nothing.
+-- A slot by its shape, the list of slots, and the run. Assumes nothing.
 use mathlib.Core.Path.{_≡_, refl, sym, ap, _∙_}
 use mathlib.Core.Bool.{Bool, true, false, not, cond, _&&_, and-true, true≢false}
 use mathlib.Core.Option.{Option, none, some}
@@ -206,7 +206,7 @@ module _ (bs : List Block) (h : Sheet) (s : Save) (fits : Fits s) (i e : ℕ) (v
   unfolding slotBlocks slotInside
   slot-stops x t a = opt-stops (x .item) (x .limit) (sorted (x .requirements)) (inside-sorted (x .item) (x .requirements) ∙ t) a
 
--- ---- the list of withSlots
+-- ---- the list of slots
 
 pub lastOf-append : (e : ℕ) (xs ys : List Block) → lastOf e (xs ++ ys) ≡ lastOf (lastOf e xs) ys
 lastOf-append e [] ys = refl

@@ -1,4 +1,4 @@
--- The parseBlock over one slot's blocks, in falling order of their numbers, with the later withSlots walked in between. Assumes nothing.
+-- The walk over one slot's blocks, in falling order of their numbers, with the later slots walked in between. Assumes nothing.
 use mathlib.Core.Path.{_≡_, refl, _∙_}
 use mathlib.Core.Bool.{Bool, true, false}
 use mathlib.Core.Option.{Option, none, some}
@@ -24,7 +24,7 @@ use Rattle.model.specs.Laws.SlotRuns.{After, Stands, hidden-blocks}
 use Rattle.model.specs.Laws.Walks.{Walks, entered-if, entered-left, entered-pair, entered-pairEnd, entered-reset, mk, place-count, place-item, w-fork, w-go, w-seen}
 use Rattle.model.specs.Laws.Places.{marks-stay, all-set}
 
--- in the parseBlock of slot i over the blocks e+1 .. : those up to hi are yet to be visited; the slot is x so far
+-- in the walk of slot i over the blocks e+1 .. : those up to hi are yet to be visited; the slot is x so far
 pub record Ctx (i e hi : ℕ) (x : Slot) (S : List Slot) (M : List Bool) : Type 0 where
   pub count : length S ≡ 20
   pub tiny : all fewEntries S ≡ true
@@ -32,7 +32,7 @@ pub record Ctx (i e hi : ℕ) (x : Slot) (S : List Slot) (M : List Bool) : Type 
   pub unseen : (j : ℕ) → e < j → j ≤ hi → getD M j false ≡ false
   pub room : hi < length M
 
--- what a stretch of the parseBlock leaves alone: lower withSlots, marks above top; a mark stays
+-- what a stretch of the walk leaves alone: lower slots, marks above top; a mark stays
 pub record Rel (i top : ℕ) (S : List Slot) (M : List Bool) (S₁ : List Slot) (M₁ : List Bool) : Type 0 where
   pub lower : (k : ℕ) → k < i → getD S₁ k emptySlot ≡ getD S k emptySlot
   pub mono : (j : ℕ) → getD M j false ≡ true → getD M₁ j false ≡ true
@@ -98,13 +98,13 @@ module _ (h : Sheet) (bs : List Block) (i e : ℕ) (i-in : i < 20) where
         → Walks h bs m (some (join c (negate (two Less tempVar (imm16 (pos 0)))))) st′ st″ → Walks h bs (suc n) c (mk S M l) st″
     v-left {q} {w} {m} s p vi cu a b = w-fork (k .unseen (suc n) (omega arith) (omega arith)) s (omega arith) (omega arith) (rw (entered-left h (suc n) c S M l (k .tiny) q w m vi cu) a) b
 
--- ---- one slot, over what the later withSlots do
+-- ---- one slot, over what the later slots do
 
 rel-up : {i top top′ : ℕ} {S S₁ : List Slot} {M M₁ : List Bool} → top ≤ top′ → Rel i top S M S₁ M₁ → Rel i top′ S M S₁ M₁
 rel-up p r = record { lower = r .lower; mono = r .mono; above = λ j q. r .above j (omega arith); long = r .long }
 
 module _ (home i e : ℕ) (ys : List Slot) where
-  -- before the later withSlots are walked
+  -- before the later slots are walked
   pub record Before (hi : ℕ) (x : Slot) (S : List Slot) (M : List Bool) : Type 0 where
     pub ctx : Ctx i e hi x S M
     pub fresh : (j : ℕ) → home ≤ j → j ≤ e → getD M j false ≡ false
@@ -137,7 +137,7 @@ module _ (h : Sheet) (bs : List Block) (home i e : ℕ) (ys : List Slot) where
     pub rel : Rel i e S M S₁ M₁
     pub walks : Walks h bs e none (mk S M l) (mk S₁ M₁ l₁)
 
-  -- walked from top on, the slot is y and its blocks above n are visited; what goes on from block k completes the parseBlock
+  -- walked from top on, the slot is y and its blocks above n are visited; what goes on from block k completes the walk
   pub record Mid (top n : ℕ) (y : Slot) (k : ℕ) (c : Option Expr) (S : List Slot) (M : List Bool) (l : ℤ) : Type 0 where
     pub S₁ : List Slot
     pub M₁ : List Bool
@@ -147,7 +147,7 @@ module _ (h : Sheet) (bs : List Block) (home i e : ℕ) (ys : List Slot) where
     pub begun : getD M₁ top false ≡ true
     pub then : (st : State) → Walks h bs k c (mk S₁ M₁ l₁) st → Walks h bs top none (mk S M l) st
 
-  -- the parseBlock from top is over; the slot's blocks above n are visited
+  -- the walk from top is over; the slot's blocks above n are visited
   pub record Got (top : ℕ) (c : Option Expr) (n : ℕ) (y : Slot) (S : List Slot) (M : List Bool) (l : ℤ) : Type 0 where
     pub S₁ : List Slot
     pub M₁ : List Bool

@@ -1,4 +1,4 @@
--- The parser's parseBlock over a slot's blocks. Assumes nothing.
+-- The parser's walk over a slot's blocks. Assumes nothing.
 use mathlib.Core.Path.{_≡_, refl, ap, _∙_}
 use mathlib.Core.Bool.{Bool, true, false}
 use mathlib.Core.Option.{Option, none, some}
@@ -58,7 +58,7 @@ updates-one h rs (suc n) (suc i) a b (x ∷ xs) l = ap {B = List Slot} (λ ys. x
 abbrev pub mk : List Slot → List Bool → ℤ → State
 mk S M l = record { slots = S; marks = M; current = l; answer = 0 }
 
--- with enough depth, the parseBlock from b leads from st to st′
+-- with enough depth, the walk from b leads from st to st′
 pub record Walks (h : Sheet) (bs : List Block) (b : ℕ) (c : Option Expr) (st st′ : State) : Type 0 where
   pub eq : (f : ℕ) → b < f → parseBlock h bs f b c st ≡ st′
 
