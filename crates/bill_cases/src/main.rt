@@ -15,7 +15,11 @@ use case_lines::numbers;
 use case_lines::tell;
 use case_lines::total;
 use case_lines::wide8;
+use model::FLAGS;
 use model::ItemId;
+use model::TIMES;
+use model::VARIABLES;
+use model::Variables;
 use shop::COUNT_FIRST;
 use shop::ITEM_FIRST;
 use shop::SLOTS;
@@ -68,7 +72,7 @@ fn done(line: &[u8], a: &mut Words, t: &mut Answer, tally: Tally) -> Tally {
 
 // Every other slot has item 7, of which none is taken.
 fn asked(kind: u8, a: &Words, t: &mut Answer) {
-    let mut vars: [i32; 1024] = [7; 1024];
+    let mut vars: Variables = [7; VARIABLES];
     let mut basket: [i32; SLOTS] = [0; SLOTS];
     put_slot(a, 0, &mut vars, &mut basket);
     put_slot(a, 1, &mut vars, &mut basket);
@@ -77,7 +81,7 @@ fn asked(kind: u8, a: &Words, t: &mut Answer) {
     made(kind, a, &vars, &basket, t);
 }
 
-fn put_slot(a: &Words, i: usize, vars: &mut [i32; 1024], basket: &mut [i32; SLOTS]) {
+fn put_slot(a: &Words, i: usize, vars: &mut Variables, basket: &mut [i32; SLOTS]) {
     if TOLD <= i {
         return;
     }
@@ -90,7 +94,7 @@ fn put_slot(a: &Words, i: usize, vars: &mut [i32; 1024], basket: &mut [i32; SLOT
 }
 
 // The arrays hold 9 everywhere before: a refused bill leaves them.
-fn made(kind: u8, a: &Words, vars: &[i32; 1024], basket: &[i32; SLOTS], t: &mut Answer) {
+fn made(kind: u8, a: &Words, vars: &Variables, basket: &[i32; SLOTS], t: &mut Answer) {
     let n = low8(a[3]) as usize;
     if 9 < n {
         return;
@@ -118,7 +122,7 @@ fn made(kind: u8, a: &Words, vars: &[i32; 1024], basket: &[i32; SLOTS], t: &mut 
 // Eight items, of which 0 to 2 are the timers, and one atc that none has.
 fn bill_by(
     a: &Words,
-    vars: &[i32; 1024],
+    vars: &Variables,
     prices: &[u16],
     basket: &[i32; SLOTS],
     ids: &mut [i32; SLOTS],
@@ -134,8 +138,8 @@ fn bill_by(
     };
     let items: [i16; 8] = [0; 8];
     let atcs: [u8; 1] = [0; 1];
-    let flags: [u8; 2048] = [low8(a[2]); 2048];
-    let times: [i16; 8] = [0; 8];
+    let flags: [u8; FLAGS] = [low8(a[2]); FLAGS];
+    let times: [i16; TIMES] = [0; TIMES];
     bill(
         &attached,
         sheet,

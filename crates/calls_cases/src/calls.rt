@@ -27,8 +27,12 @@ use memory::Counts;
 use memory::NodeWords;
 use memory::Values;
 use model::BlockNo;
+use model::FLAGS;
 use model::ItemId;
 use model::Loader;
+use model::TIMES;
+use model::VARIABLES;
+use model::Variables;
 use parse::ParsedShop;
 use parse::parse;
 use preview::Previewed;
@@ -355,14 +359,14 @@ pub fn ran(
     let mut items: [i16; 16] = [0; 16];
     items[7] = signed16(a[9]);
     items[1] = signed16(a[10]);
-    let mut flags: [u8; 2048] = [0; 2048];
+    let mut flags: [u8; FLAGS] = [0; FLAGS];
     set_flag(&mut flags, a[11]);
     meet(a, ws, val, cw, bw, kept, &items, low8(a[13]), &flags, t);
 }
 
-fn set_flag(flags: &mut [u8; 2048], flag: u32) {
+fn set_flag(flags: &mut [u8; FLAGS], flag: u32) {
     let i = flag as usize;
-    if i < 2048 {
+    if i < FLAGS {
         flags[i] = 1;
     }
 }
@@ -376,23 +380,23 @@ fn meet(
     kept: Counts,
     items: &[i16],
     count: u8,
-    flags: &[u8; 2048],
+    flags: &[u8; FLAGS],
     t: &mut Answer,
 ) {
     let n = count as usize;
     if items.len() < n {
         return;
     }
-    let mut vars: [i32; 1024] = [9; 1024];
+    let mut vars: Variables = [9; VARIABLES];
     let p = preview_by(shop_of(a), &items[0..n], flags, &vars);
     let r = run_by(a, ws, val, cw, bw, kept, &items[0..n], flags, &mut vars);
     tell_ran(r, &vars, p, t);
 }
 
-fn preview_by(shop: Shop, items: &[i16], flags: &[u8; 2048], vars: &[i32; 1024]) -> Previewed {
+fn preview_by(shop: Shop, items: &[i16], flags: &[u8; FLAGS], vars: &Variables) -> Previewed {
     let entries = attached();
     let atcs: [u8; 1] = [0; 1];
-    let times: [i16; 8] = [0; 8];
+    let times: [i16; TIMES] = [0; TIMES];
     preview(
         &entries,
         sheet_with(1),
@@ -413,12 +417,12 @@ fn run_by(
     bw: &BlockWords,
     kept: Counts,
     items: &[i16],
-    flags: &[u8; 2048],
-    vars: &mut [i32; 1024],
+    flags: &[u8; FLAGS],
+    vars: &mut Variables,
 ) -> Ran {
     let entries = attached();
     let atcs: [u8; 1] = [0; 1];
-    let times: [i16; 8] = [0; 8];
+    let times: [i16; TIMES] = [0; TIMES];
     run(
         &entries,
         sheet_with(1),
@@ -438,7 +442,7 @@ fn run_by(
 }
 
 // Blocks entered, the pair of slot 0, variable 5, and what the preview says.
-fn tell_ran(r: Ran, vars: &[i32; 1024], p: Previewed, t: &mut Answer) {
+fn tell_ran(r: Ran, vars: &Variables, p: Previewed, t: &mut Answer) {
     t[0] = r.refusal as u32;
     t[1] = r.entered;
     t[2] = ints::to_bits(vars[ITEM_FIRST]);
@@ -449,7 +453,7 @@ fn tell_ran(r: Ran, vars: &[i32; 1024], p: Previewed, t: &mut Answer) {
 }
 
 // All pairs and variable 0.
-fn agrees(vars: &[i32; 1024], p: Previewed) -> bool {
+fn agrees(vars: &Variables, p: Previewed) -> bool {
     if p.refusal != 0 {
         return false;
     }
@@ -462,7 +466,7 @@ fn agrees(vars: &[i32; 1024], p: Previewed) -> bool {
 }
 
 // Whether the twenty variables from first on are xs.
-fn hold(vars: &[i32; 1024], first: usize, xs: &[i32; SLOTS]) -> bool {
+fn hold(vars: &Variables, first: usize, xs: &[i32; SLOTS]) -> bool {
     if 1000 < first {
         return false;
     }

@@ -12,6 +12,7 @@ use mir.Syntax.{w16, w32}
 use mir.Val.{SFits}
 use lib.ListN.{length, length-map}
 use borrow.Author.Tests.{ltb-true, le-leb}
+use Rattle.model.specs.Limits.{flagCount, timeCount, variableCount}
 use Rattle.model.specs.Refusal.{firstOf}
 use Rattle.model.specs.Signed.{inRange}
 use Rattle.model.specs.Sheet.{Sheet, sheetOk, saveOk, all, isCount, isBit}
@@ -37,9 +38,9 @@ pub save-is : (ks : List ℕ) (h : code.Sheet) (items : List ℤ) (atcs flags : 
     → saveOk (sheetOf ks h) (saveOf items atcs flags times vars)
     ≡ ((eqb (length items) (length ks) && all isCount items)
     && (eqb (length atcs) (h .atcs) && all isBit atcs)
-    && (eqb (length flags) 2048 && all isBit flags)
-    && (eqb (length times) 8 && all (inRange w16) times)
-    && (eqb (length vars) 1024 && all (inRange w32) vars))
+    && (eqb (length flags) flagCount && all isBit flags)
+    && (eqb (length times) timeCount && all (inRange w16) times)
+    && (eqb (length vars) variableCount && all (inRange w32) vars))
 unfolding saveOk sheetOf
 save-is ks h items atcs flags times vars = rw length-map
 

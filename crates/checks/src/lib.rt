@@ -21,6 +21,9 @@ use memory::Counts;
 use memory::NodeWords;
 use memory::Values;
 use model::BlockNo;
+use model::FLAGS;
+use model::TIMES;
+use model::VARIABLES;
 use shop::Sheet;
 use shop::check_sheet;
 
@@ -101,7 +104,7 @@ pub fn check_save(
     if !bits_ok(atcs) {
         return false;
     }
-    if flags.len() != 2048 {
+    if flags.len() != FLAGS {
         return false;
     }
     if !bits_ok(flags) {
@@ -109,7 +112,7 @@ pub fn check_save(
     }
     shorts_known(times);
     numbers_known(vars);
-    times.len() == 8 && vars.len() == 1024
+    times.len() == TIMES && vars.len() == VARIABLES
 }
 
 // Checks 6 and 7.

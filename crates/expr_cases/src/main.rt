@@ -33,6 +33,7 @@ use memory::push_node;
 use model::Kind;
 use model::Op1;
 use model::Op2;
+use model::VARIABLES;
 
 fn main() {
     let mut input: [u8; 4096] = [0; 4096];
@@ -123,7 +124,7 @@ fn evaluated(a: &Words, ws: &NodeWords, val: &Values, t: &mut Answer) {
     let atcs = [low8(a[3]); 1];
     let flags = [low8(a[4]); 1];
     let times = [signed16(a[5]); 1];
-    let vars = [ints::from_bits(a[6]); 1024];
+    let vars = [ints::from_bits(a[6]); VARIABLES];
     let v = evaluate(ws, val, i + 1, i, &items, &atcs, &flags, &times, &vars);
     told(v, t);
 }

@@ -7,6 +7,7 @@ ghost use mir.Syntax.{w16, w32};
 ghost use mir.Val.{toZ, ofZ};
 ghost use Rattle.model.specs.Save.{flagInside};
 ghost use Rattle.model.specs.Signed.{wrap32, and32, or32, cut16, b2z, clamp};
+use model::FLAGS;
 use model::HALF16;
 use model::WIDE16;
 
@@ -128,5 +129,5 @@ pub fn is_flag(x: i32) -> bool
     if x < 0 {
         return false;
     }
-    x < 2048
+    x < FLAGS as i32
 }

@@ -26,6 +26,8 @@ use memory::NODE_WORDS;
 use memory::NODES;
 use memory::NodeWords;
 use memory::Values;
+use model::FLAGS;
+use model::VARIABLES;
 
 fn main() {
     let mut input: [u8; 8192] = [0; 8192];
@@ -251,8 +253,8 @@ fn walk(
 ) -> Walked {
     let times: [i16; 520] = [0; 520];
     let few = 8 * saves as usize;
-    let long = 2048 * saves as usize;
-    let many = 1024 * saves as usize;
+    let long = FLAGS * saves as usize;
+    let many = VARIABLES * saves as usize;
     if items.len() < few || 520 < few {
         return too_many();
     }

@@ -5,7 +5,7 @@ use mathlib.Core.List.{List, [], _∷_, _++_}
 use Prim.Native.Nat.{ℕ, zero, suc, _+_}
 use lib.ListN.{getD, set, length, replicate}
 use lib.IntN.{ℤ, pos, negsuc}
-use Rattle.model.specs.Limits.{itemFirst, countFirst}
+use Rattle.model.specs.Limits.{itemFirst, countFirst, flagCount, variableCount}
 use Rattle.model.specs.Signed.{wrap, bitsOf}
 use Rattle.model.specs.Save.{Save}
 use Rattle.model.specs.Expr.{one, imm, imm16, imm32, size}
@@ -44,9 +44,9 @@ pub saved : ℕ → ℤ → ℕ → ℕ → ℤ → Save
 saved w n f b t = record {
   items = set (replicate 16 (pos 0)) w n;
   atcs = 0 ∷ [];
-  flags = set (replicate 2048 0) f b;
+  flags = set (replicate flagCount 0) f b;
   times = set (replicate 8 (pos 0)) 2 t;
-  variables = replicate 1024 (pos 0);
+  variables = replicate variableCount (pos 0);
 }
 
 -- the answer, the slot's pair and the blocks entered

@@ -7,6 +7,15 @@ pub const HALF16: u16 = 32768;
 
 pub const LEAST16: i32 = -32768;
 
+// The flags, times and variables of a save (01, Save).
+pub const FLAGS: usize = 2048;
+
+pub const TIMES: usize = 8;
+
+pub const VARIABLES: usize = 1024;
+
+pub type Variables = [i32; VARIABLES];
+
 // The bytes that the program slots reads, a stage (01, Program slots).
 pub const INPUT: usize = 65536;
 

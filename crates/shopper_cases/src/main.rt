@@ -16,7 +16,11 @@ use case_lines::signed16;
 use case_lines::tell;
 use case_lines::total;
 use case_lines::wide8;
+use model::FLAGS;
 use model::ItemId;
+use model::TIMES;
+use model::VARIABLES;
+use model::Variables;
 use shop::CODES;
 use shop::ENTRIES;
 use shop::SLOTS;
@@ -139,9 +143,9 @@ fn with_save(
     let mut attached: [u8; 8] = [0; 8];
     attached[4] = 1;
     let limits: [i16; SLOTS] = [signed16(a[3]); SLOTS];
-    let flags: [u8; 2048] = [low8(a[6]); 2048];
-    let times: [i16; 8] = [0; 8];
-    let mut vars: [i32; 1024] = [0; 1024];
+    let flags: [u8; FLAGS] = [low8(a[6]); FLAGS];
+    let times: [i16; TIMES] = [0; TIMES];
+    let mut vars: Variables = [0; VARIABLES];
     let prices: [u16; 8] = [low16(a[7]); 8];
     shopping(
         &attached,

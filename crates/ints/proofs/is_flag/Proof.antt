@@ -8,6 +8,7 @@ use mathlib.Core.Path.{subst}
 use mir.Facts.{toZ-ofZ}
 use native.Mathlib.Omega.{arith}
 use borrow.Author.Tests.{ltb-true}
+use borrow.Author.Needs.{needs}
 use Rattle.model.specs.Save.{flagInside}
 use Rattle.ints.proofs.is_flag.Statement.{statement}
 use Rattle.ints.proofs.is_flag.Tie as tie
@@ -27,4 +28,4 @@ returns-2 : tie.Need-returns-2
 returns-2 c = rw (toZ-ofZ (c .before .fits .x)) (natural (c .before .args .x) (rw (toZ-ofZ (c .before .fits .x)) at (c .if1 .left)))
 
 pub is-flag-spec : {M : Type 1} → statement M
-is-flag-spec = tie.close (tie.spec returns returns-2)
+is-flag-spec = tie.close (tie.spec returns (λ c. search needs) returns-2)

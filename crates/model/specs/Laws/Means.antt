@@ -9,7 +9,7 @@ use native.Mathlib.Nat.{add-zero}
 use lib.ListN.{getD, set, length, length-set}
 use lib.Seq.{getD-set-same, getD-set-other}
 use lib.IntN.{ℤ, pos}
-use Rattle.model.specs.Limits.{countFirst, itemFirst}
+use Rattle.model.specs.Limits.{countFirst, itemFirst, variableCount}
 use Rattle.model.specs.Save.{Save}
 use Rattle.model.specs.Sheet.{Sheet}
 use Rattle.model.specs.Shop.{Slot, emptySlot}
@@ -36,11 +36,11 @@ module _ (i : ℕ) (f : Meaning) (v : List ℤ) where
       by none = refl
       by (some z) = getD-set-same v 0 z (pos 0) l
 
-  write-item : i < 20 → length v ≡ 1024 → getD (write i f v) (itemFirst + i) (pos 0) ≡ f .item
+  write-item : i < 20 → length v ≡ variableCount → getD (write i f v) (itemFirst + i) (pos 0) ≡ f .item
   unfolding write
   write-item p q = getD-set-other (set (setTemp (f .temp) v) (itemFirst + i) (f .item)) (countFirst + i) (itemFirst + i) (f .count) (pos 0) (omega arith) ∙ getD-set-same (setTemp (f .temp) v) (itemFirst + i) (f .item) (pos 0) (omega (arith, length-temp (f .temp) v))
 
-  write-count : i < 20 → length v ≡ 1024 → getD (write i f v) (countFirst + i) (pos 0) ≡ f .count
+  write-count : i < 20 → length v ≡ variableCount → getD (write i f v) (countFirst + i) (pos 0) ≡ f .count
   unfolding write
   write-count p q = getD-set-same (set (setTemp (f .temp) v) (itemFirst + i) (f .item)) (countFirst + i) (f .count) (pos 0) (omega (arith, length-temp (f .temp) v, length-set (setTemp (f .temp) v) (itemFirst + i) (f .item)))
 
@@ -64,7 +64,7 @@ module _ (h : Sheet) (s : Save) where
   writes-first i [] v l = refl
   writes-first i (x ∷ xs) v l = writes-first (suc i) xs (write i (meaningOf h s x) v) (omega (arith, length-write i (meaningOf h s x) v)) ∙ ap (tempAfter h s xs) (write-first i (meaningOf h s x) v l)
 
-  writes-item : (i : ℕ) (xs : List Slot) (v : List ℤ) (k : ℕ) → k < length xs → i + length xs ≤ 20 → length v ≡ 1024 → getD (writes h s i xs v) (itemFirst + (i + k)) (pos 0) ≡ meaningOf h s (getD xs k emptySlot) .item
+  writes-item : (i : ℕ) (xs : List Slot) (v : List ℤ) (k : ℕ) → k < length xs → i + length xs ≤ 20 → length v ≡ variableCount → getD (writes h s i xs v) (itemFirst + (i + k)) (pos 0) ≡ meaningOf h s (getD xs k emptySlot) .item
   unfolding writes
   writes-item i [] v k p q l = absurd (omega arith)
   writes-item i (x ∷ xs) v zero p q l =
@@ -72,7 +72,7 @@ module _ (h : Sheet) (s : Save) where
   writes-item i (x ∷ xs) v (suc k) p q l =
       let z : itemFirst + (i + suc k) ≡ itemFirst + (suc i + k) = omega arith in rw z (writes-item (suc i) xs (write i (meaningOf h s x) v) k (omega arith) (omega arith) (length-write i (meaningOf h s x) v ∙ l))
 
-  writes-count : (i : ℕ) (xs : List Slot) (v : List ℤ) (k : ℕ) → k < length xs → i + length xs ≤ 20 → length v ≡ 1024 → getD (writes h s i xs v) (countFirst + (i + k)) (pos 0) ≡ meaningOf h s (getD xs k emptySlot) .count
+  writes-count : (i : ℕ) (xs : List Slot) (v : List ℤ) (k : ℕ) → k < length xs → i + length xs ≤ 20 → length v ≡ variableCount → getD (writes h s i xs v) (countFirst + (i + k)) (pos 0) ≡ meaningOf h s (getD xs k emptySlot) .count
   unfolding writes
   writes-count i [] v k p q l = absurd (omega arith)
   writes-count i (x ∷ xs) v zero p q l =
@@ -80,7 +80,7 @@ module _ (h : Sheet) (s : Save) where
   writes-count i (x ∷ xs) v (suc k) p q l =
       let z : countFirst + (i + suc k) ≡ countFirst + (suc i + k) = omega arith in rw z (writes-count (suc i) xs (write i (meaningOf h s x) v) k (omega arith) (omega arith) (length-write i (meaningOf h s x) v ∙ l))
 
-  pub writes-means : (xs : List Slot) (v : List ℤ) → length xs ≤ 20 → length v ≡ 1024 → Means h s xs v (writes h s 0 xs v)
+  pub writes-means : (xs : List Slot) (v : List ℤ) → length xs ≤ 20 → length v ≡ variableCount → Means h s xs v (writes h s 0 xs v)
   writes-means xs v p l = record {
     items = λ i q. let z : itemFirst + i ≡ itemFirst + (0 + i) = omega arith in rw z (writes-item 0 xs v i q (omega arith) l);
     counts = λ i q. let z : countFirst + i ≡ countFirst + (0 + i) = omega arith in rw z (writes-count 0 xs v i q (omega arith) l);

@@ -1,6 +1,8 @@
 -- `keep_survivors` meets its contract: the marks are what the roots reach, the packed record is judged, and its blocks are the survivors. Assumes nothing.
 use lib.ListN.{length-replicate}
 use Rattle.model.specs.Limits.{blockLimit, commandLimit, nodeLimit}
+use Rattle.model.specs.Memory.{Memory}
+use Rattle.memory.specs.View.{memoryOf}
 use Rattle.image_write.specs.Lengths.{mostBytes}
 use Rattle.reclaim_reach.specs.Roots.{roots-inside}
 use Rattle.reclaim.specs.Laws.{words-safe, kept-low, packed-fine, kept-only}
@@ -10,6 +12,10 @@ use native.Mathlib.Omega.{arith}
 use borrow.Author.Needs.{needs}
 use Rattle.reclaim.proofs.keep_survivors.Statement.{statement}
 use Rattle.reclaim.proofs.keep_survivors.Tie as tie
+
+-- the record after the call
+abbrev kept : tie.After-through-image → Memory
+kept c = memoryOf (c .through-image .last .0) (c .through-image .last .1 .0) (c .through-image .last .1 .1 .0) (c .through-image .last .1 .1 .1 .0) (c .through-image .result)
 
 reach-roots-requires : tie.Need-reach-roots-requires
 reach-roots-requires c κs =
@@ -29,7 +35,7 @@ through-image-requires c κs =
 returns : tie.Need-returns
 returns c =
     let s = c .before .before .before .before .before .before .before .before .before .before .before .before .before .before .before .before .before .before .before .before .before .before .before .before in
-    kept-only (s .args .ws .now) (s .args .val .now) (s .args .cw .now) (s .args .bw .now) (s .args .counts) (s .pre .0) _ _ _ (c .before .before .before .before .before .before .before .before .before .before .before .before .before .before .before .before .reach-roots .ensures) _ _ _ _ _ (c .before .before .before .before .before .before .before .before .before .pack-marked .ensures) _ (c .before .through-image .ensures)
+    kept-only (s .args .ws .now) (s .args .val .now) (s .args .cw .now) (s .args .bw .now) (s .args .counts) (s .pre .0) _ _ _ (c .before .before .before .before .before .before .before .before .before .before .before .before .before .before .before .before .reach-roots .ensures) _ _ _ _ _ (c .before .before .before .before .before .before .before .before .before .pack-marked .ensures) (kept (c .before)) (c .before .through-image .ensures)
 
 pub keep-survivors-spec : {M : Type 1} → statement M
 keep-survivors-spec =

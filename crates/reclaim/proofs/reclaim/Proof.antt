@@ -11,7 +11,7 @@ use borrow.Author.Needs.{needs}
 use Rattle.reclaim.proofs.reclaim.Statement.{statement}
 use Rattle.reclaim.proofs.reclaim.Tie as tie
 
--- what the call was given
+-- what the call was given, and the record after it
 abbrev roots : tie.Start → Bool
 roots s = rootsOk (s .args .counts .blocks) (s .args .roots .now)
 
@@ -20,6 +20,9 @@ given s = memoryOf (s .args .ws .now) (s .args .val .now) (s .args .cw .now) (s 
 
 abbrev born : tie.Start → ℕ → Born
 born s n = bornOf (s .args .ws .now) (s .args .val .now) (s .args .cw .now) (s .args .bw .now) (s .args .counts) (s .args .births .now) n
+
+abbrev kept : tie.After-keep-survivors → Memory
+kept c = memoryOf (c .keep-survivors .last .0) (c .keep-survivors .last .1 .0) (c .keep-survivors .last .1 .1 .0) (c .keep-survivors .last .1 .1 .1 .0) (c .keep-survivors .result)
 
 returns : tie.Need-returns
 returns c = let s = c .before .before .before in λ n. answer-roots _ _ _ (is-false (roots s) (c .before .roots-ok .ensures) (c .if1 .taken))
@@ -40,7 +43,7 @@ returns-3 c =
     let k = c .keep-survivors .ensures in
     λ n. answer-kept (born s n) (s .args .roots .now) _
     (is-true (roots s) (c .before .before .before .before .before .before .before .before .before .before .before .before .before .before .roots-ok .ensures) (c .before .before .before .before .before .before .before .before .before .before .before .before .before .if1 .left))
-    (answered (recordRefusal (given s)) (c .before .before .before .before .before .before .before .before .check-record .ensures) (c .before .before .before .before .before .before .before .if2 .left)) _ _ (kept-born _ _ _ _ (s .args .counts) _ (s .args .roots .now) _ _ _ k n) (k .tells)
+    (answered (recordRefusal (given s)) (c .before .before .before .before .before .before .before .before .check-record .ensures) (c .before .before .before .before .before .before .before .if2 .left)) _ _ (kept-born _ _ _ _ (s .args .counts) _ (s .args .roots .now) (kept c) _ _ k n) (k .tells)
 
 pub reclaim-spec : {M : Type 1} → statement M
 reclaim-spec =
