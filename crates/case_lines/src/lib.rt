@@ -3,9 +3,12 @@
 // A case is a letter, numbers, what must be answered, a colon and its name: `C 7 3 = 0 26:name`. A line without `=` is no case.
 ghost use Prim.Native.Nat.{_≤_, _<_};
 ghost use lib.ListN.{length};
+use model::WIDE;
 use model::WIDE16;
 use shop::ENTRIES;
 use shop::Row;
+use shop_codes::KIND;
+use shop_codes::ZERO;
 
 // How many numbers an answer has, and the words of a line: its numbers stand from 1 on, those of its answer from SAID + 1 on; at 0 is how many
 // stand before the answer, and at SAID is 1 where there is one.
@@ -14,8 +17,6 @@ pub const ANSWER: usize = 16;
 pub const SAID: usize = 200;
 
 pub const WORDS: usize = 224;
-
-const WIDE: u32 = WIDE16 as u32;
 
 pub type Answer = [u32; ANSWER];
 
@@ -108,12 +109,12 @@ fn value(b: u8) -> u8 {
 // The number with one more digit, by its 32 bits.
 fn longer(x: u32, hex: bool, minus: bool, v: u8) -> u32 {
     if hex {
-        return ((x as u64 * 16 + v as u64) % 4294967296) as u32;
+        return ((x as u64 * 16 + v as u64) % WIDE) as u32;
     }
     if minus {
-        return ((x as u64 * 10 + (4294967296 - v as u64)) % 4294967296) as u32;
+        return ((x as u64 * 10 + (WIDE - v as u64)) % WIDE) as u32;
     }
-    ((x as u64 * 10 + v as u64) % 4294967296) as u32
+    ((x as u64 * 10 + v as u64) % WIDE) as u32
 }
 
 // The letter of a line; an empty line has none.
@@ -131,7 +132,7 @@ pub fn low8(x: u32) -> u8 {
 }
 
 pub fn low16(x: u32) -> u16 {
-    (x % WIDE) as u16
+    (x as u64 % WIDE16) as u16
 }
 
 pub fn signed16(x: u32) -> i16 {
@@ -140,7 +141,7 @@ pub fn signed16(x: u32) -> i16 {
 
 // A requirement's code: its kind times 2^32, plus 2^31, plus its number, which can be below 0.
 pub fn code(kind: u32, number: u32) -> u64 {
-    kind as u64 * 4294967296 + (2147483648 + number as u64) % 4294967296
+    kind as u64 * KIND + (ZERO + number as u64) % KIND
 }
 
 // The requirements of a slot by kind and number of the first two; each further one has the next number.
@@ -157,14 +158,14 @@ pub fn row(kind: u32, number: u32, second: u32, from: u32) -> Row {
 
 // Kind and number of a requirement by its code; where there is no code, both are 0.
 pub fn kind_in(code: u64) -> u32 {
-    (code / 4294967296 % 4294967296) as u32
+    (code / KIND % WIDE) as u32
 }
 
 pub fn number_in(code: u64) -> u32 {
     if code == 0 {
         return 0;
     }
-    ((code % 4294967296 + 2147483648) % 4294967296) as u32
+    ((code % KIND + ZERO) % WIDE) as u32
 }
 
 pub fn bits16(x: i16) -> u32 {

@@ -12,7 +12,7 @@ use mir.Syntax.{w16, w32}
 use mir.Val.{SFits}
 use lib.ListN.{length, length-map}
 use borrow.Author.Tests.{ltb-true, le-leb}
-use Rattle.model.specs.Limits.{flagCount, timeCount, variableCount}
+use Rattle.model.specs.Limits.{half16, mostHeld, flagCount, timeCount, variableCount}
 use Rattle.model.specs.Refusal.{firstOf}
 use Rattle.model.specs.Signed.{inRange}
 use Rattle.model.specs.Sheet.{Sheet, sheetOk, saveOk, all, isCount, isBit}
@@ -31,7 +31,7 @@ count-negative (pos n) t = absurd (not-suc-le-zero (ltb-true n 0 t))
 count-negative (negsuc n) t = refl
 
 pub count-natural : (z : ℤ) → SFits w16 z → ltZ z (pos 0) ≡ false → isCount z ≡ true
-count-natural (pos n) f t = let h : n < 32768 = f .sfits in rw (le-leb 0 n (omega arith), le-leb n 32767 (omega arith))
+count-natural (pos n) f t = let h : n < half16 = f .sfits in rw (le-leb 0 n (omega arith), le-leb n mostHeld (omega arith))
 count-natural (negsuc n) f t = absurd (subst T t tt)
 
 pub save-is : (ks : List ℕ) (h : code.Sheet) (items : List ℤ) (atcs flags : List ℕ) (times vars : List ℤ)

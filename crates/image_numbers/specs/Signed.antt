@@ -11,7 +11,7 @@ use mir.Syntax.{w32}
 use mir.Val.{SFits, toZ, ofZ}
 use mir.ValLaws.{toZ-pos}
 use mir.Facts.{toZ-ofZ}
-use Rattle.model.specs.Limits.{wide}
+use Rattle.model.specs.Limits.{wide, half32}
 use Rattle.model.specs.Reading.{zig, zag}
 use Rattle.model.specs.Laws.Signed.{minus-one}
 
@@ -21,21 +21,21 @@ use Rattle.model.specs.Laws.Signed.{minus-one}
 pub record Flipped (z : ℤ) : Type 0 where
   pub high : ℕ
   pub is : negsuc 0 -ℤ z ≡ pos high
-  pub low : high < 2147483648
+  pub low : high < half32
   pub folds : 2 * high + 1 ≡ zig z
 
 pub flipped : (z : ℤ) → SFits w32 z → ltZ z (pos 0) ≡ true → Flipped z
 unfolding zig
 flipped (pos n) f t = absurd (omega (arith, ltb-true n 0 t))
 flipped (negsuc n) f t =
-    let h : n < 2147483648 = f .sfits in
+    let h : n < half32 = f .sfits in
     record { high = n; is = rw (le-ltb (suc n) 1 (omega arith)) (ap pos (omega arith)); low = h; folds = refl }
 
 -- a number that is not
 pub record Plain (z : ℤ) : Type 0 where
   pub high : ℕ
   pub is : z ≡ pos high
-  pub low : high < 2147483648
+  pub low : high < half32
   pub folds : 2 * high ≡ zig z
 
 pub plain : (z : ℤ) → SFits w32 z → ltZ z (pos 0) ≡ false → Plain z
@@ -45,8 +45,8 @@ plain (negsuc n) f t = absurd (subst T t tt)
 
 pub zig-low : (z : ℤ) → SFits w32 z → zig z < wide
 unfolding zig
-zig-low (pos n) f = let h : n < 2147483648 = f .sfits in omega arith
-zig-low (negsuc n) f = let h : n < 2147483648 = f .sfits in omega arith
+zig-low (pos n) f = let h : n < half32 = f .sfits in omega arith
+zig-low (negsuc n) f = let h : n < half32 = f .sfits in omega arith
 
 -- ---- unfolded
 

@@ -32,6 +32,7 @@ use memory::push_block;
 use memory::push_command;
 use memory::push_node;
 use model::Kind;
+use model::WIDE;
 use model::WIDE16;
 
 // The limits as a number of the image is compared with them.
@@ -171,7 +172,7 @@ fn read_expr(s: &[u8], at: usize, ws: &mut NodeWords, val: &mut Values, n: u16, 
                     push_one(ws, val, c, a)
                 }
                 Kind::Imm16 => read_imm(s, p, ws, val, n, 11, WIDE16),
-                Kind::Imm32 => read_imm(s, p, ws, val, n, 12, 4294967296),
+                Kind::Imm32 => read_imm(s, p, ws, val, n, 12, WIDE),
                 Kind::Other => Step::Got(push_node(ws, val, n, 18, 0, 0, 0), p),
             }
         }
@@ -186,7 +187,7 @@ fn read_block_no(s: &[u8], at: usize, blocks: u16) -> Step
     requires { ⌜ blocks ≤ blockLimit ⌝ }
     ensures { λ r. ⌜ ToldNo (now (s .entry)) (readBlockNo blocks (drop at (now (s .entry)))) r ⌝ }
 {
-    let n = read_number(s, at, 4294967296);
+    let n = read_number(s, at, WIDE);
     match n {
         Num::Got(k, p) => {
             let there = wide_word(blocks);
@@ -366,7 +367,7 @@ fn read_link(s: &[u8], at: usize, blocks: u16) -> Step
     requires { ⌜ blocks ≤ blockLimit ⌝ }
     ensures { λ r. ⌜ ToldLink (now (s .entry)) (readLink blocks (drop at (now (s .entry)))) r ⌝ }
 {
-    let n = read_number(s, at, 4294967296);
+    let n = read_number(s, at, WIDE);
     match n {
         Num::Got(k, p) => {
             let there = wide_word(blocks);
@@ -402,7 +403,7 @@ fn read_count(s: &[u8], at: usize, m: u16) -> Step
     requires { ⌜ m ≤ commandLimit ⌝ }
     ensures { λ r. ⌜ ToldCount (now (s .entry)) m at r ⌝ }
 {
-    let count = read_number(s, at, 4294967296);
+    let count = read_number(s, at, WIDE);
     match count {
         Num::Got(c, p) => {
             let all = wide_word(m) + c;
@@ -534,7 +535,7 @@ fn read_all(
 ) -> Image
     ensures { λ r. ⌜ ToldImage (emptyIn (now (ws .entry)) (now (val .entry)) (now (cw .entry)) (now (bw .entry))) (readImage (drop at (now (s .entry)))) r (now (ws .exit)) (now (val .exit)) (now (cw .exit)) (now (bw .exit)) ⌝ }
 {
-    let count = read_number(s, at, 4294967296);
+    let count = read_number(s, at, WIDE);
     match count {
         Num::Got(c, p) => {
             if c > MOST_BLOCKS {

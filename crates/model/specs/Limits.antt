@@ -108,7 +108,10 @@ wide = 4294967296
 abbrev pub wide16 : ℕ
 wide16 = 65536
 
--- half of the latter: a signed number of 16 bits lies below it
+-- half of each: a signed number of 32 or 16 bits lies below it
+abbrev pub half32 : ℕ
+half32 = 2147483648
+
 abbrev pub half16 : ℕ
 half16 = 32768
 

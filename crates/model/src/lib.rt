@@ -1,6 +1,8 @@
 // The kinds of expression, the numbers and the loader that the definitions and the code share.
 
-// The numbers of 16 bits, half of them, and the least signed one.
+// The numbers of 32 bits; those of 16 bits, half of them, and the least signed one.
+pub const WIDE: u64 = 4294967296;
+
 pub const WIDE16: u64 = 65536;
 
 pub const HALF16: u16 = 32768;

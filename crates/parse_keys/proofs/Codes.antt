@@ -9,7 +9,7 @@ use lib.Dec.{ltb, eqb}
 use lib.ListN.{getD}
 use lib.IntN.{ℤ, pos, negsuc}
 use borrow.Author.Tests.{lt-ltb, le-ltb, eq-eqb, ne-eqb, ltb-true, eqb-true, eqb-false}
-use Rattle.model.specs.Limits.{wide, wide16}
+use Rattle.model.specs.Limits.{wide, wide16, half32}
 use Rattle.model.specs.Signed.{isZero}
 use Rattle.model.specs.Requirement.{Requirement, haveItem, haveAtc, haveFlag, number, negateReq}
 use Rattle.model.specs.Sheet.{Sheet}
@@ -22,7 +22,7 @@ use Rattle.model.specs.declared.Op2.{Op2}
 use Rattle.model.specs.declared.Op2.the-variants.{Equal, NotEqual, Less, LessEqual, Greater, GreaterEqual, Add, Subtract, BitAnd, BitOr}
 use Rattle.model.specs.declared.Op1.{Op1}
 use Rattle.model.specs.declared.Op1.the-variants.{Not, Flag, Variable, Item, Atc, Time}
-use Rattle.shop_codes.specs.Codes.{half, InRange, shift, codeOf, Narrow, isMissing}
+use Rattle.shop_codes.specs.Codes.{InRange, shift, codeOf, Narrow, isMissing}
 use Rattle.shop_codes.specs.Laws.{code-stands, shift-most}
 use Rattle.expr.specs.Tree.{treeBelow, below-out, below-two, below-one, below-imm16, below-imm32, below-other}
 use Rattle.expr.specs.Requirement.{Has}
@@ -40,14 +40,14 @@ subject-of r e n = let b = code-stands r n in record { have = rw b e; code = ap 
 codes-of : (c : ℕ) (r : Requirement) → c ≡ codeOf r → 0 < c → isMissing r ≡ false → InRange (number r) → Codes c r
 codes-of c r e p h f = let n : Narrow r = record { fits = f } in record { some = p; subject = rw e (subject-of r h n); is = rw e (code-stands r n) }
 
-module _ (base n : ℕ) (f : ℕ → Requirement) (small : n < wide16) (code : (k : ℕ) → base + (k + half) ≡ codeOf (f k)) (have : (k : ℕ) → isMissing (f k) ≡ false)
-    (fits : (k : ℕ) → k < half → InRange (number (f k))) where
+module _ (base n : ℕ) (f : ℕ → Requirement) (small : n < wide16) (code : (k : ℕ) → base + (k + half32) ≡ codeOf (f k)) (have : (k : ℕ) → isMissing (f k) ≡ false)
+    (fits : (k : ℕ) → k < half32 → InRange (number (f k))) where
   id-is : (s : ℕ) (z : Option ℤ) → Numbered s z → Coded (idCode base n s) (idBelow n f z)
-  id-is s none e = rw (e, le-ltb half n (omega arith)) refl
-  id-is s (some (negsuc k)) e = rw (lt-ltb s half (omega (arith, e .0))) refl
-  id-is s (some (pos k)) e = rw (le-ltb s half (omega (arith, e .0)), d) (by (ltb k n) refl)
+  id-is s none e = rw (e, le-ltb half32 n (omega arith)) refl
+  id-is s (some (negsuc k)) e = rw (lt-ltb s half32 (omega (arith, e .0))) refl
+  id-is s (some (pos k)) e = rw (le-ltb s half32 (omega (arith, e .0)), d) (by (ltb k n) refl)
     where
-      d : s - half ≡ k
+      d : s - half32 ≡ k
       d = omega (arith, e .0)
 
       by : (t : Bool) → ltb k n ≡ t → Coded (cond t (base + s) 0) (cond t (some (f k)) none)
@@ -79,11 +79,11 @@ read-is h n a Time s z g p q e = refl
 
 -- codes leave room for a sign
 id-most : (base n s : ℕ) → base ≤ 2 * wide → n < wide16 → idCode base n s < 8 * wide
-id-most base n s p q = by (ltb s half) (ltb (s - half) n) refl refl
+id-most base n s p q = by (ltb s half32) (ltb (s - half32) n) refl refl
   where
-    by : (t u : Bool) → ltb s half ≡ t → ltb (s - half) n ≡ u → cond t 0 (cond u (base + s) 0) < 8 * wide
+    by : (t u : Bool) → ltb s half32 ≡ t → ltb (s - half32) n ≡ u → cond t 0 (cond u (base + s) 0) < 8 * wide
     by true u e f = omega arith
-    by false true e f = omega (arith, ltb-true (s - half) n f)
+    by false true e f = omega (arith, ltb-true (s - half32) n f)
     by false false e f = omega arith
 
 flag-most : (s : ℕ) → flagCode s < 8 * wide
@@ -153,27 +153,27 @@ compare-sign Subtract o z = none-sign Subtract o z refl
 compare-sign BitAnd o z = none-sign BitAnd o z refl
 compare-sign BitOr o z = none-sign BitOr o z refl
 
-zero-test : (s : ℕ) (z : ℤ) → s ≡ shift z → InRange z → eqb s half ≡ isZero z
+zero-test : (s : ℕ) (z : ℤ) → s ≡ shift z → InRange z → eqb s half32 ≡ isZero z
 zero-test s (pos n) e f = by (eqb n 0) refl
   where
-    by : (t : Bool) → eqb n 0 ≡ t → eqb s half ≡ t
-    by true w = eq-eqb s half (omega (arith, eqb-true n 0 w))
-    by false w = let d = eqb-false n 0 w in ne-eqb s half (λ x. d (omega arith))
-zero-test s (negsuc n) e f = ne-eqb s half (λ x. omega arith)
+    by : (t : Bool) → eqb n 0 ≡ t → eqb s half32 ≡ t
+    by true w = eq-eqb s half32 (omega (arith, eqb-true n 0 w))
+    by false w = let d = eqb-false n 0 w in ne-eqb s half32 (λ x. d (omega arith))
+zero-test s (negsuc n) e f = ne-eqb s half32 (λ x. omega arith)
 
-zero-not : (op : Op2) (s : ℕ) (z : Option ℤ) → Numbered s z → (s ≡ half → ⊥) → 2 ≡ zeroSign op z
+zero-not : (op : Op2) (s : ℕ) (z : Option ℤ) → Numbered s z → (s ≡ half32 → ⊥) → 2 ≡ zeroSign op z
 zero-not op s none e n = refl
-zero-not op s (some z) e n = rw (← zero-test s z (e .0) (e .1), ne-eqb s half n)
+zero-not op s (some z) e n = rw (← zero-test s z (e .0) (e .1), ne-eqb s half32 n)
 
-zero-is : (op : Op2) (s t : ℕ) (z : Option ℤ) → Numbered s z → s ≡ half → t ≡ signOf op → t ≡ zeroSign op z
+zero-is : (op : Op2) (s t : ℕ) (z : Option ℤ) → Numbered s z → s ≡ half32 → t ≡ signOf op → t ≡ zeroSign op z
 zero-is op s t none e f g = absurd (omega arith)
-zero-is op s t (some z) e f g = rw (← zero-test s z (e .0) (e .1), eq-eqb s half f) g
+zero-is op s t (some z) e f g = rw (← zero-test s z (e .0) (e .1), eq-eqb s half32 f) g
 
 module _ (ws : List ℕ) (vs : List ℤ) (i : ℕ) (op : Op2) (s : ℕ) (f : (n : ℕ) → Numbered s (value (treeBelow (nodesIn ws vs n) i (rightAt (nodesIn ws vs n) i)))) where
-  pub zero-other : (s ≡ half → ⊥) → (n : ℕ) → 2 ≡ zeroSign op (value (treeBelow (nodesIn ws vs n) i (rightAt (nodesIn ws vs n) i)))
+  pub zero-other : (s ≡ half32 → ⊥) → (n : ℕ) → 2 ≡ zeroSign op (value (treeBelow (nodesIn ws vs n) i (rightAt (nodesIn ws vs n) i)))
   zero-other d n = zero-not op s (value (treeBelow (nodesIn ws vs n) i (rightAt (nodesIn ws vs n) i))) (f n) d
 
-  pub zero-same : (t : ℕ) → s ≡ half → t ≡ signOf op → (n : ℕ) → t ≡ zeroSign op (value (treeBelow (nodesIn ws vs n) i (rightAt (nodesIn ws vs n) i)))
+  pub zero-same : (t : ℕ) → s ≡ half32 → t ≡ signOf op → (n : ℕ) → t ≡ zeroSign op (value (treeBelow (nodesIn ws vs n) i (rightAt (nodesIn ws vs n) i)))
   zero-same t d g n = zero-is op s t (value (treeBelow (nodesIn ws vs n) i (rightAt (nodesIn ws vs n) i))) (f n) d g
 
 sign-most : (op : Op2) (z : Option ℤ) → zeroSign op z ≤ 2

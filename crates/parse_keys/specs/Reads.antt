@@ -5,7 +5,7 @@ use mathlib.Core.Option.{Option, none, some}
 use Prim.Native.Nat.{ℕ, _+_, _-_, _*_, _/_, _<_}
 use lib.Dec.{ltb, eqb}
 use lib.IntN.{ℤ}
-use Rattle.model.specs.Limits.{wide}
+use Rattle.model.specs.Limits.{wide, half32}
 use Rattle.model.specs.Signed.{isZero}
 use Rattle.model.specs.Requirement.{Requirement}
 use Rattle.model.specs.Sheet.{Sheet}
@@ -13,7 +13,7 @@ use Rattle.model.specs.Parse.{readReq, signed}
 use Rattle.model.specs.declared.Op2.{Op2}
 use Rattle.model.specs.declared.Op2.the-variants.{Equal, NotEqual, Less, LessEqual, Greater, GreaterEqual, Add, Subtract, BitAnd, BitOr}
 use Rattle.model.specs.declared.Op1.{Op1}
-use Rattle.shop_codes.specs.Codes.{half, InRange, shift, requirementOf}
+use Rattle.shop_codes.specs.Codes.{InRange, shift, requirementOf}
 use Rattle.expr.specs.Requirement.{Has}
 use Rattle.parse_keys.specs.Entries.{odd, Subject}
 
@@ -24,7 +24,7 @@ Numbered s (some z) = (s ≡ shift z) × InRange z
 
 -- the code of an id below n, base being that of the kind
 abbrev pub idCode : ℕ → ℕ → ℕ → ℕ
-idCode base n s = cond (ltb s half) 0 (cond (ltb (s - half) n) (base + s) 0)
+idCode base n s = cond (ltb s half32) 0 (cond (ltb (s - half32) n) (base + s) 0)
 
 abbrev pub flagCode : ℕ → ℕ
 flagCode s = cond (ltb s wide) (4 * wide + s) 0

@@ -11,7 +11,7 @@ use mir.Syntax.{w16, w32}
 use mir.Val.{SFits, ofZ, toZ, hbits}
 use mir.Facts.{toZ-ofZ, fits-natAbs}
 use borrow.Author.Tests.{lt-ltb, le-ltb, ltb-true, eq-eqb, ne-eqb}
-use Rattle.model.specs.Limits.{slotCount, countFirst, itemFirst}
+use Rattle.model.specs.Limits.{slotCount, countFirst, itemFirst, half32}
 use Rattle.model.specs.Signed.{cut16, inRange}
 use Rattle.model.specs.Laws.Signed.{wrap-id}
 use Rattle.model.specs.Expr.{Expr, two, one, imm16, imm32, other}
@@ -253,7 +253,7 @@ limit-unindexed (some z) l = refl
 
 pub zero-first : (z l : ℤ) → SFits w32 z → ofZ w32 z ≡ 0 → some l ≡ ifFirst (some z) l
 zero-first (pos n) l f e = rw (eq-eqb n 0 e)
-zero-first (negsuc n) l f e = let h : n < 2147483648 = f .sfits in let e′ : 4294967296 - suc n ≡ 0 = e in absurd (omega arith)
+zero-first (negsuc n) l f e = let h : n < half32 = f .sfits in let e′ : 4294967296 - suc n ≡ 0 = e in absurd (omega arith)
 
 pub other-first : (z l : ℤ) → (ofZ w32 z ≡ 0 → ⊥) → none ≡ ifFirst (some z) l
 other-first (pos n) l q = rw (ne-eqb n 0 q)

@@ -8,7 +8,7 @@ use native.Mathlib.Omega.{arith}
 use lib.Dec.{eqb, ltb}
 use borrow.Author.Tests.{eq-eqb, ne-eqb, ltb-true}
 use lib.ListN.{length, take}
-use Rattle.model.specs.Limits.{entryLimit, wide}
+use Rattle.model.specs.Limits.{entryLimit, wide, half32}
 use Rattle.model.specs.Refusal.{check}
 use Rattle.model.specs.Sheet as Model
 use Rattle.model.specs.Sheet.{all, atcFor, itemCount, sheetOk}
@@ -59,10 +59,10 @@ module _ (j s : ℕ) (h : s < wide) where
   down = rw (ne-eqb (((2 * j + 1) * wide + s) / wide % 2) 0 (λ e. omega arith)) (omega arith)
 
 pub negated-code : (r : Requirement) → Narrow r → negatedCode (codeOf r) ≡ codeOf (negateReq r)
-negated-code (haveItem i) p = up 0 (i + 2147483648) (omega (arith, p .fits))
-negated-code (missingItem i) p = down 0 (i + 2147483648) (omega (arith, p .fits))
-negated-code (haveAtc a) p = up 1 (a + 2147483648) (omega (arith, p .fits))
-negated-code (missingAtc a) p = down 1 (a + 2147483648) (omega (arith, p .fits))
+negated-code (haveItem i) p = up 0 (i + half32) (omega (arith, p .fits))
+negated-code (missingItem i) p = down 0 (i + half32) (omega (arith, p .fits))
+negated-code (haveAtc a) p = up 1 (a + half32) (omega (arith, p .fits))
+negated-code (missingAtc a) p = down 1 (a + half32) (omega (arith, p .fits))
 negated-code (haveFlag f) p = up 2 (shift f) (shift-most f (p .fits))
 negated-code (missingFlag f) p = down 2 (shift f) (shift-most f (p .fits))
 
@@ -90,10 +90,10 @@ pub own-code : (ks : List ℕ) (h : Sheet) (w : ℕ) (o : Option ℕ) → o ≡ 
 unfolding acquiredOf
 own-code ks h w o e = ap (λ p. codeOf (acquiredReq p w)) (e ∙ sym (atc-for ks h w))
 
-pub item-code : (w : ℕ) → w + 2147483648 ≡ codeOf (acquiredReq none w)
+pub item-code : (w : ℕ) → w + half32 ≡ codeOf (acquiredReq none w)
 item-code w = omega arith
 
-pub atc-code : (w a : ℕ) → a + 8589934592 + 2147483648 ≡ codeOf (acquiredReq (some a) w)
+pub atc-code : (w a : ℕ) → a + 8589934592 + half32 ≡ codeOf (acquiredReq (some a) w)
 atc-code w a = omega arith
 
 -- ---- of a slot that passed 1 and 8

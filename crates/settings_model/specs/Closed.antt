@@ -10,7 +10,7 @@ use borrow.Author.Tests.{not-true}
 use lib.ListN.{length, length-map}
 use lib.IntN.{ℤ}
 use Rattle.model.specs.Sheet.{Sheet, all, atcFor}
-use Rattle.model.specs.Requirement.{Requirement, haveItem, missingItem, haveAtc, missingAtc, haveFlag, missingFlag, member, negateReq}
+use Rattle.model.specs.Requirement.{Requirement, haveItem, missingItem, haveAtc, missingAtc, haveFlag, missingFlag, member, negateReq, isHave}
 use Rattle.model.specs.Shop.{Slot, limitOf, timerOf}
 use Rattle.model.specs.Compile.{acquiredReq, rateOf}
 use Rattle.model.specs.Normal.{acquiredOf}
@@ -19,7 +19,7 @@ use Rattle.model.specs.Laws.Normal.{both-ways}
 use Rattle.model.specs.Laws.Bools.{or-right, never-true, not-or}
 use Rattle.faithful_model.specs.Faithful.{faithfulFilled, noPair}
 use Rattle.faithful_model.specs.Lists.{all-member, all-of, of-pairs, pair-own, pairs}
-use Rattle.settings_model.specs.Settings.{Subject, rateIs, agree, answerIn, combos, count, distinct, hiddenCount, listedBy, listedCount, listedFilled, listedFor, listedWith, meets, memberS, orRate, rates, sameSubject, subjectOf, subjects, subjectsFilled, subjectsFor, wanted, without}
+use Rattle.settings_model.specs.Settings.{Subject, rateIs, agree, answerIn, combos, count, distinct, hiddenCount, listedBy, listedCount, listedFilled, listedFor, listedWith, meets, memberS, orRate, rates, sameSubject, subjectOf, subjects, subjectsFilled, subjectsFor, without}
 use Rattle.settings_model.specs.Combos.{count-all, count-more, count-none, count-same, count-split, each-once, same-own, same-true, sameList}
 use Rattle.settings_model.specs.Subjects.{Apart, Asks, asks, differs-sym, distinct-apart, distinct-member, member-without, no-rate, req-other, req-own, reqOf, subject-in, subject-neg, subject-own}
 use Rattle.settings_model.specs.Listed.{look-up}
@@ -49,17 +49,17 @@ listedClosed h x = 2 ^ length (subjects h x) - hiddenClosed h x
 
 -- ---- requirements and their negations
 
-wanted-neg : (r : Requirement) → wanted (negateReq r) ≡ not (wanted r)
-wanted-neg (haveItem i) = refl
-wanted-neg (missingItem i) = refl
-wanted-neg (haveAtc i) = refl
-wanted-neg (missingAtc i) = refl
-wanted-neg (haveFlag f) = refl
-wanted-neg (missingFlag f) = refl
+have-neg : (r : Requirement) → isHave (negateReq r) ≡ not (isHave r)
+have-neg (haveItem i) = refl
+have-neg (missingItem i) = refl
+have-neg (haveAtc i) = refl
+have-neg (missingAtc i) = refl
+have-neg (haveFlag f) = refl
+have-neg (missingFlag f) = refl
 
 meets-neg : (y : Subject → Bool) (r : Requirement) → meets y (negateReq r) ≡ not (meets y r)
 unfolding meets
-meets-neg y r = rw (subject-neg r, wanted-neg r) (by (wanted r) (y (subjectOf r)))
+meets-neg y r = rw (subject-neg r, have-neg r) (by (isHave r) (y (subjectOf r)))
   where
     by : (a b : Bool) → agree (not a) b ≡ not (agree a b)
     by true b = refl
@@ -67,10 +67,10 @@ meets-neg y r = rw (subject-neg r, wanted-neg r) (by (wanted r) (y (subjectOf r)
     by false false = refl
 
 -- the Have of a requirement's subject
-have-own : (r : Requirement) → wanted r ≡ true → reqOf (subjectOf r) true ≡ r
+have-own : (r : Requirement) → isHave r ≡ true → reqOf (subjectOf r) true ≡ r
 have-own r e = ap (reqOf (subjectOf r)) (sym e) ∙ req-own r
 
-have-other : (r : Requirement) → wanted r ≡ false → reqOf (subjectOf r) true ≡ negateReq r
+have-other : (r : Requirement) → isHave r ≡ false → reqOf (subjectOf r) true ≡ negateReq r
 have-other r e = ap (reqOf (subjectOf r)) (sym (ap not e)) ∙ req-other r
 
 -- ---- a combination is its answers
@@ -116,19 +116,19 @@ module _ (us : List Subject) (rs : List Requirement) (n : Names us rs) where
     unfolding target meets
     only-target a = map-member (λ u. member (reqOf u true) rs) (answerIn us c) us (λ u m. each u (n .naming u m)) ∙ answers-self us c (n .apart) long
       where
-        by : (r : Requirement) → member r rs ≡ true → (b : Bool) → wanted r ≡ b → member (reqOf (subjectOf r) true) rs ≡ answerIn us c (subjectOf r)
+        by : (r : Requirement) → member r rs ≡ true → (b : Bool) → isHave r ≡ b → member (reqOf (subjectOf r) true) rs ≡ answerIn us c (subjectOf r)
         by r m true e = rw (have-own r e) (m ∙ sym (ap (λ v. agree v (answerIn us c (subjectOf r))) (sym e) ∙ all-member (meets (answerIn us c)) r rs a m))
         by r m false e =
             rw (have-other r e) (pairs rs (pairs-apart a) r m ∙ sym (not-true _ (ap (λ v. agree v (answerIn us c (subjectOf r))) (sym e) ∙ all-member (meets (answerIn us c)) r rs a m)))
 
         each : (u : Subject) → Asks u rs → member (reqOf u true) rs ≡ answerIn us c u
-        each u k = rw (← k .about) (by (k .which) (k .inside) (wanted (k .which)) refl)
+        each u k = rw (← k .about) (by (k .which) (k .inside) (isHave (k .which)) refl)
 
     target-meets : noPair rs ≡ true → target ≡ c → all (meets (answerIn us c)) rs ≡ true
     unfolding target meets
-    target-meets p t = all-of (meets (answerIn us c)) rs (λ r m. ap (λ d. agree (wanted r) (answerIn us d (subjectOf r))) (sym t) ∙ ap (agree (wanted r)) (look-up (λ u. member (reqOf u true) rs) (subjectOf r) us (n .named r m)) ∙ by r m (wanted r) refl)
+    target-meets p t = all-of (meets (answerIn us c)) rs (λ r m. ap (λ d. agree (isHave r) (answerIn us d (subjectOf r))) (sym t) ∙ ap (agree (isHave r)) (look-up (λ u. member (reqOf u true) rs) (subjectOf r) us (n .named r m)) ∙ by r m (isHave r) refl)
       where
-        by : (r : Requirement) → member r rs ≡ true → (b : Bool) → wanted r ≡ b → agree b (member (reqOf (subjectOf r) true) rs) ≡ true
+        by : (r : Requirement) → member r rs ≡ true → (b : Bool) → isHave r ≡ b → agree b (member (reqOf (subjectOf r) true) rs) ≡ true
         by r m true e = rw (have-own r e) m
         by r m false e = rw (have-other r e, pairs rs p r m)
 
@@ -167,7 +167,7 @@ stock-hidden rs =
 
 -- ---- at limit 1
 
-module _ (a : Requirement) (have : wanted a ≡ true) (rs : List Requirement) (rest : List Subject) (n : Names (subjectOf a ∷ rest) (negateReq a ∷ rs)) where
+module _ (a : Requirement) (have : isHave a ≡ true) (rs : List Requirement) (rest : List Subject) (n : Names (subjectOf a ∷ rest) (negateReq a ∷ rs)) where
   meets-have : (b : Bool) (c : List Bool) → meets (answerIn (subjectOf a ∷ rest) (b ∷ c)) a ≡ b
   unfolding meets answerIn
   meets-have b c = rw (have, subject-own (subjectOf a))
@@ -246,7 +246,7 @@ among a rs o = distinct (rates o ++ subjectOf a ∷ map subjectOf rs)
 abbrev hides : Requirement → List Requirement → Option ℕ → List Subject → ℕ
 hides a rs o us = count (λ c. not (orRate (answerIn us c) o (meets (answerIn us c) a) || all (meets (answerIn us c)) rs)) (combos (length us))
 
-hides-is : (a : Requirement) → wanted a ≡ true → (rs : List Requirement) (o : Option ℕ) → hides a rs o (among a rs o) ≡ 2 ^ (length (among a rs o) - suc (length (rates o))) - bit (noPair rs && not (member a rs))
+hides-is : (a : Requirement) → isHave a ≡ true → (rs : List Requirement) (o : Option ℕ) → hides a rs o (among a rs o) ≡ 2 ^ (length (among a rs o) - suc (length (rates o))) - bit (noPair rs && not (member a rs))
 unfolding distinct without
 hides-is a have rs none =
     let rest = without (subjectOf a) (distinct (map subjectOf rs)) in
@@ -264,11 +264,11 @@ hides-is a have rs (some q) =
     let k : suc (suc (length rest)) - 2 ≡ length rest = omega arith in
     rw (no-rate a q) (timer-hidden a have rs rest n q ∙ rw (pair-own a rs, k))
 
-own-have : (h : Sheet) (w : ℕ) → wanted (acquiredOf h w) ≡ true
+own-have : (h : Sheet) (w : ℕ) → isHave (acquiredOf h w) ≡ true
 unfolding acquiredOf
 own-have h w = by (atcFor h w)
   where
-    by : (o : Option ℕ) → wanted (acquiredReq o w) ≡ true
+    by : (o : Option ℕ) → isHave (acquiredReq o w) ≡ true
     by none = refl
     by (some a) = refl
 

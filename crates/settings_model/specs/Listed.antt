@@ -10,14 +10,14 @@ use lib.IntN.{pos, negsuc}
 use Rattle.model.specs.Signed.{isZero}
 use Rattle.model.specs.Save.{Save, natAt}
 use Rattle.model.specs.Sheet.{Sheet, all, atcFor}
-use Rattle.model.specs.Requirement.{Requirement, haveItem, missingItem, haveAtc, missingAtc, haveFlag, missingFlag, member, sameReq}
+use Rattle.model.specs.Requirement.{Requirement, haveItem, missingItem, haveAtc, missingAtc, haveFlag, missingFlag, member, sameReq, isHave}
 use Rattle.model.specs.Shop.{Slot, limitOf, timerOf}
 use Rattle.model.specs.Compile.{acquiredReq, rateOf}
 use Rattle.model.specs.Meaning.{acquired, allHold, atRate, held, holds, limitMeaning, meaningOf, uniqueMeaning}
 use Rattle.model.specs.Normal.{acquiredOf}
 use Rattle.model.specs.Laws.Sets.{same-refl}
 use Rattle.model.specs.Laws.Bools.{or-right}
-use Rattle.settings_model.specs.Settings.{Subject, rateIs, agree, answerIn, distinct, listedBy, listedFilled, listedFor, listedWith, meets, memberS, orRate, rates, sameSubject, says, settingOf, subjectOf, subjects, subjectsFilled, subjectsFor, wanted}
+use Rattle.settings_model.specs.Settings.{Subject, rateIs, agree, answerIn, distinct, listedBy, listedFilled, listedFor, listedWith, meets, memberS, orRate, rates, sameSubject, says, settingOf, subjectOf, subjects, subjectsFilled, subjectsFor}
 use Rattle.settings_model.specs.Subjects.{distinct-member, subject-in, subject-own, subject-true}
 
 -- ---- by the save itself
@@ -78,7 +78,7 @@ look-up y u (v ∷ vs) m = by (sameSubject u v) refl m (look-up y u vs)
 module _ (y : Subject → Bool) (us : List Subject) where
   meets-look : (r : Requirement) → memberS (subjectOf r) us ≡ true → meets (answerIn us (map y us)) r ≡ meets y r
   unfolding meets
-  meets-look r m = ap (agree (wanted r)) (look-up y (subjectOf r) us m)
+  meets-look r m = ap (agree (isHave r)) (look-up y (subjectOf r) us m)
 
   all-look : (rs : List Requirement) → ((r : Requirement) → member r rs ≡ true → memberS (subjectOf r) us ≡ true) → all (meets (answerIn us (map y us))) rs ≡ all (meets y) rs
   unfolding member

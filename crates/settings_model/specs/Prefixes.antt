@@ -6,7 +6,7 @@ use mathlib.Core.List.{List, [], _∷_, _++_, map, append-assoc, append-nil}
 use Prim.Native.Nat.{ℕ, suc, _+_}
 use native.Mathlib.Omega.{arith}
 use lib.ListN.{length, length-append}
-use Rattle.model.specs.Requirement.{Requirement, negateReq, sameReq, member}
+use Rattle.model.specs.Requirement.{Requirement, negateReq, sameReq, member, isHave}
 use Rattle.model.specs.Sheet.{Sheet}
 use Rattle.model.specs.Shop.{timerOf}
 use Rattle.model.specs.Compile.{rateOf}
@@ -15,7 +15,7 @@ use Rattle.model.specs.Laws.Normal.{both-ways}
 use Rattle.model.specs.Laws.Runs.{sameReq-true}
 use Rattle.model.specs.Laws.Sets.{same-refl}
 use Rattle.model.specs.Laws.Bools.{or-cases, or-right}
-use Rattle.settings_model.specs.Settings.{Subject, distinct, memberS, rates, sameSubject, subjectOf, subjectsFilled, wanted, without}
+use Rattle.settings_model.specs.Settings.{Subject, distinct, memberS, rates, sameSubject, subjectOf, subjectsFilled, without}
 use Rattle.settings_model.specs.Subjects.{no-rate, req-other, req-own, subject-neg, subject-own, subject-true}
 use Rattle.settings_model.specs.Closed.{acquiredFilled, bit}
 
@@ -61,13 +61,13 @@ distinct-more us v = ap length (distinct-end us v) ∙ length-append (distinct u
 -- ---- a requirement's subject is named by it or by its negation
 
 -- q wants what r wants, or the opposite
-one-of : (r q : Requirement) → subjectOf r ≡ subjectOf q → (a b : Bool) → wanted r ≡ a → wanted q ≡ b → sameReq r q || sameReq (negateReq r) q ≡ true
+one-of : (r q : Requirement) → subjectOf r ≡ subjectOf q → (a b : Bool) → isHave r ≡ a → isHave q ≡ b → sameReq r q || sameReq (negateReq r) q ≡ true
 one-of r q e a b p s = by a b p s
   where
-    alike : wanted q ≡ wanted r → r ≡ q
+    alike : isHave q ≡ isHave r → r ≡ q
     alike z = sym (req-own r) ∙ rw (e, ← z) (req-own q)
 
-    apart : wanted q ≡ not (wanted r) → negateReq r ≡ q
+    apart : isHave q ≡ not (isHave r) → negateReq r ≡ q
     apart z = sym (req-other r) ∙ rw (e, ← z) (req-own q)
 
     first : r ≡ q → sameReq r q || sameReq (negateReq r) q ≡ true
@@ -76,7 +76,7 @@ one-of r q e a b p s = by a b p s
     second : negateReq r ≡ q → sameReq r q || sameReq (negateReq r) q ≡ true
     second z = or-right (sameReq r q) _ (ap (λ t. sameReq (negateReq r) t) (sym z) ∙ same-refl (negateReq r))
 
-    by : (a b : Bool) → wanted r ≡ a → wanted q ≡ b → sameReq r q || sameReq (negateReq r) q ≡ true
+    by : (a b : Bool) → isHave r ≡ a → isHave q ≡ b → sameReq r q || sameReq (negateReq r) q ≡ true
     by true true p s = first (alike (s ∙ sym p))
     by false false p s = first (alike (s ∙ sym p))
     by true false p s = second (apart (s ∙ ap not (sym p)))
@@ -84,7 +84,7 @@ one-of r q e a b p s = by a b p s
 
 pub subject-same : (r q : Requirement) → sameSubject (subjectOf r) (subjectOf q) ≡ sameReq r q || sameReq (negateReq r) q
 subject-same r q = both-ways _ _
-    (λ e. one-of r q (subject-true (subjectOf r) (subjectOf q) e) (wanted r) (wanted q) refl refl)
+    (λ e. one-of r q (subject-true (subjectOf r) (subjectOf q) e) (isHave r) (isHave q) refl refl)
     (λ e. or-cases (sameReq r q) (sameReq (negateReq r) q) e
     (λ f. rw (sameReq-true r q f) (subject-own (subjectOf q)))
     (λ f. rw (sym (subject-neg r) ∙ ap subjectOf (sameReq-true (negateReq r) q f)) (subject-own (subjectOf q))))

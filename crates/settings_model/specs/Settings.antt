@@ -10,7 +10,7 @@ use Rattle.model.specs.Refusal.{accepted, badShop, check, firstOf}
 use Rattle.model.specs.Signed.{eqZ, isZero}
 use Rattle.model.specs.Save.{Save, natAt, intAt}
 use Rattle.model.specs.Sheet.{Sheet, all, sheetRefusal}
-use Rattle.model.specs.Requirement.{Requirement, haveItem, missingItem, haveAtc, missingAtc, haveFlag, missingFlag}
+use Rattle.model.specs.Requirement.{Requirement, haveItem, missingItem, haveAtc, missingAtc, haveFlag, missingFlag, isHave}
 use Rattle.model.specs.Shop.{Slot, limitOf, slotOk, timerOf}
 use Rattle.model.specs.Compile.{rateOf}
 use Rattle.model.specs.Meaning.{held}
@@ -32,15 +32,6 @@ subjectOf (haveAtc a) = heldAtc a
 subjectOf (missingAtc a) = heldAtc a
 subjectOf (haveFlag f) = setFlag f
 subjectOf (missingFlag f) = setFlag f
-
--- .. and the answer that it wants
-abbrev pub wanted : Requirement → Bool
-wanted (haveItem i) = true
-wanted (missingItem i) = false
-wanted (haveAtc a) = true
-wanted (missingAtc a) = false
-wanted (haveFlag f) = true
-wanted (missingFlag f) = false
 
 abbrev pub sort : Subject → ℕ
 sort (heldItem i) = 0
@@ -93,7 +84,7 @@ agree true b = b
 agree false b = not b
 
 unfoldable pub meets : (Subject → Bool) → Requirement → Bool
-meets y r = agree (wanted r) (y (subjectOf r))
+meets y r = agree (isHave r) (y (subjectOf r))
 
 abbrev pub orRate : (Subject → Bool) → Option ℕ → Bool → Bool
 orRate y none b = b

@@ -10,7 +10,7 @@ use borrow.Author.Tests.{eqb-true, eq-eqb}
 use lib.ListN.{length, length-map}
 use lib.IntN.{ℤ, pos, negsuc}
 use Rattle.model.specs.Sheet.{Sheet}
-use Rattle.model.specs.Requirement.{Requirement, haveItem, missingItem, haveAtc, missingAtc, haveFlag, missingFlag, negateReq, sameReq, member}
+use Rattle.model.specs.Requirement.{Requirement, haveItem, missingItem, haveAtc, missingAtc, haveFlag, missingFlag, negateReq, sameReq, member, isHave}
 use Rattle.model.specs.Shop.{Slot, limitOf, timerOf}
 use Rattle.model.specs.Compile.{rateOf}
 use Rattle.model.specs.Normal.{acquiredOf}
@@ -18,7 +18,7 @@ use Rattle.model.specs.Laws.Checks.{and-left, and-right}
 use Rattle.model.specs.Laws.Runs.{sameReq-true, eqZ-true}
 use Rattle.model.specs.Laws.Sets.{same-refl, eqZ-refl}
 use Rattle.model.specs.Laws.Bools.{or-cases, or-right, never-true}
-use Rattle.settings_model.specs.Settings.{Subject, heldItem, heldAtc, setFlag, rateIs, distinct, mark, memberS, rates, sameSubject, sort, subjectOf, subjects, subjectsFor, subjectsFilled, wanted, without}
+use Rattle.settings_model.specs.Settings.{Subject, heldItem, heldAtc, setFlag, rateIs, distinct, mark, memberS, rates, sameSubject, sort, subjectOf, subjects, subjectsFor, subjectsFilled, without}
 
 -- ---- one subject
 
@@ -74,7 +74,7 @@ reqOf (setFlag f) true = haveFlag f
 reqOf (setFlag f) false = missingFlag f
 reqOf (rateIs r) b = haveItem r
 
-pub req-own : (r : Requirement) → reqOf (subjectOf r) (wanted r) ≡ r
+pub req-own : (r : Requirement) → reqOf (subjectOf r) (isHave r) ≡ r
 unfolding reqOf
 req-own (haveItem i) = refl
 req-own (missingItem i) = refl
@@ -83,7 +83,7 @@ req-own (missingAtc i) = refl
 req-own (haveFlag f) = refl
 req-own (missingFlag f) = refl
 
-pub req-other : (r : Requirement) → reqOf (subjectOf r) (not (wanted r)) ≡ negateReq r
+pub req-other : (r : Requirement) → reqOf (subjectOf r) (not (isHave r)) ≡ negateReq r
 unfolding reqOf
 req-other (haveItem i) = refl
 req-other (missingItem i) = refl

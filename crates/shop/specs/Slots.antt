@@ -8,14 +8,14 @@ use lib.Dec.{ltb, leb}
 use lib.IntN.{pos, negsuc}
 use lib.ListN.{length, take, getD, set, List·getD-map, length-map}
 use borrow.Author.Tests.{ltb-true, ltb-false, leb-true}
-use Rattle.model.specs.Limits.{fewestItems, mostItems, mostAtcs, entryLimit, slotCount, wide}
+use Rattle.model.specs.Limits.{fewestItems, mostItems, mostAtcs, entryLimit, slotCount, wide, half32}
 use Rattle.model.specs.Sheet as Model
 use Rattle.model.specs.Sheet.{sheetOk, timersOk, atcKnown, itemCount, atcFor, all}
 use Rattle.model.specs.Shop.{slotOk, itemKnown, reqKnown, withSlots}
 use Rattle.model.specs.Printer.{atcEntry}
 use Rattle.model.specs.Laws.Checks.{and-left, and-right}
 use Rattle.model.specs.Laws.Places.{padded-all}
-use Rattle.shop_codes.specs.Codes.{half, codeOf, idOf, ofKind, unshift, requirementOf, AllNarrow}
+use Rattle.shop_codes.specs.Codes.{codeOf, idOf, ofKind, unshift, requirementOf, AllNarrow}
 use Rattle.shop.specs.Shapes.{sheetOf, atcAt, entries, itemOf, partsOk, slotOf, slotsOf, placed}
 use Rattle.shop.specs.Sets.{Exact, AllExact}
 use Rattle.shop_codes.specs.Laws.{shift-unshift, codes-narrow}
@@ -49,13 +49,13 @@ slot-narrow x = codes-narrow (entries (x .len) (x .requirements))
 
 -- ---- an entry on the sheet is the code of what it stands for
 
-id-exact : (n m : ℕ) → m ≤ mostItems → ltb (idOf (unshift n)) m ≡ true → idOf (unshift n) + half ≡ n
-id-exact n m h = by (ltb n half) refl
+id-exact : (n m : ℕ) → m ≤ mostItems → ltb (idOf (unshift n)) m ≡ true → idOf (unshift n) + half32 ≡ n
+id-exact n m h = by (ltb n half32) refl
   where
-    by : (b : Bool) → ltb n half ≡ b → ltb (idOf (cond b (negsuc (half - suc n)) (pos (n - half)))) m ≡ true
-        → idOf (cond b (negsuc (half - suc n)) (pos (n - half))) + half ≡ n
+    by : (b : Bool) → ltb n half32 ≡ b → ltb (idOf (cond b (negsuc (half32 - suc n)) (pos (n - half32)))) m ≡ true
+        → idOf (cond b (negsuc (half32 - suc n)) (pos (n - half32))) + half32 ≡ n
     by true e f = absurd (omega (arith, ltb-true mostItems m f))
-    by false e f = omega (arith, ltb-false n half e)
+    by false e f = omega (arith, ltb-false n half32 e)
 
 module _ (h : Model.Sheet) (p : itemCount h ≤ mostItems) (q : h .atcCount ≤ mostItems) where
   kind-exact : (k n : ℕ) → reqKnown h (ofKind k (unshift n)) ≡ true → codeOf (ofKind k (unshift n)) ≡ k * wide + n

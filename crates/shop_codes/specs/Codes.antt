@@ -1,30 +1,26 @@
 -- Requirement codes: a requirement as one number whose order is that of requirements, by kind and then by number (01, Slot). Assumes nothing: these are definitions.
-use mathlib.Core.Bool.{Bool, true, false, cond}
+use mathlib.Core.Bool.{Bool, not, cond}
 use mathlib.Core.List.{List, [], _∷_}
 use Prim.Native.Nat.{ℕ, zero, suc, _+_, _*_, _-_, _/_, _%_, _<_}
 use lib.Dec.{ltb}
 use lib.IntN.{ℤ, pos, negsuc}
 use lib.Signed.{mag}
-use Rattle.model.specs.Limits.{mostItems, wide}
-use Rattle.model.specs.Requirement.{Requirement, haveItem, missingItem, haveAtc, missingAtc, haveFlag, missingFlag, kind, number}
+use Rattle.model.specs.Limits.{mostItems, wide, half32}
+use Rattle.model.specs.Requirement.{Requirement, haveItem, missingItem, haveAtc, missingAtc, haveFlag, missingFlag, kind, number, isHave}
 use Rattle.shop_codes.specs.declared.Subject.{Subject}
 use Rattle.shop_codes.specs.declared.Subject.the-variants.{Item, Atc, Flag}
 
--- 2 ^ 31
-abbrev pub half : ℕ
-half = 2147483648
-
 -- a number of 32 bits
 abbrev pub InRange : ℤ → Type 0
-InRange z = mag z < half
+InRange z = mag z < half32
 
 -- .. moved up by 2 ^ 31
 abbrev pub shift : ℤ → ℕ
-shift (pos n) = n + half
-shift (negsuc n) = half - suc n
+shift (pos n) = n + half32
+shift (negsuc n) = half32 - suc n
 
 abbrev pub unshift : ℕ → ℤ
-unshift n = cond (ltb n half) (negsuc (half - suc n)) (pos (n - half))
+unshift n = cond (ltb n half32) (negsuc (half32 - suc n)) (pos (n - half32))
 
 abbrev pub codeOf : Requirement → ℕ
 codeOf r = kind r * wide + shift (number r)
@@ -66,12 +62,7 @@ subject (haveFlag f) = haveFlag f
 subject (missingFlag f) = haveFlag f
 
 abbrev pub isMissing : Requirement → Bool
-isMissing (haveItem i) = false
-isMissing (missingItem i) = true
-isMissing (haveAtc a) = false
-isMissing (missingAtc a) = true
-isMissing (haveFlag f) = false
-isMissing (missingFlag f) = true
+isMissing r = not (isHave r)
 
 -- .. as the code holds it
 abbrev pub subjectIs : Subject → Requirement

@@ -8,9 +8,9 @@ use lib.IntN.{ℤ, negsuc, _-ℤ_}
 use mir.Syntax.{w32}
 use mir.Val.{toZ}
 use mir.Facts.{toZ-pos}
-use Rattle.model.specs.Limits.{mostItems, wide}
+use Rattle.model.specs.Limits.{mostItems, wide, half32}
 use Rattle.model.specs.Requirement.{Requirement, haveItem, missingItem, haveAtc, missingAtc, haveFlag, missingFlag, number, negateReq, keep}
-use Rattle.shop_codes.specs.Codes.{half, InRange, unshift, codeOf, idOf, ofKind, requirementOf, Narrow, subject, isMissing, AllNarrow}
+use Rattle.shop_codes.specs.Codes.{InRange, unshift, codeOf, idOf, ofKind, requirementOf, Narrow, subject, isMissing, AllNarrow}
 use Rattle.shop_codes.specs.Laws.{code-narrow}
 use Rattle.model.specs.Laws.Signed.{minus-one}
 
@@ -98,7 +98,7 @@ subject-number (missingFlag f) = refl
 pub subject-low : (c : ℕ) (s : Requirement) → s ≡ subject (requirementOf c) → InRange (number s)
 subject-low c s e = rw (e, subject-number (requirementOf c)) (code-narrow c .fits)
 
-pub turned : (k : ℕ) → k < half → negsuc 0 -ℤ toZ w32 k ≡ negsuc k
+pub turned : (k : ℕ) → k < half32 → negsuc 0 -ℤ toZ w32 k ≡ negsuc k
 turned k h = ap (λ (z : ℤ). negsuc 0 -ℤ z) (toZ-pos w32 h) ∙ minus-one k
 
 -- ---- the Missing of a Have

@@ -11,7 +11,7 @@ use borrow.Author.Tests.{not-true}
 use Rattle.model.specs.Limits.{slotCount}
 use Rattle.model.specs.Save.{Save}
 use Rattle.model.specs.Sheet.{Sheet, all, sheetRefusal}
-use Rattle.model.specs.Requirement.{Requirement, keep, member, negateReq, sameReq, settled, sorted}
+use Rattle.model.specs.Requirement.{Requirement, keep, member, negateReq, sameReq, settled, sorted, isHave}
 use Rattle.model.specs.Shop.{Slot, limitOf, shopRefusal, slotOk, withSlots}
 use Rattle.model.specs.Flags.{reqInside, slotInside}
 use Rattle.model.specs.Normal.{acquiredOf, lone, normal}
@@ -31,7 +31,7 @@ use Rattle.signed_model.specs.Rule.{leftOf, normal-left}
 use Rattle.signed_model.specs.Witness.{Tells}
 use Rattle.signed_model.specs.Places.{First}
 use Rattle.signed_model.specs.Findings as Told
-use Rattle.signed_model.specs.Findings.{faithful, pair, own, outside, checkCall, checkChecks, checkedAs, finding, isHave, settingsFor, verdict}
+use Rattle.signed_model.specs.Findings.{faithful, pair, own, outside, checkCall, checkChecks, checkedAs, finding, settingsFor, verdict}
 use Rattle.signed_model.specs.Told.{Concerned, Right, isApart, isOutside, shownBy, told-right}
 use Rattle.signed_check.specs.Answer.{checkedOf, findingOf, noFinding, verdictOf}
 use Rattle.signed_check.specs.Shops.{slot-passed, with-shop}

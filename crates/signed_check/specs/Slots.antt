@@ -10,7 +10,7 @@ use lib.ListN.{length, take, replicate, length-map}
 use Rattle.model.specs.Limits.{entryLimit}
 use Rattle.model.specs.Sheet as Model
 use Rattle.model.specs.Sheet.{atcFor, sheetOk}
-use Rattle.model.specs.Requirement.{Requirement, haveItem, missingItem, haveAtc, missingAtc, haveFlag, missingFlag, keep, member, negateReq, sameReq, settled, sorted}
+use Rattle.model.specs.Requirement.{Requirement, haveItem, missingItem, haveAtc, missingAtc, haveFlag, missingFlag, keep, member, negateReq, sameReq, settled, sorted, isHave}
 use Rattle.model.specs.Shop.{limitOf, slotOk}
 use Rattle.model.specs.Compile.{acquiredReq}
 use Rattle.model.specs.Flags.{reqInside}
@@ -35,7 +35,7 @@ use Rattle.settings.specs.Codes.{codes-are, lacks-is, negated-code, own-narrow}
 use Rattle.settings.specs.Answer.{settingsOf, item-none, item-some}
 use Rattle.settings.specs.declared.Settings.{Settings}
 use Rattle.signed_model.specs.Findings as Told
-use Rattle.signed_model.specs.Findings.{faithful, pair, own, outside, doubled, finding, firstPlace, isHave, limitFor, listedAs, settingsFor, verdict, verdictFilled}
+use Rattle.signed_model.specs.Findings.{faithful, pair, own, outside, doubled, finding, firstPlace, limitFor, listedAs, settingsFor, verdict, verdictFilled}
 use Rattle.signed_model.specs.Rule.{leftOf, normal-left}
 use Rattle.signed_check.specs.Codes.{concernsCode, leftCode, pick, placeCode, shownCode, verdictCode}
 use Rattle.signed_check.specs.Answer.{findingOf, verdictOf}

@@ -1,5 +1,5 @@
 -- What the people who sign a shop are told of each of its slots before it is compiled: whether what is read back will run the same, if not why and under which save, and what else may surprise them; and the call. Assumes nothing: these are definitions.
-use mathlib.Core.Bool.{Bool, true, false, not, cond}
+use mathlib.Core.Bool.{Bool, not, cond}
 use mathlib.Core.Option.{Option, none, some}
 use mathlib.Core.List.{List, [], _∷_, map}
 use Prim.Native.Nat.{ℕ, zero, suc, _-_}
@@ -8,7 +8,7 @@ use lib.ListN.{length}
 use lib.IntN.{ℤ}
 use Rattle.model.specs.Refusal.{accepted, firstOf}
 use Rattle.model.specs.Sheet.{Sheet, sheetRefusal}
-use Rattle.model.specs.Requirement.{Requirement, haveItem, missingItem, haveAtc, missingAtc, haveFlag, missingFlag, keep, member, negateReq, sameReq, sorted}
+use Rattle.model.specs.Requirement.{Requirement, keep, member, negateReq, sameReq, sorted, isHave}
 use Rattle.model.specs.Shop.{Slot, limitOf, shopRefusal, withSlots}
 use Rattle.model.specs.Flags.{reqInside}
 use Rattle.model.specs.Normal.{acquiredOf, normal}
@@ -50,14 +50,6 @@ unfoldable pub verdict : Sheet → Slot → Verdict
 verdict h x = verdictFor h (x .item) (x .limit) (x .requirements)
 
 -- ---- the save that shows it: these are had, and all else is 0
-
-abbrev pub isHave : Requirement → Bool
-isHave (haveItem i) = true
-isHave (missingItem i) = false
-isHave (haveAtc a) = true
-isHave (missingAtc a) = false
-isHave (haveFlag f) = true
-isHave (missingFlag f) = false
 
 -- qs: what the normal form requires
 abbrev pub settingsFor : Verdict → List Requirement → List Requirement

@@ -10,7 +10,7 @@ use borrow.Author.Tests.{not-false}
 use Rattle.model.specs.Limits.{flagCount}
 use Rattle.model.specs.Save.{Save}
 use Rattle.model.specs.Sheet.{Sheet, all, itemCount}
-use Rattle.model.specs.Requirement.{Requirement, haveItem, haveAtc, haveFlag, keep, member, negateReq, sameReq}
+use Rattle.model.specs.Requirement.{Requirement, haveItem, haveAtc, haveFlag, keep, member, negateReq, sameReq, isHave}
 use Rattle.model.specs.Shop.{Slot, limitOf, slotOk}
 use Rattle.model.specs.Flags.{insideFor, reqInside, slotInside}
 use Rattle.model.specs.Normal.{acquiredOf, normal}
@@ -22,7 +22,7 @@ use Rattle.signed_model.specs.Rule.{rule-faithful}
 use Rattle.signed_model.specs.Witness.{Tells, and-false, witness-tells}
 use Rattle.signed_model.specs.Exact.{faithful-rule, slot-can}
 use Rattle.signed_model.specs.Places.{First, isNone, not-some, place-all, place-first}
-use Rattle.signed_model.specs.Findings.{Verdict, faithful, pair, own, outside, firstPlace, isHave, orElse, settingsFor, verdict, verdictFilled, verdictFor}
+use Rattle.signed_model.specs.Findings.{Verdict, faithful, pair, own, outside, firstPlace, orElse, settingsFor, verdict, verdictFilled, verdictFor}
 
 -- ---- by the answers of the three questions
 

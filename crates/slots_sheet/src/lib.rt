@@ -9,6 +9,7 @@ ghost use Rattle.slots_sheet.specs.Outcome.{noHeading, outcome, readInto
 use image_numbers::Num;
 use image_numbers::read_number;
 use model::ItemId;
+use model::WIDE;
 use shop::Sheet;
 
 // In each answer: a refusal's number, or 0 with what was read and the place after it.
@@ -108,7 +109,7 @@ fn read_within(s: &[u8], at: usize, least: u64, most: u64) -> Entry
     requires { ⌜ most < wide16 ⌝ }
     ensures { λ r. ⌜ ToldEntry (now (s .entry)) at (within least most) r ⌝ }
 {
-    let k = read_number(s, at, 4294967296);
+    let k = read_number(s, at, WIDE);
     match k {
         Num::Got(v, p) => {
             if v < least {
@@ -131,7 +132,7 @@ fn read_within(s: &[u8], at: usize, least: u64, most: u64) -> Entry
 fn read_timer(s: &[u8], at: usize, n: u16, a: u16, b: u16) -> Entry
     ensures { λ r. ⌜ ToldEntry (now (s .entry)) at (timer n a b) r ⌝ }
 {
-    let k = read_number(s, at, 4294967296);
+    let k = read_number(s, at, WIDE);
     match k {
         Num::Got(v, p) => {
             if n as u64 <= v {
@@ -157,7 +158,7 @@ fn read_timer(s: &[u8], at: usize, n: u16, a: u16, b: u16) -> Entry
 fn read_setup(s: &[u8], at: usize) -> Setup
     ensures { λ r. ⌜ ToldSetup (now (s .entry)) at r ⌝ }
 {
-    let k = read_number(s, at, 4294967296);
+    let k = read_number(s, at, WIDE);
     match k {
         Num::Got(v, p) => Setup {
             refusal: 0,

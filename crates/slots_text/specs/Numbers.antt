@@ -9,8 +9,9 @@ use mir.Syntax.{w16, w32}
 use mir.Val.{SFits, toZ, ofZ}
 use mir.Facts.{sfits-widen, toZ-ofZ}
 use lib.ListN.{length-append}
+use Rattle.model.specs.Limits.{half32}
 use Rattle.model.specs.Printer.{digitsTo, decimal, signedDecimal}
-use Rattle.shop_codes.specs.Codes.{half, InRange, shift}
+use Rattle.shop_codes.specs.Codes.{InRange, shift}
 use Rattle.image_numbers.specs.Stored.{Stored, stored-none, stored-on, stored-as}
 use Rattle.slots_text.specs.Written.{textLimit, Space, space-as}
 
@@ -59,12 +60,12 @@ module _ (f n : ℕ) (some : f ≡ 0 → ⊥) where
 -- ---- signs
 
 -- a number moved up by 2 ^ 31: its sign shows in that
-pub signed-low : (z : ℤ) (m : ℕ) → (m ≡ shift z) × InRange z → m < half → signedDecimal z ≡ 45 ∷ decimal (half - m)
+pub signed-low : (z : ℤ) (m : ℕ) → (m ≡ shift z) × InRange z → m < half32 → signedDecimal z ≡ 45 ∷ decimal (half32 - m)
 unfolding signedDecimal
 signed-low (pos n) m e h = absurd (omega (arith, e .0))
-signed-low (negsuc n) m e h = let r : n < half = e .1 in ap (λ (k : ℕ). 45 ∷ decimal k) (omega (arith, e .0))
+signed-low (negsuc n) m e h = let r : n < half32 = e .1 in ap (λ (k : ℕ). 45 ∷ decimal k) (omega (arith, e .0))
 
-pub signed-high : (z : ℤ) (m : ℕ) → (m ≡ shift z) × InRange z → half ≤ m → signedDecimal z ≡ decimal (m - half)
+pub signed-high : (z : ℤ) (m : ℕ) → (m ≡ shift z) × InRange z → half32 ≤ m → signedDecimal z ≡ decimal (m - half32)
 unfolding signedDecimal
 signed-high (pos n) m e h = ap decimal (omega (arith, e .0))
 signed-high (negsuc n) m e h = absurd (omega (arith, e .0))

@@ -11,7 +11,7 @@ use lib.IntN.{ℤ, pos, negsuc}
 use lib.Signed.{mag}
 use mir.Syntax.{Width, w16, w32}
 use mir.ValLaws.{toZ-fits}
-use Rattle.model.specs.Limits.{half16}
+use Rattle.model.specs.Limits.{half16, half32}
 use Rattle.model.specs.Signed.{cut16, inRange, isZero, lowBits, wrap}
 use Rattle.model.specs.Expr.{Expr, two, one, imm16, imm32, other, negate}
 use Rattle.model.specs.declared.Op2.{Op2}
@@ -26,7 +26,7 @@ use Rattle.model.specs.Laws.Checks.{and-left, and-right}
 use Rattle.model.specs.Laws.Normal.{all-insert}
 use Rattle.model.specs.Laws.Signed.{lowBits-under}
 use Rattle.model.specs.Laws.ImageExpr.{FitsExpr}
-use Rattle.text_model.specs.Text.{half32, reqPrintable}
+use Rattle.text_model.specs.Text.{reqPrintable}
 
 pub both : (a b : Bool) → a ≡ true → b ≡ true → a && b ≡ true
 both a b p q = rw (p, q)

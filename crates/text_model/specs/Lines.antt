@@ -11,7 +11,7 @@ use lib.ListN.{length}
 use lib.IntN.{ℤ, pos}
 use lib.Signed.{mag}
 use mir.Syntax.{w16}
-use Rattle.model.specs.Limits.{slotCount, entryLimit, wide16, half16}
+use Rattle.model.specs.Limits.{slotCount, entryLimit, wide16, half16, half32}
 use Rattle.model.specs.Reading.{Answer, got, refused, onward}
 use Rattle.model.specs.Requirement.{Requirement, haveItem, missingItem, haveAtc, missingAtc, haveFlag, missingFlag, number}
 use Rattle.model.specs.Sheet.{all}
@@ -20,7 +20,7 @@ use Rattle.model.specs.Signed.{inRange}
 use Rattle.model.specs.Printer.{decimal, signedDecimal, letter, requirementsText, itemText, slotLine}
 use Rattle.model.specs.Laws.Checks.{and-left, and-right}
 use Rattle.model.specs.Laws.Reading.{along, passed, refused≢got, split}
-use Rattle.text_model.specs.Text.{blankBehind, half32, itemPrintable, noEnd, noItem, noLimit, noRequirement, noSlot, readFlag, readId, readItem, readNatural, readNumber, readRequirement, readRequirements, readSigned, readSlot, reqPrintable, slotPrintable}
+use Rattle.text_model.specs.Text.{blankBehind, itemPrintable, noEnd, noItem, noLimit, noRequirement, noSlot, readFlag, readId, readItem, readNatural, readNumber, readRequirement, readRequirements, readSigned, readSlot, reqPrintable, slotPrintable}
 use Rattle.text_model.specs.Numbers.{NoDigit, natural-printed, natural-took, no-minus, signed-printed, signed-took}
 
 -- ---- what was printed reads back

@@ -7,11 +7,11 @@ use Prim.Native.Nat.{ℕ, zero, suc, _+_, _-_, _*_, _≤_, _<_}
 use native.Mathlib.Omega.{arith}
 use lib.Dec.{ltb, eqb}
 use lib.IntN.{ℤ, pos}
-use Rattle.model.specs.Limits.{slotCount, entryLimit, wide16, half16}
+use Rattle.model.specs.Limits.{slotCount, entryLimit, wide16, half16, half32}
 use Rattle.model.specs.Reading.{Answer, got, refused, onward}
 use Rattle.model.specs.Requirement.{Requirement, haveItem, missingItem, haveAtc, missingAtc, haveFlag, missingFlag}
 use Rattle.model.specs.Shop.{Slot}
-use Rattle.text_model.specs.Text.{ReadText, slots, bad, before, lineThen, blankBehind, half32, isDigit, manyRequirements, moreText, negative, noEnd, noItem, noLimit, noRequirement, noSlot, readDigits, readFlag, readId, readItem, readLines, readNatural, readNumber, readRequirement, readRequirements, readSigned, readSlot, readText}
+use Rattle.text_model.specs.Text.{ReadText, slots, bad, before, lineThen, blankBehind, isDigit, manyRequirements, moreText, negative, noEnd, noItem, noLimit, noRequirement, noSlot, readDigits, readFlag, readId, readItem, readLines, readNatural, readNumber, readRequirement, readRequirements, readSigned, readSlot, readText}
 
 -- why a line is none: a reason before that of text behind the last line
 abbrev pub Reason : ℕ → Type 0

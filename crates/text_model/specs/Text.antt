@@ -7,7 +7,7 @@ use lib.Dec.{ltb, leb, eqb}
 use lib.ListN.{length}
 use lib.IntN.{ℤ, pos, negsuc}
 use mir.Syntax.{w16, w32}
-use Rattle.model.specs.Limits.{slotCount, entryLimit, wide16, half16}
+use Rattle.model.specs.Limits.{slotCount, entryLimit, wide16, half16, half32}
 use Rattle.model.specs.Reading.{Answer, got, refused, onward}
 use Rattle.model.specs.Requirement.{Requirement, haveItem, missingItem, haveAtc, missingAtc, haveFlag, missingFlag, number}
 use Rattle.model.specs.Sheet.{all}
@@ -45,10 +45,6 @@ abbrev pub moreText : ℕ
 moreText = 7
 
 -- ---- numbers in the form that is printed: no 0 in front, and no sign but a minus
-
--- half of 32 bits: a requirement's number lies below it, and a flag's from minus that on
-abbrev pub half32 : ℕ
-half32 = 2147483648
 
 abbrev pub isDigit : ℕ → Bool
 isDigit c = leb 48 c && leb c 57

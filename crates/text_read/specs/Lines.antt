@@ -11,18 +11,18 @@ use lib.Dec.{ltb, eqb}
 use lib.IntN.{ℤ, pos, negsuc}
 use lib.ListN.{length, drop, set, replicate, length-append, length-map}
 use lib.Seq.{set-at, append-snoc}
-use Rattle.model.specs.Limits.{slotCount, entryLimit, wide, wide16, half16}
+use Rattle.model.specs.Limits.{slotCount, entryLimit, wide, wide16, half16, half32}
 use Rattle.model.specs.Reading.{Answer, got, refused, onward}
 use Rattle.model.specs.Requirement.{Requirement, haveItem, missingItem, haveAtc, missingAtc, haveFlag, missingFlag, number}
 use mir.Syntax.{w16}
 use mir.Val.{SFits}
 use Rattle.model.specs.Shop
-use Rattle.shop_codes.specs.Codes.{half, shift, unshift, codeOf, ofKind, requirementOf}
+use Rattle.shop_codes.specs.Codes.{shift, unshift, codeOf, ofKind, requirementOf}
 use Rattle.shop_codes.specs.Laws.{shift-most, unshift-low, unshift-high, unshift-shift}
 use Rattle.image_numbers.specs.Answers.{seen-more, seen-none}
 use Rattle.shop.specs.declared.SlotItem.{SlotItem}
 use Rattle.shop.specs.declared.Slot.{Slot}
-use Rattle.text_model.specs.Text.{readNatural, readSigned, blankBehind, readNumber, readItem, readId, readFlag, readRequirement, readRequirements, readSlot, half32, noSlot, noItem, noLimit, noRequirement, manyRequirements, noEnd}
+use Rattle.text_model.specs.Text.{readNatural, readSigned, blankBehind, readNumber, readItem, readId, readFlag, readRequirement, readRequirements, readSlot, noSlot, noItem, noLimit, noRequirement, manyRequirements, noEnd}
 use Rattle.text_read.specs.Shops.{wordItem, rowFor, slotFor}
 use Rattle.text_read.specs.Told.{ByteAt, here, behind, Is, Other, BlankAt, blank, noBlank, kindFor, Took, Told, took, left, noRead, noRequirements, noLine, Any, IsNumber, IsSigned, IsItem, IsRequirement, AreRequirements}
 use Rattle.text_read.specs.Numbers.{byte-is, byte-other}
@@ -120,7 +120,7 @@ no-letter : readRequirement [] ≡ refused noRequirement
 unfolding readRequirement
 no-letter = refl
 
-code-id : (k n : ℕ) → k ≤ 3 → codeOf (ofKind k (pos n)) ≡ k * wide + (n + half)
+code-id : (k n : ℕ) → k ≤ 3 → codeOf (ofKind k (pos n)) ≡ k * wide + (n + half32)
 code-id zero n h = refl
 code-id (suc zero) n h = refl
 code-id (suc (suc zero)) n h = refl
@@ -166,7 +166,7 @@ module _ (s : List ℕ) (at c k : ℕ) (u : ByteAt s at c) (same : k ≡ kindFor
   pub id-no : k ≤ 3 → (e : ℕ) → readNatural noRequirement half32 (drop (at + 1) s) ≡ refused e → readRequirement (drop at s) ≡ refused e
   id-no h e q = for-id h ∙ rw q
 
-  pub id-took : k ≤ 3 → (v p : ℕ) → Took s (readNatural noRequirement half32 (drop (at + 1) s)) (IsNumber half32 v) p → Told s (readRequirement (drop at s)) (IsRequirement (k * wide + (v + half))) 0 p
+  pub id-took : k ≤ 3 → (v p : ℕ) → Took s (readNatural noRequirement half32 (drop (at + 1) s)) (IsNumber half32 v) p → Told s (readRequirement (drop at s)) (IsRequirement (k * wide + (v + half32))) 0 p
   id-took h v p x = took refl (record { value = ofKind k (pos (x .value)); is = record { same = omega (arith, code-id k (x .value) h, x .is .same) }; read = for-id h ∙ rw (x .read) })
 
   pub flag-no : 3 < k → k ≤ 5 → (e : ℕ) → readSigned noRequirement half32 (drop (at + 1) s) ≡ refused e → readRequirement (drop at s) ≡ refused e
@@ -249,7 +249,7 @@ module _ (s : List ℕ) (at n p : ℕ) (row : List ℕ) (u : Listed s at n p row
 
 -- ---- the line
 
-pub limit-range : {v : ℕ} (z : ℤ) → IsSigned half16 v z → (half ≤ v + half16) × (v < half + half16)
+pub limit-range : {v : ℕ} (z : ℤ) → IsSigned half16 v z → (half32 ≤ v + half16) × (v < half32 + half16)
 limit-range (pos n) i = let e = i .same in let l = i .low in (omega arith, omega arith)
 limit-range (negsuc n) i = let e = i .same in let l = i .low in (omega arith, omega arith)
 
@@ -261,10 +261,10 @@ limit-number m h =
     let n : (4 * wide + m) % wide ≡ m = omega arith in
     rw (k, n)
 
-pub limit-fits : (m : ℕ) → half ≤ m + half16 → m < half + half16 → SFits w16 (unshift m)
-limit-fits m h l = by (decLe half m)
+pub limit-fits : (m : ℕ) → half32 ≤ m + half16 → m < half32 + half16 → SFits w16 (unshift m)
+limit-fits m h l = by (decLe half32 m)
   where
-    by : Dec (half ≤ m) → SFits w16 (unshift m)
+    by : Dec (half32 ≤ m) → SFits w16 (unshift m)
     by (yes q) = rw (unshift-high m q) (record { sfits = omega arith })
     by (no q) = rw (unshift-low m (omega arith)) (record { sfits = omega arith })
 

@@ -10,8 +10,8 @@ use lib.Dec.{leb, ltb, eqb}
 use lib.IntN.{pos, negsuc}
 use lib.ListN.{length, drop, getD, drop-of-length-le}
 use lib.Seq.{drop-cons}
+use Rattle.model.specs.Limits.{half32}
 use Rattle.model.specs.Reading.{Answer, got, refused, onward}
-use Rattle.shop_codes.specs.Codes.{half}
 use Rattle.text_model.specs.Text.{isDigit, readDigits, readNatural, negative, readSigned}
 use Rattle.text_model.specs.Numbers.{is-digit}
 use Rattle.text_read.specs.Told.{ByteAt, here, behind, Is, Other, DigitAt, digit, noDigit, Bound, Took, Told, took, left, noRead, IsNumber, IsSigned}
@@ -152,7 +152,7 @@ module _ (e b : ℕ) where
   signed-other [] h = refl
   signed-other (c ∷ t) h = rw h
 
-module _ (s : List ℕ) (at c e b : ℕ) (low : b ≤ half) (u : ByteAt s at c) where
+module _ (s : List ℕ) (at c e b : ℕ) (low : b ≤ half32) (u : ByteAt s at c) where
   minus : c ≡ 45 → readSigned e b (drop at s) ≡ onward (readNatural e (b + 1) (drop (at + 1) s)) (λ n r. negative e n r)
   minus h = let q = byte-is 45 h (omega arith) u .1 in rw (add-one b, q) (signed-minus e b (drop (at + 1) s))
 
@@ -162,11 +162,11 @@ module _ (s : List ℕ) (at c e b : ℕ) (low : b ≤ half) (u : ByteAt s at c) 
   pub minus-zero : c ≡ 45 → (v p : ℕ) → v ≡ 0 → Took s (readNatural e (b + 1) (drop (at + 1) s)) (IsNumber (b + 1) v) p → readSigned e b (drop at s) ≡ refused e
   minus-zero h v p z x = let q : x .value ≡ 0 = x .is .same ∙ z in minus h ∙ rw (x .read, q)
 
-  minus-got : c ≡ 45 → (v p n : ℕ) → n ≡ v → n < b + 1 → readNatural e (b + 1) (drop (at + 1) s) ≡ got n (drop p s) → (v ≡ 0 → ⊥) → Took s (readSigned e b (drop at s)) (IsSigned b (half - v)) p
+  minus-got : c ≡ 45 → (v p n : ℕ) → n ≡ v → n < b + 1 → readNatural e (b + 1) (drop (at + 1) s) ≡ got n (drop p s) → (v ≡ 0 → ⊥) → Took s (readSigned e b (drop at s)) (IsSigned b (half32 - v)) p
   minus-got h v p zero q l r z = absurd (z (sym q))
   minus-got h v p (suc m) q l r z = record { value = negsuc m; is = record { same = omega arith; low = omega arith }; read = minus h ∙ rw r }
 
-  pub minus-took : c ≡ 45 → (v p : ℕ) → (v ≡ 0 → ⊥) → Took s (readNatural e (b + 1) (drop (at + 1) s)) (IsNumber (b + 1) v) p → Told s (readSigned e b (drop at s)) (IsSigned b (half - v)) 0 p
+  pub minus-took : c ≡ 45 → (v p : ℕ) → (v ≡ 0 → ⊥) → Took s (readNatural e (b + 1) (drop (at + 1) s)) (IsNumber (b + 1) v) p → Told s (readSigned e b (drop at s)) (IsSigned b (half32 - v)) 0 p
   minus-took h v p z x = took refl (minus-got h v p (x .value) (x .is .same) (x .is .low) (x .read) z)
 
   plus : (c ≡ 45 → ⊥) → readSigned e b (drop at s) ≡ onward (readNatural e b (drop at s)) (λ n r. got (pos n) r)
@@ -175,5 +175,5 @@ module _ (s : List ℕ) (at c e b : ℕ) (low : b ≤ half) (u : ByteAt s at c) 
   pub plus-no : (c ≡ 45 → ⊥) → (k : ℕ) → readNatural e b (drop at s) ≡ refused k → readSigned e b (drop at s) ≡ refused k
   plus-no h k q = plus h ∙ rw q
 
-  pub plus-took : (c ≡ 45 → ⊥) → (v p : ℕ) → Took s (readNatural e b (drop at s)) (IsNumber b v) p → Told s (readSigned e b (drop at s)) (IsSigned b (half + v)) 0 p
+  pub plus-took : (c ≡ 45 → ⊥) → (v p : ℕ) → Took s (readNatural e b (drop at s)) (IsNumber b v) p → Told s (readSigned e b (drop at s)) (IsSigned b (half32 + v)) 0 p
   plus-took h v p x = took refl (record { value = pos (x .value); is = record { same = omega (arith, x .is .same); low = x .is .low }; read = plus h ∙ rw (x .read) })

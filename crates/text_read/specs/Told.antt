@@ -8,11 +8,11 @@ use lib.Dec.{eqb}
 use lib.IntN.{ℤ}
 use lib.ListN.{length, drop, replicate}
 use lib.Signed.{mag}
-use Rattle.model.specs.Limits.{entryLimit, wide16}
+use Rattle.model.specs.Limits.{entryLimit, wide16, half32}
 use Rattle.model.specs.Reading.{Answer, got, refused}
 use Rattle.model.specs.Requirement.{Requirement}
 use Rattle.model.specs.Shop
-use Rattle.shop_codes.specs.Codes.{half, shift, codeOf}
+use Rattle.shop_codes.specs.Codes.{shift, codeOf}
 use Rattle.shop.specs.Shapes.{noSlot, noShop}
 use Rattle.text_model.specs.Text.{isDigit}
 use Rattle.text_read.specs.Shops.{itemFor, wordItem, rowFor, slotFor}
@@ -71,7 +71,7 @@ kindFor c = cond (eqb c 73) 0 (cond (eqb c 105) 1 (cond (eqb c 65) 2 (cond (eqb 
 pub record Bound (e b : ℕ) : Type 0 where
   pub some : 0 < e
   pub least : 10 ≤ b
-  pub most : b ≤ half + 1
+  pub most : b ≤ half32 + 1
 
 pub record Took {A : Type 0} (s : List ℕ) (a : Answer A) (P : A → Type 0) (p : ℕ) : Type 0 where
   pub value : A

@@ -2,8 +2,8 @@
 ghost use mathlib.Core.Path.{_≡_};
 ghost use Prim.Native.Nat.{_+_, _≤_, _<_};
 ghost use lib.ListN.{drop};
-ghost use Rattle.model.specs.Limits.{entryLimit, half16, wide16};
-ghost use Rattle.shop_codes.specs.Codes.{half, unshift};
+ghost use Rattle.model.specs.Limits.{entryLimit, half16, wide16, half32};
+ghost use Rattle.shop_codes.specs.Codes.{unshift};
 ghost use Rattle.text_model.specs.Text.{readNatural, readSigned, readNumber, readItem, blankBehind, readRequirement, readRequirements, readSlot, readText, noSlot, noItem};
 ghost use Rattle.text_read.specs.Told.{ByteAt, DigitAt, BlankAt, Bound, kindFor, noRead, noRequirements, noLine, noText, ToldNumber, ToldSigned, ToldStart, ToldItem, ToldRequirement, ToldRequirements, ToldLine};
 ghost use Rattle.text_read.specs.Shops.{textShop, wordItem};
@@ -200,7 +200,7 @@ fn read_natural(s: &[u8], at: usize, bound: u64, e: u8) -> Read
 
 // From minus the bound to below it; the value is moved up by 2^31, as in a code.
 fn read_signed(s: &[u8], at: usize, bound: u64, e: u8) -> Read
-    requires { ⌜ Bound e bound × (bound ≤ half) ⌝ }
+    requires { ⌜ Bound e bound × (bound ≤ half32) ⌝ }
     ensures { λ r. ⌜ ToldSigned (now (s .entry)) (readSigned e bound (drop at (now (s .entry)))) bound r ⌝ }
 {
     let c = byte_at(s, at);
@@ -274,7 +274,7 @@ fn item_of(word: u64) -> SlotItem
 
 // A limit that was moved up: the number of a flag's code.
 fn limit_of(m: u64) -> i16
-    requires { ⌜ (half ≤ m + half16) × (m < half + half16) ⌝ }
+    requires { ⌜ (half32 ≤ m + half16) × (m < half32 + half16) ⌝ }
     ensures { λ r. ⌜ r ≡ unshift m ⌝ }
 {
     number_of(HAVE_FLAG + m) as i16

@@ -12,7 +12,7 @@ use lib.Dec.{ltb}
 use borrow.Author.Tests.{le-ltb}
 use lib.IntN.{ℤ, pos, negsuc, _-ℤ_}
 use lib.Signed.{ltZ, mag}
-use Rattle.model.specs.Limits.{mostHeld, mostStock, countFirst, itemFirst}
+use Rattle.model.specs.Limits.{mostHeld, mostStock, countFirst, itemFirst, half32}
 use Rattle.model.specs.Signed.{b2z, clamp, isZero}
 use Rattle.model.specs.Save.{Save}
 use Rattle.model.specs.Expr.{Expr, Joins, imm16, ok}
@@ -184,11 +184,11 @@ module _ (bs : List Block) (s : Save) (i e w l : ℕ) (v : List ℤ) (some-var :
 
 -- ---- the subtraction does not wrap
 
-small : (l n : ℕ) → l ≤ mostStock → n ≤ mostHeld → mag (pos l -ℤ pos n) < 2147483648
+small : (l n : ℕ) → l ≤ mostStock → n ≤ mostHeld → mag (pos l -ℤ pos n) < half32
 small l zero p q = omega arith
 small l (suc n) p q = pick (ltb l (suc n))
   where
-    pick : (b : Bool) → mag (cond b (negsuc (suc n - suc l)) (pos (l - suc n))) < 2147483648
+    pick : (b : Bool) → mag (cond b (negsuc (suc n - suc l)) (pos (l - suc n))) < half32
     pick true = omega arith
     pick false = omega arith
 
