@@ -1,7 +1,7 @@
 use denote.Ref.{now}
 use mathlib.Core.Path.{_≡_}
 use Prim.Native.Nat.{_+_, _-_, _≤_, _<_}
-use Rattle.model.specs.Limits.{entryLimit}
+use Rattle.model.specs.Limits.{entryLimit, nodeLimit}
 use lib.ListN.{length, getD}
 use native.Mathlib.Omega.{arith}
 use borrow.Author.Needs.{needs}
@@ -38,7 +38,7 @@ all-there c = c .before .before .before .before .before .capacity .ensures .0
 
 -- there is room for one more test, since there is for all
 room : (c : tie.At-loop Inv-loop μ-loop) → c .loop .i < c .before .before .before .before .before .before .args .len
-    → c .loop .at + size (test (requirementOf (getD (c .before .before .before .before .before .before .args .codes .now) (c .loop .i) 0))) + 1 ≤ 32768
+    → c .loop .at + size (test (requirementOf (getD (c .before .before .before .before .before .before .args .codes .now) (c .loop .i) 0))) + 1 ≤ nodeLimit
 room c h =
     let a = c .before .before .before .before .before .before .args in
     let r = joined-room (test (requirementOf (getD (a .codes .now) 0 0))) (a .codes .now) (c .loop .i) (a .len) (c .loop .inv .1) (omega (arith, all-there c, c .before .before .before .before .before .before .pre .0)) h in

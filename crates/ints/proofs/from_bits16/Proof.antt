@@ -4,12 +4,13 @@ use mir.Syntax.{w16, w32}
 use mir.Val.{toZ}
 use mir.Facts.{sfits-toZ}
 use borrow.Author.Needs.{needs}
+use Rattle.model.specs.Limits.{wide16}
 use Rattle.ints.specs.Bits.{upper-half}
 use Rattle.ints.proofs.Trip.{Narrow, narrow}
 use Rattle.ints.proofs.from_bits16.Statement.{statement}
 use Rattle.ints.proofs.from_bits16.Tie as tie
 
-upper : (c : tie.Else1) → Narrow w32 w16 (toZ w32 (c .before .args .x) -ℤ pos 65536) (toZ w16 (c .before .args .x))
+upper : (c : tie.Else1) → Narrow w32 w16 (toZ w32 (c .before .args .x) -ℤ pos wide16) (toZ w16 (c .before .args .x))
 upper c = narrow w32 w16 tt (upper-half w32 w16 (c .before .args .x) tt (c .if1 .left) (c .before .fits .x .fits)) (sfits-toZ (c .before .fits .x))
 
 sub-result : tie.Need-sub-result

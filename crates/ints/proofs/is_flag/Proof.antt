@@ -9,6 +9,7 @@ use mir.Facts.{toZ-ofZ}
 use native.Mathlib.Omega.{arith}
 use borrow.Author.Tests.{ltb-true}
 use borrow.Author.Needs.{needs}
+use Rattle.model.specs.Limits.{flagCount}
 use Rattle.model.specs.Save.{flagInside}
 use Rattle.ints.proofs.is_flag.Statement.{statement}
 use Rattle.ints.proofs.is_flag.Tie as tie
@@ -17,7 +18,7 @@ negative : (x : ℤ) → ltZ x (pos 0) ≡ true → false ≡ flagInside x
 negative (pos n) h = let l = ltb-true n 0 h in absurd (omega arith)
 negative (negsuc n) h = refl
 
-natural : (x : ℤ) → ltZ x (pos 0) ≡ false → ltZ x (pos 2048) ≡ flagInside x
+natural : (x : ℤ) → ltZ x (pos 0) ≡ false → ltZ x (pos flagCount) ≡ flagInside x
 natural (pos n) h = refl
 natural (negsuc n) h = absurd (subst T h tt)
 
