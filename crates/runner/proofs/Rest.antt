@@ -14,6 +14,8 @@ use Rattle.model.specs.Run.{Outcome, next, done, halt, follow, store, orHalt, e
 use Rattle.expr.specs.Value.{reads, eval-rest}
 use Rattle.model.specs.declared.BlockNo.{BlockNo}
 use Rattle.runner.specs.Steps.{outcomeOf}
+use Rattle.runner.specs.RunIn.{ranOf}
+use Rattle.runner.specs.declared.Ran as code
 use Rattle.runner.specs.declared.Step.{Step}
 use Rattle.runner.specs.declared.Step.the-variants.{Next, Done, Halt}
 
@@ -80,6 +82,10 @@ module _ (s : Save) where
 -- n blocks more than r has
 abbrev pub plus : ℕ → Ran → Ran
 plus n r = record { answer = r .answer; variables = r .variables; entered = n + r .entered }
+
+-- what the code answers is what it was made of
+pub answers : {r : code.Ran} {n k : ℕ} {v : List ℤ} {x : Ran} → r ≡ record { refusal = n; entered = k } → _≡_ {A = Ran} (record { answer = n; variables = v; entered = k }) x → ranOf r v ≡ x
+answers {v = v} e p = ap (λ (y : code.Ran). ranOf y v) e ∙ p
 
 -- n blocks were entered, which led to block b and brought the variables from v₀ to v
 pub record Entered (bs : List Block) (s : Save) (budget b₀ : ℕ) (v₀ : List ℤ) (n b : ℕ) (v : List ℤ) : Type 0 where

@@ -48,6 +48,15 @@ pub struct Ran {
     pub entered: u32,
 }
 
+fn ended(refusal: u8, entered: u32) -> Ran
+    ensures { λ r. ⌜ r ≡ record { refusal = refusal; entered = entered } ⌝ }
+{
+    Ran {
+        refusal: refusal,
+        entered: entered,
+    }
+}
+
 // ---- commands
 
 // A write outside the save does nothing.
@@ -122,7 +131,7 @@ fn set_variable(
 fn if_else(
     ws: &NodeWords,
     val: &Values,
-    condition: u16,
+    test: u16,
     other: BlockNo,
     link: Link,
     items: &[i16],
@@ -130,29 +139,19 @@ fn if_else(
     flags: &[u8],
     times: &[i16],
     vars: &[i32; 1024],
-) -> Step
-    requires { ⌜ condition < nodeLimit ⌝ }
-    ensures { λ r. ⌜ ((n : ℕ) → Flows (reads (now (items .entry)) (now (atcs .entry)) (now (flags .entry)) (now (times .entry))) (linkIn (link .0)) (ifElse (tree (nodesIn (now (ws .entry)) (now (val .entry)) n) condition) (other .0)) (now (vars .entry)) (Flow.Out r) (now (vars .entry))) ⌝ }
+) -> Flow
+    requires { ⌜ test < nodeLimit ⌝ }
+    ensures { λ r. ⌜ ((n : ℕ) → Flows (reads (now (items .entry)) (now (atcs .entry)) (now (flags .entry)) (now (times .entry))) (linkIn (link .0)) (ifElse (tree (nodesIn (now (ws .entry)) (now (val .entry)) n) test) (other .0)) (now (vars .entry)) r (now (vars .entry))) ⌝ }
 {
-    let t = evaluate(
-        ws,
-        val,
-        condition + 1,
-        condition,
-        items,
-        atcs,
-        flags,
-        times,
-        vars,
-    );
+    let t = evaluate(ws, val, test + 1, test, items, atcs, flags, times, vars);
     match t {
         Value::Is(x) => {
             if x == 0 {
-                return Step::Next(other);
+                return Flow::Out(Step::Next(other));
             }
-            follow_link(link)
+            Flow::Out(follow_link(link))
         }
-        Value::Refused(n) => Step::Halt(n),
+        Value::Refused(n) => Flow::Out(Step::Halt(n)),
     }
 }
 
@@ -177,29 +176,18 @@ fn command(
     let first = cw[4 * at + 1];
     let second = cw[4 * at + 2];
     let block = cw[4 * at + 3];
-    let target = block_no(block);
+    let to = block_no(block);
     match kind {
         0 => Flow::Out(Step::Done),
-        1 => Flow::Out(Step::Next(target)),
+        1 => Flow::Out(Step::Next(to)),
         2 => {
             if block != 0 {
                 return Flow::Out(Step::Halt(13));
             }
             set_variable(ws, val, first, second, items, atcs, flags, times, vars)
         }
-        3 => Flow::Out(if_else(
-            ws,
-            val,
-            first,
-            target,
-            link,
-            items,
-            atcs,
-            flags,
-            times,
-            vars,
-        )),
-        4 => Flow::Out(Step::Next(target)),
+        3 => if_else(ws, val, first, to, link, items, atcs, flags, times, vars),
+        4 => Flow::Out(Step::Next(to)),
         _ => Flow::Out(Step::Halt(13)),
     }
 }
@@ -225,18 +213,8 @@ fn execute_block(
 {
     let mut i = 0;
     while i < many {
-        let f = command(
-            ws,
-            val,
-            cw,
-            first + i,
-            link,
-            items,
-            atcs,
-            flags,
-            times,
-            vars,
-        );
+        let c = first + i;
+        let f = command(ws, val, cw, c, link, items, atcs, flags, times, vars);
         match f {
             Flow::On => {
                 i += 1;
@@ -275,22 +253,10 @@ fn step_block(
     if kind != 1 {
         return Step::Halt(13);
     }
-    let first = bw[5 * at + 1];
+    let c = bw[5 * at + 1];
     let many = bw[5 * at + 2];
-    let link = bw[5 * at + 3];
-    execute_block(
-        ws,
-        val,
-        cw,
-        first,
-        many,
-        Link(link),
-        items,
-        atcs,
-        flags,
-        times,
-        vars,
-    )
+    let link = Link(bw[5 * at + 3]);
+    execute_block(ws, val, cw, c, many, link, items, atcs, flags, times, vars)
 }
 
 // Block after block. Entering one of any kind costs 1, counts 1 and needs budget left.
@@ -321,23 +287,14 @@ fn run_blocks(
                 b = k;
             }
             Step::Done => {
-                return Ran {
-                    refusal: 0,
-                    entered: entered,
-                };
+                return ended(0, entered);
             }
             Step::Halt(r) => {
-                return Ran {
-                    refusal: r,
-                    entered: entered,
-                };
+                return ended(r, entered);
             }
         }
     }
-    Ran {
-        refusal: 15,
-        entered: entered,
-    }
+    ended(15, entered)
 }
 
 // ---- the call
@@ -422,30 +379,21 @@ pub fn run(
     ensures { λ r. ⌜ ranOf r (now (vars .exit)) ≡ runIn (sheetOf (now (attached .entry)) sheet) (memoryOf (now (ws .entry)) (now (val .entry)) (now (cw .entry)) (now (bw .entry)) counts) (start .0) (saveOf (now (items .entry)) (now (atcs .entry)) (now (flags .entry)) (now (times .entry)) (now (vars .entry))) budget ⌝ }
 {
     let refused = check_call(attached, sheet, ws, val, cw, bw, counts, start);
-    if refused != 0 {
-        return Ran {
-            refusal: refused,
-            entered: 0,
-        };
+    if refused == 0 && check_save(attached, sheet, items, atcs, flags, times, vars) {
+        return run_copied(
+            ws,
+            val,
+            cw,
+            bw,
+            counts,
+            start,
+            items,
+            atcs,
+            flags,
+            times,
+            vars,
+            budget,
+        );
     }
-    if !check_save(attached, sheet, items, atcs, flags, times, vars) {
-        return Ran {
-            refusal: 12,
-            entered: 0,
-        };
-    }
-    run_copied(
-        ws,
-        val,
-        cw,
-        bw,
-        counts,
-        start,
-        items,
-        atcs,
-        flags,
-        times,
-        vars,
-        budget,
-    )
+    ended(if refused == 0 { 12 } else { refused }, 0)
 }

@@ -17,8 +17,8 @@ abbrev μ-loop : tie.MeasureT-loop
 loop-holds : tie.Need-loop-holds Inv-loop μ-loop
 loop-holds c = none-passed _ _ _ _ _ _ _ _
 
-add-command : tie.Need-add-command Inv-loop μ-loop
-add-command c = omega (arith, (c .before .before .before .before .pre (c .before .before .before .before .args .first + c .before .loop .i) (omega arith) (omega arith)) .low)
+add-c : tie.Need-add-c Inv-loop μ-loop
+add-c c = omega (arith, (c .before .before .before .before .pre (c .before .before .before .before .args .first + c .before .loop .i) (omega arith) (omega arith)) .low)
 
 command-requires : tie.Need-command-requires Inv-loop μ-loop
 command-requires c κs = c .before .before .before .before .before .pre (c .before .before .before .before .before .args .first + c .before .before .loop .i) (omega arith) (omega arith)
@@ -43,7 +43,7 @@ execute-block-spec =
     Inv-loop
     μ-loop
     loop-holds
-    add-command
+    add-c
     command-requires
     (λ c. search needs)
     (λ c. search needs)
