@@ -314,15 +314,8 @@ pub fn edit_arrays(
 {
     let place = place_for(field, slot);
     let content = slot_by(item, limit, entries, len);
-    let refusal = refusal_of(
-        attached,
-        sheet,
-        rights,
-        user,
-        place,
-        field_from(field),
-        content,
-    );
+    let kind = field_from(field);
+    let refusal = refusal_of(attached, sheet, rights, user, place, kind, content);
     if refusal != 0 {
         return refusal;
     }
