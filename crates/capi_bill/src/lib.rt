@@ -5,16 +5,10 @@ ghost use Rattle.bill_model.specs.Sorting.{billByItem};
 ghost use Rattle.tariff.specs.Prices.{tariffOf};
 ghost use Rattle.bill.specs.Billed.{BilledAs};
 ghost use Rattle.capi_values.specs.Values.{sheetBy};
+use bill::Billed;
 use bill::bill;
 use capi_values::sheet_by;
 use shop::SLOTS;
-
-// The refusal or 0, and the total of the bill, 0 where it is refused.
-#[repr(C)]
-pub struct Billed {
-    pub refusal: u8,
-    pub total: u64,
-}
 
 // The bill of the save that a run left: item, slot and coins of its twenty lines, in the order of the items. Refused, the three arrays stay as they were.
 #[no_mangle]
@@ -39,7 +33,7 @@ pub extern "C" fn lk_bill(
     ensures { λ r. ⌜ BilledAs (billByItem (sheetOf (now (attached .entry)) (sheetBy atcs timer5 timer10 timer15)) (saveOf (now (items .entry)) (now (held .entry)) (now (flags .entry)) (now (times .entry)) (now (vars .entry))) (tariffOf (now (prices .entry)) discount) (now (basket .entry))) (r .refusal) (r .total) (now («to_items» .entry)) (now («to_items» .exit)) (now («to_slots» .entry)) (now («to_slots» .exit)) (now («to_coins» .entry)) (now («to_coins» .exit)) ⌝ }
 {
     let sheet = sheet_by(atcs, timer5, timer10, timer15);
-    let r = bill(
+    bill(
         attached,
         sheet,
         items,
@@ -53,9 +47,5 @@ pub extern "C" fn lk_bill(
         to_items,
         to_slots,
         to_coins,
-    );
-    Billed {
-        refusal: r.refusal,
-        total: r.total,
-    }
+    )
 }
