@@ -63,16 +63,13 @@ fn judge_expr(
     if depth >= 64 {
         return Step::No(4);
     }
-    let k = kind_of(c);
-    match k {
-        Kind::Two(_) => {
-            let a = judge_expr(ws, val, i, ws[3 * j + 1], n + 1, at + 1, limit, depth + 1);
-            match a {
-                Step::Fine(m, p) => judge_expr(ws, val, i, ws[3 * j + 2], m, p, limit, depth + 1),
-                Step::No(e) => Step::No(e),
-            }
-        }
-        Kind::One(_) => judge_expr(ws, val, i, ws[3 * j + 1], n + 1, at + 1, limit, depth + 1),
+    let deeper = depth + 1;
+    match kind_of(c) {
+        Kind::Two(_) => match judge_expr(ws, val, i, ws[3 * j + 1], n + 1, at + 1, limit, deeper) {
+            Step::Fine(m, p) => judge_expr(ws, val, i, ws[3 * j + 2], m, p, limit, deeper),
+            Step::No(e) => Step::No(e),
+        },
+        Kind::One(_) => judge_expr(ws, val, i, ws[3 * j + 1], n + 1, at + 1, limit, deeper),
         Kind::Imm16 => judge_imm(val[j], WIDE16, n + 1, at + 1),
         Kind::Imm32 => judge_imm(val[j], 4294967296, n + 1, at + 1),
         Kind::Other => Step::Fine(n + 1, at + 1),

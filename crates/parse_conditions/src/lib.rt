@@ -77,18 +77,8 @@ fn read_leaf(
     ensures { λ s. ⌜ ReadCondition (now (ws .entry)) (now (val .entry)) known b i (λ h e. alone h e neg) r (now (keys .entry)) (now (list .entry)) (now (keys .exit)) (now (kids .exit)) (now (companions .exit)) (now (list .exit)) s ⌝ }
 {
     let at = (r % PLACES) as usize;
-    let w = read_entry(
-        ws,
-        val,
-        keys,
-        kids,
-        companions,
-        known,
-        (r / PLACES) as u16,
-        b,
-        i,
-        neg,
-    );
+    let count = (r / PLACES) as u16;
+    let w = read_entry(ws, val, keys, kids, companions, known, count, b, i, neg);
     if w.word == 0 {
         return r;
     }

@@ -53,25 +53,23 @@ judge-expr-judge-expr-requires-2 t c κs = (
   omega (
     arith,
     c .before .before .before .before .before .before .before .before .before .before .before .before .before .if1 .left,
-    c .before .before .before .before .before .before
-        .before .before .before .before .before .before .before .before .pre .0,
+    c .before .before .before .before .before .before .before .before .before .before .before .before .before .before .pre .0,
   ),
   record {
     low = omega (
       arith,
       c .before .before .before .before .before .before .before .before .before .before .before .before .before .if1 .left,
-      c .before .before .before .before .before .before .before .before .before .before .before
-          .before .before .before .pre .1 .low,
+      c .before .before .before .before .before .before .before .before .before .before .before .before .before .before .pre .1 .low,
     );
     limit = c .before .before .before .before .before .before .before .before .before .before .before .before .before .before .pre .1 .limit;
     levels = omega
         (arith, c .before .before .before .before .before .before .before .before .before .if4 .left);
-    few = good-of (c .before .before .before .before .judge-expr .ensures) (c .before .before .a .given .1) .low;
+    few = good-of (c .before .before .before .before .judge-expr .ensures) (c .before .before .m .given .1) .low;
     soon = omega (
       arith,
       c .before .before .before .before .before .before .before .before .before .before .before .before .before .before .pre .1 .soon,
       good-of (c .before .before .before .before .judge-expr .ensures)
-          (c .before .before .a .given .1) .short,
+          (c .before .before .m .given .1) .short,
     );
   },
 )
@@ -91,14 +89,12 @@ judge-expr-returns-5 t c = node-two (nodesIn (c .before .before .before .before 
     (c .before .before .before .before .before .before .before .before .before .before .before .before .before .before .before .args .depth) (c .before .before .before .before .before .before .before .before .before .kind-of .result)
     (record {
       below = c .before .before .before .before .before .before .before .before .before .before .before .before .before .before .if1 .left;
-      known = c .before .before .before .before .before .before .before .before .before
-          .before .before .before .if2 .left;
+      known = c .before .before .before .before .before .before .before .before .before .before .before .before .if2 .left;
       room = c .before .before .before .before .before .before .before .before .before .before .before .if3 .left;
-      levels = c .before .before .before .before .before .before .before .before .before
-          .before .if4 .left;
+      levels = c .before .before .before .before .before .before .before .before .before .before .if4 .left;
       kind = c .before .before .before .before .before .before .before .before .before .kind-of .ensures;
     }) _ (c .before .before .before .before .before .before .before .enum-told .given .1)
-    (c .before .before .before .before .before .judge-expr .ensures) (c .before .before .before .a .given .1) (c .judge-expr2 .ensures)
+    (c .before .before .before .before .before .judge-expr .ensures) (c .before .before .before .m .given .1) (c .judge-expr2 .ensures)
 
 judge-expr-returns-6 : (t : ℕ) → judge-expr-lts.Need-returns-6 (judge-expr-claims t) (judge-expr-at t) judge-expr.Post
 judge-expr-returns-6 t c = node-two-no (nodesIn (c .before .before .before .before .before .before .before .before .before .before .before .before .before .args .ws .now)
@@ -114,9 +110,8 @@ judge-expr-returns-6 t c = node-two-no (nodesIn (c .before .before .before .befo
       room =
           c .before .before .before .before .before .before .before .before .before .if3 .left;
       levels = c .before .before .before .before .before .before .before .before .if4 .left;
-      kind = c .before .before .before .before .before .before
-          .before .kind-of .ensures;
-    }) _ (c .before .before .before .before .before .enum-told .given .1) (c .before .before .before .judge-expr .ensures) (c .before .a2 .given .1)
+      kind = c .before .before .before .before .before .before .before .kind-of .ensures;
+    }) _ (c .before .before .before .before .before .enum-told .given .1) (c .before .before .before .judge-expr .ensures) (c .before .e .given .1)
 
 judge-expr-returns-7 : (t : ℕ) → judge-expr-lts.Need-returns-7 (judge-expr-claims t) (judge-expr-at t) judge-expr.Post
 judge-expr-returns-7 t c = node-one (nodesIn (c .before .before .before .before .before .before .before .before .before .before .args .ws .now)
@@ -172,8 +167,7 @@ judge-expr-returns-10 t c = node-other (nodesIn (c .before .before .before .befo
       below = c .before .before .before .before .before .before .before .if1 .left;
       known = c .before .before .before .before .before .if2 .left;
       room = c .before .before .before .before .if3 .left;
-      levels = c .before .before
-          .before .if4 .left;
+      levels = c .before .before .before .if4 .left;
       kind = c .before .before .kind-of .ensures;
     }) (c .enum-told5 .given .1)
 
@@ -188,8 +182,8 @@ pub +judge-expr-spec : {M : Type 1} → statement M
     (judge-expr-returns-2 t)
     (judge-expr-returns-3 t)
     (judge-expr-returns-4 t)
-    (λ c κs. search needs)
     (λ c. search needs)
+    (λ c κs. search needs)
     (λ c. search needs)
     (λ c. search needs)
     (λ c. search needs)
@@ -203,9 +197,7 @@ pub +judge-expr-spec : {M : Type 1} → statement M
     (λ c. search needs)
     (λ c. search needs)
     (λ c. search needs)
-    (λ c. search needs)
     (judge-expr-judge-expr-requires-2 t)
-    (λ c. search needs)
     (λ c. search needs)
     (λ c. search needs)
     (λ c. search needs)
