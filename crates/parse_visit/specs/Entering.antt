@@ -129,13 +129,12 @@ module _ {m : Memory} {x : Shop} {w : Walk} {b c : ℕ} (o : Open m x w b c) whe
           lowElse = g .lowElse there;
         }
 
-    pub visits : (n : ℕ) (ks' kd' cs' ls' cells' : List ℕ) (v : Visited) → n ≡ m .coded .nodes .count
-        → GoesOn (m .coded .nodes .words) (m .coded .nodes .values) n known (t .keys) (t .kids) (t .companions) (t .list) (t .cells) w1 c (s .«last_if») ks' kd' cs' ls' cells' v
+    pub visits : (ks' kd' cs' ls' cells' : List ℕ) (v : Visited)
+        → GoesOn (m .coded .nodes .words) (m .coded .nodes .values) (m .coded .nodes .count) known (t .keys) (t .kids) (t .companions) (t .list) (t .cells) w1 c (s .«last_if») ks' kd' cs' ls' cells' v
         → v .next .0 ≡ blockWord m b 3 → v .other .0 ≡ blockWord m b 4
         → Leaves m known t marks x w b c f (storedIn ks' kd' cs' ls' seen′ alive′ cells') (set marks b true) x′ v
-    visits n ks' kd' cs' ls' cells' v e g nx el =
-        let r : Left (m .coded .nodes) known t1 w1 c (s .«last_if») f (storedIn ks' kd' cs' ls' seen′ alive′ cells') v =
-        (rw e at g) seen′ alive′ f hold1 (o .low) in
+    visits ks' kd' cs' ls' cells' v g nx el =
+        let r : Left (m .coded .nodes) known t1 w1 c (s .«last_if») f (storedIn ks' kd' cs' ls' seen′ alive′ cells') v = g seen′ alive′ f hold1 (o .low) in
         record {
           conditions = r .conditions;
           holding = r .holding;

@@ -7,7 +7,7 @@ use Prim.Native.Nat.{ℕ, _*_, _≤_, _<_, max}
 use native.Mathlib.Omega.{arith}
 use lib.IntN.{ℤ}
 use lib.ListN.{length, length-map}
-use Rattle.model.specs.Limits.{blockLimit, slotCount}
+use Rattle.model.specs.Limits.{blockLimit}
 use Rattle.model.specs.Expr.{Expr}
 use Rattle.model.specs.Requirement.{Requirement, settled, extend}
 use Rattle.model.specs.Sheet.{Sheet, itemCount, all}
@@ -29,10 +29,9 @@ use Rattle.parse_filter.specs.Filter.{negatedCodes, Holds}
 use Rattle.parse_filter.specs.Frames.{entries-valid}
 use Rattle.parse_filter.specs.Marks.{MarkedAs}
 use Rattle.parse_filter.specs.Negations.{inserted-codes, inserted-narrow}
-use Rattle.parse_filter.specs.declared.Filtered.{Filtered}
+use Rattle.parse_filter.specs.declared.Marked.{Marked}
 use Rattle.parse_scan.specs.Slots.{Stands}
-use Rattle.parse_scan.specs.Table.{tableOf}
-use Rattle.parse_scan.specs.AllSlots.{slotsThen, UpdatedBy, SlotsUpdated}
+use Rattle.parse_scan.specs.AllSlots.{slotsThen, UpdatedBy}
 use Rattle.parse_visit.specs.Entries.{reads-map}
 use Rattle.parse_visit.specs.State.{Stored, storedIn, gatheredOf, Holding}
 use Rattle.parse_visit.specs.declared.Walk.{Walk}
@@ -48,7 +47,7 @@ pub moved-by : {h : Sheet} {rs : List Requirement} {shop : Shop} {ms ns : List (
 moved-by {u = true} v = record { answer = rw (sym (v .ok)); slots = λ q. v .is refl; good = λ q. v .good refl }
 moved-by {u = false} v = record { answer = rw (sym (v .ok)); slots = λ q. absurd (omega arith); good = λ q. absurd (omega arith) }
 
-pub refusal-low : (u : Bool) → cond u 0 parseTooMany ≤ parseTooMany
+refusal-low : (u : Bool) → cond u 0 parseTooMany ≤ parseTooMany
 refusal-low true = omega arith
 refusal-low false = omega arith
 
@@ -56,19 +55,23 @@ refusal-low false = omega arith
 abbrev pub Means : List ℕ → List ℕ → List ℕ → List ℕ → ℕ → List Requirement → Type 0
 Means ks cs cells list c rs = (codes : List ℕ) (n : ℕ) → Holds (negatedCodes ks cs (entriesIn cs cells list c)) codes n → Stands codes n rs
 
--- the codes, asked for where the block hides a slot: ms are the items that it wrote, mask says which counts
-pub record Under (ks cs cells list : List ℕ) (c first : ℕ) (ms : List (Option ℤ)) (mask : ℕ) (seen : List Bool) (alive more : List ℕ) (r : Filtered) : Type 0 where
-  pub marked : MarkedAs cs cells list seen alive (r .marked)
-  pub most : r .marked .first ≤ max first c
-  pub updated : (shop : Shop) (known : ℕ) (counts : List ℤ) (u : Bool) (out : Shop) → length counts ≡ slotCount → SlotsUpdated shop known ms (tableOf mask counts) more (r .len) u out
-      → (h : Sheet) (rs : List Requirement) → itemCount h ≡ known → Means ks cs cells list c rs → UpdatedBy h rs shop ms (tableOf mask counts) u out
-
 -- what is left of the slots and the marks, ms and ns being the items and counts that the block wrote
 pub record Slots (ks cs cells list : List ℕ) (c known first : ℕ) (ms ns : List (Option ℤ)) (shop : Shop) (seen : List Bool) (alive : List ℕ) (shop′ : Shop) (r : Slotted) : Type 0 where
   pub marked : MarkedAs cs cells list seen alive (r .marked)
   pub most : r .marked .first ≤ max first c
   pub fine : r .answer ≤ parseTooMany
   pub moved : (h : Sheet) (rs : List Requirement) → itemCount h ≡ known → Means ks cs cells list c rs → Moved (slotsThen h rs ms ns shop) shop′ (r .answer)
+
+pub slots-updated : {ks cs cells list : List ℕ} {c known first : ℕ} {ms ns : List (Option ℤ)} {shop : Shop} {seen : List Bool} {alive : List ℕ} {shop′ : Shop} {r : Slotted} {u : Bool} {m : Marked}
+    → (r .answer ≡ cond u 0 parseTooMany) × (r .marked ≡ m) → MarkedAs cs cells list seen alive m → m .first ≤ max first c
+    → ((h : Sheet) (rs : List Requirement) → itemCount h ≡ known → Means ks cs cells list c rs → UpdatedBy h rs shop ms ns u shop′)
+    → Slots ks cs cells list c known first ms ns shop seen alive shop′ r
+slots-updated {u = u} e k l up = record {
+  marked = rw (e .1) k;
+  most = rw (e .1) l;
+  fine = rw (e .0) (refusal-low u);
+  moved = λ h rs i mean. rw (e .0) (moved-by (up h rs i mean));
+}
 
 -- ---- the requirements of a condition
 

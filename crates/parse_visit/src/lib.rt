@@ -1,7 +1,7 @@
 // One block of a parse: its commands read under the condition that leads to it, the slots that it writes, the conditions of the blocks after it.
 ghost use mathlib.Core.Path.{_≡_};
-ghost use mathlib.Core.Bool.{cond, true};
-ghost use Prim.Native.Nat.{_+_, _*_, _≤_, _<_};
+ghost use mathlib.Core.Bool.{cond};
+ghost use Prim.Native.Nat.{_+_, _*_, _-_, _≤_, _<_};
 ghost use lib.ListN.{length, getD};
 ghost use Rattle.model.specs.Limits.{blockLimit, nodeLimit};
 ghost use Rattle.model.specs.Refusal.{parseTooMany};
@@ -14,7 +14,7 @@ ghost use Rattle.parse_filter.specs.Marks.{MarkedAs};
 ghost use Rattle.parse_scan.specs.Table.{tableOf};
 ghost use Rattle.parse_visit.specs.State.{noRoom, withAnswer, oneCellMore, scannedWalk, storedIn, Held, Open, Visits};
 ghost use Rattle.parse_visit.specs.Joins.{withCell};
-ghost use Rattle.parse_visit.specs.Slots.{Under, Slots};
+ghost use Rattle.parse_visit.specs.Slots.{Slots};
 ghost use Rattle.parse_visit.specs.Ways.{placeOf, Joined, ReadsOn, GoesOn};
 use memory::BLOCKS;
 use memory::BlockWords;
@@ -28,7 +28,6 @@ use model::Link;
 use parse_conditions::FULL;
 use parse_conditions::PLACES;
 use parse_conditions::read_condition;
-use parse_filter::Filtered;
 use parse_filter::Marked;
 use parse_filter::parse_requirements;
 use parse_keys::Known;
@@ -40,7 +39,6 @@ use parse_scan::update_slots;
 use reach::Condition;
 use shop::Codes;
 use shop::ENTRIES;
-use shop::Row;
 use shop::SLOTS;
 
 // What is carried from block to block beside the arrays: the current limit, how many cells of conditions there are, the refusal or 0, how many entries of Ifs and keys there are, and the condition whose entries are marked.
@@ -51,6 +49,18 @@ pub struct Walk {
     pub used: u16,
     pub keyed: u16,
     pub marked: Marked,
+}
+
+// How many blocks, commands and nodes the script has, and how many ids the sheet.
+pub struct Given {
+    pub counts: Counts,
+    pub known: Known,
+}
+
+// A block, and the condition that leads to it.
+pub struct Reached {
+    pub block: BlockNo,
+    pub under: Condition,
 }
 
 // What a block leaves, its next and else, and their conditions.
@@ -73,42 +83,17 @@ pub const NO_ROOM: u8 = 255;
 
 // ---- the slots
 
-// The codes of the negated requirements of the condition c, where the block hides a slot: no other block asks for them.
-fn hidden_under(
-    keys: &[u64],
-    companions: &[u16],
-    list: &[u16],
-    seen: &mut [bool],
-    alive: &mut [u16],
-    cells: &[u16],
-    more: &mut Row,
-    ids: &[i16; SLOTS],
-    s: Scanned,
-    old: Marked,
-    c: usize,
-) -> Filtered
-    requires { ⌜ Bounds (now keys) (now companions) (now cells) (now list) (length (now seen)) (length (now alive)) (old .first) c × MarkedAs (now companions) (now cells) (now list) (now seen) (now alive) old ⌝ }
-    ensures { λ r. ⌜ Under (now (keys .entry)) (now (companions .entry)) (now (cells .entry)) (now (list .entry)) c (old .first) (tableOf (s .«item_mask») (now (ids .entry))) (s .«count_mask») (now (seen .exit)) (now (alive .exit)) (now (more .exit)) r ⌝ }
-{
-    if !hides(s, ids) {
-        return Filtered {
-            len: 0,
-            marked: old,
-        };
-    }
-    parse_requirements(cells, list, keys, companions, seen, alive, more, old, c)
-}
-
-fn refusal(ok: bool) -> u8
-    ensures { λ r. ⌜ r ≡ cond ok 0 parseTooMany ⌝ }
+// The slots had room or not, and what is marked.
+fn updated(ok: bool, marked: Marked) -> Slotted
+    ensures { λ r. ⌜ (r .answer ≡ cond ok 0 parseTooMany) × (r .marked ≡ marked) ⌝ }
 {
     if ok {
-        return 0;
+        return Slotted { answer: 0, marked };
     }
-    11
+    Slotted { answer: 11, marked }
 }
 
-// The slots as the block leaves them. Without a count no slot changes.
+// The slots as the block leaves them. Without a count no slot changes; only a block that hides a slot asks for the codes of the negated requirements of the condition c.
 fn slots_after(
     keys: &[u64],
     companions: &[u16],
@@ -133,42 +118,17 @@ fn slots_after(
 {
     size(counts);
     if s.count_mask == 0 {
-        return Slotted {
-            answer: 0,
-            marked: old,
-        };
+        return updated(true, old);
     }
-    let mut more = [0u64; ENTRIES];
-    let f = hidden_under(
-        keys,
-        companions,
-        list,
-        seen,
-        alive,
-        cells,
-        &mut more,
-        ids,
-        s,
-        old,
-        c,
-    );
-    let ok = update_slots(
-        items,
-        limits,
-        codes,
-        lens,
-        known,
-        s,
-        ids,
-        counts,
-        &more,
-        f.len,
-    );
-    let marked = f.marked;
-    Slotted {
-        answer: refusal(ok),
-        marked,
+    let mut row = [0u64; ENTRIES];
+    if !hides(s, ids) {
+        let ok = update_slots(items, limits, codes, lens, known, s, ids, counts, &row, 0);
+        return updated(ok, old);
     }
+    let f = parse_requirements(cells, list, keys, companions, seen, alive, &mut row, old, c);
+    let n = f.len;
+    let ok = update_slots(items, limits, codes, lens, known, s, ids, counts, &row, n);
+    updated(ok, f.marked)
 }
 
 // ---- the conditions after a block
@@ -190,37 +150,25 @@ fn place(w: Walk) -> u32
     (w.keyed as u32) * PLACES + (w.used as u32)
 }
 
-pub fn answered(w: Walk, answer: u8) -> Walk
+pub fn answered(mut w: Walk, answer: u8) -> Walk
     ensures { λ r. ⌜ r ≡ withAnswer w answer ⌝ }
 {
-    let marked = w.marked;
-    Walk {
-        limit: w.limit,
-        cells: w.cells,
-        answer,
-        used: w.used,
-        keyed: w.keyed,
-        marked,
-    }
+    w.answer = answer;
+    w
 }
 
 // After an If was read: one cell more, and so many entries and keys.
-fn one_cell_more(w: Walk, used: u16, keyed: u16) -> Walk
+fn one_cell_more(mut w: Walk, used: u16, keyed: u16) -> Walk
     requires { ⌜ w .cells < blockLimit ⌝ }
     ensures { λ r. ⌜ r ≡ oneCellMore w used keyed ⌝ }
 {
-    let marked = w.marked;
-    Walk {
-        limit: w.limit,
-        cells: w.cells + 1,
-        answer: w.answer,
-        used,
-        keyed,
-        marked,
-    }
+    w.cells += 1;
+    w.used = used;
+    w.keyed = keyed;
+    w
 }
 
-// The If of root i, below n, read and joined to the condition c as a cell more.
+// The last If read and joined to the condition of the block b as a cell more.
 fn join(
     ws: &NodeWords,
     val: &Values,
@@ -229,37 +177,28 @@ fn join(
     companions: &mut [u16],
     list: &mut [u16],
     cells: &mut [u16],
-    known: Known,
-    n: usize,
-    i: usize,
-    c: Condition,
+    g: Given,
+    s: Scanned,
     w: Walk,
+    b: Reached,
 ) -> Walk
-    requires { ⌜ ((n ≤ nodeLimit) × (w .cells < blockLimit)) × ((w .answer ≡ noRoom → ⊥) × Place (now keys) (now kids) (now companions) (now list) (placeOf w)) ⌝ }
-    ensures { λ r. ⌜ Joined (now (ws .entry)) (now (val .entry)) known n i (c .0) w (now (keys .entry)) (now (list .entry)) (now (cells .entry)) (now (keys .exit)) (now (kids .exit)) (now (companions .exit)) (now (list .exit)) (now (cells .exit)) r ⌝ }
+    requires { ⌜ ((g .counts .nodes ≤ nodeLimit) × ((s .«last_if» ≡ 0 → ⊥) × (w .cells < blockLimit))) × ((w .answer ≡ noRoom → ⊥) × Place (now keys) (now kids) (now companions) (now list) (placeOf w)) ⌝ }
+    ensures { λ r. ⌜ Joined (now (ws .entry)) (now (val .entry)) (g .known) (g .counts .nodes) (s .«last_if» - 1) (b .under .0) w (now (keys .entry)) (now (list .entry)) (now (cells .entry)) (now (keys .exit)) (now (kids .exit)) (now (companions .exit)) (now (list .exit)) (now (cells .exit)) r ⌝ }
 {
     let at = index_of(w.cells);
     if cells.len() < 3 * at + 3 {
         return answered(w, NO_ROOM);
     }
-    let r = read_condition(
-        ws,
-        val,
-        keys,
-        kids,
-        companions,
-        list,
-        known,
-        n,
-        i,
-        false,
-        place(w),
-    );
+    let known = g.known;
+    let n = index_of(g.counts.nodes);
+    let i = index_of(s.last_if - 1);
+    let p = place(w);
+    let r = read_condition(ws, val, keys, kids, companions, list, known, n, i, false, p);
     if r == FULL {
         return answered(w, NO_ROOM);
     }
     let used = (r % PLACES) as u16;
-    add_cell(cells, at, c, w.used, used);
+    add_cell(cells, at, b.under, w.used, used);
     one_cell_more(w, used, (r / PLACES) as u16)
 }
 
@@ -287,7 +226,7 @@ fn reads_on(answer: u8, last: u16, next: Link) -> bool
     true
 }
 
-// Where the walk goes on after block b: the condition c joined with its last If, negated for the else. It is read where the block has an If and a next, and nothing was refused.
+// Where the walk goes on after block b: its condition joined with its last If, negated for the else. It is read where the block has an If and a next, and nothing was refused.
 fn go_on(
     ws: &NodeWords,
     val: &Values,
@@ -297,19 +236,17 @@ fn go_on(
     companions: &mut [u16],
     list: &mut [u16],
     cells: &mut [u16],
-    known: Known,
-    n: usize,
-    last: u16,
+    g: Given,
+    s: Scanned,
     w: Walk,
-    b: BlockNo,
-    c: Condition,
+    b: Reached,
 ) -> Visited
-    requires { ⌜ ((n ≤ nodeLimit) × ((w .cells < blockLimit) × (b .0 < blockLimit))) × ((w .answer ≡ noRoom → ⊥) × Place (now keys) (now kids) (now companions) (now list) (placeOf w)) ⌝ }
-    ensures { λ r. ⌜ GoesOn (now (ws .entry)) (now (val .entry)) n known (now (keys .entry)) (now (kids .entry)) (now (companions .entry)) (now (list .entry)) (now (cells .entry)) w (c .0) last (now (keys .exit)) (now (kids .exit)) (now (companions .exit)) (now (list .exit)) (now (cells .exit)) r × ((r .next .0 ≡ getD (now (bw .entry)) (5 * b .0 + 3) 0) × (r .other .0 ≡ getD (now (bw .entry)) (5 * b .0 + 4) 0)) ⌝ }
+    requires { ⌜ ((g .counts .nodes ≤ nodeLimit) × ((w .cells < blockLimit) × (b .block .0 < blockLimit))) × ((w .answer ≡ noRoom → ⊥) × Place (now keys) (now kids) (now companions) (now list) (placeOf w)) ⌝ }
+    ensures { λ r. ⌜ GoesOn (now (ws .entry)) (now (val .entry)) (g .counts .nodes) (g .known) (now (keys .entry)) (now (kids .entry)) (now (companions .entry)) (now (list .entry)) (now (cells .entry)) w (b .under .0) (s .«last_if») (now (keys .exit)) (now (kids .exit)) (now (companions .exit)) (now (list .exit)) (now (cells .exit)) r × ((r .next .0 ≡ getD (now (bw .entry)) (5 * b .block .0 + 3) 0) × (r .other .0 ≡ getD (now (bw .entry)) (5 * b .block .0 + 4) 0)) ⌝ }
 {
-    let next = Link(block_word(bw, b, 3));
-    let other = Link(block_word(bw, b, 4));
-    if !reads_on(w.answer, last, next) {
+    let next = Link(block_word(bw, b.block, 3));
+    let other = Link(block_word(bw, b.block, 4));
+    if !reads_on(w.answer, s.last_if, next) {
         return Visited {
             walk: w,
             next,
@@ -318,20 +255,7 @@ fn go_on(
             otherwise: Condition(0),
         };
     }
-    let j = join(
-        ws,
-        val,
-        keys,
-        kids,
-        companions,
-        list,
-        cells,
-        known,
-        n,
-        index_of(last - 1),
-        c,
-        w,
-    );
+    let j = join(ws, val, keys, kids, companions, list, cells, g, s, w, b);
     Visited {
         walk: j,
         next,
@@ -344,21 +268,17 @@ fn go_on(
 // ---- the visit
 
 // After the block's commands and slots.
-fn scanned(w: Walk, s: Scanned, a: Slotted) -> Walk
+fn scanned(mut w: Walk, s: Scanned, a: Slotted) -> Walk
     ensures { λ r. ⌜ r ≡ scannedWalk w s a ⌝ }
 {
-    let marked = a.marked;
-    Walk {
-        limit: s.limit,
-        cells: w.cells,
-        answer: a.answer,
-        used: w.used,
-        keyed: w.keyed,
-        marked,
-    }
+    w.limit = s.limit;
+    w.answer = a.answer;
+    w.marked.first = a.marked.first;
+    w.marked.alive = a.marked.alive;
+    w
 }
 
-// Block b, which is code and not marked, under the condition c.
+// Block b, which is code and not marked, under its condition.
 pub fn visit(
     ws: &NodeWords,
     val: &Values,
@@ -378,21 +298,18 @@ pub fn visit(
     lens: &mut [u8; SLOTS],
     ids: &mut [i16; SLOTS],
     counts: &mut [i16; SLOTS],
-    k: Counts,
-    known: Known,
+    g: Given,
     w: Walk,
-    b: BlockNo,
-    c: Condition,
+    b: Reached,
 ) -> Visited
-    requires { ⌜ Held known (storedIn (now keys) (now kids) (now companions) (now list) (now seen) (now alive) (now cells)) w ⌝ }
-    requires { ⌜ Open (memoryOf (now ws) (now val) (now cw) (now bw) k) (shopFrom (arraysIn (now items) (now limits) (now codes) (now lens))) w (b .0) (c .0) ⌝ }
-    ensures { λ r. ⌜ Visits (memoryOf (now (ws .entry)) (now (val .entry)) (now (cw .entry)) (now (bw .entry)) k) known (storedIn (now (keys .entry)) (now (kids .entry)) (now (companions .entry)) (now (list .entry)) (now (seen .entry)) (now (alive .entry)) (now (cells .entry))) (now (marks .entry)) (shopFrom (arraysIn (now (items .entry)) (now (limits .entry)) (now (codes .entry)) (now (lens .entry)))) w (b .0) (c .0) (storedIn (now (keys .exit)) (now (kids .exit)) (now (companions .exit)) (now (list .exit)) (now (seen .exit)) (now (alive .exit)) (now (cells .exit))) (now (marks .exit)) (shopFrom (arraysIn (now (items .exit)) (now (limits .exit)) (now (codes .exit)) (now (lens .exit)))) r ⌝ }
+    requires { ⌜ Held (g .known) (storedIn (now keys) (now kids) (now companions) (now list) (now seen) (now alive) (now cells)) w ⌝ }
+    requires { ⌜ Open (memoryOf (now ws) (now val) (now cw) (now bw) (g .counts)) (shopFrom (arraysIn (now items) (now limits) (now codes) (now lens))) w (b .block .0) (b .under .0) ⌝ }
+    ensures { λ r. ⌜ Visits (memoryOf (now (ws .entry)) (now (val .entry)) (now (cw .entry)) (now (bw .entry)) (g .counts)) (g .known) (storedIn (now (keys .entry)) (now (kids .entry)) (now (companions .entry)) (now (list .entry)) (now (seen .entry)) (now (alive .entry)) (now (cells .entry))) (now (marks .entry)) (shopFrom (arraysIn (now (items .entry)) (now (limits .entry)) (now (codes .entry)) (now (lens .entry)))) w (b .block .0) (b .under .0) (storedIn (now (keys .exit)) (now (kids .exit)) (now (companions .exit)) (now (list .exit)) (now (seen .exit)) (now (alive .exit)) (now (cells .exit))) (now (marks .exit)) (shopFrom (arraysIn (now (items .exit)) (now (limits .exit)) (now (codes .exit)) (now (lens .exit)))) r ⌝ }
 {
-    let first = block_word(bw, b, 1);
-    let held = block_word(bw, b, 2);
-    marks[b.0 as usize] = true;
+    let first = block_word(bw, b.block, 1);
+    let held = block_word(bw, b.block, 2);
+    marks[b.block.0 as usize] = true;
     let s = scan_block(ws, val, cw, ids, counts, first, held, w.limit);
-    let old = w.marked;
     let a = slots_after(
         keys,
         companions,
@@ -406,25 +323,11 @@ pub fn visit(
         lens,
         ids,
         counts,
-        known.items,
+        g.known.items,
         s,
-        old,
-        index_of(c.0),
+        w.marked,
+        index_of(b.under.0),
     );
-    go_on(
-        ws,
-        val,
-        bw,
-        keys,
-        kids,
-        companions,
-        list,
-        cells,
-        known,
-        index_of(k.nodes),
-        s.last_if,
-        scanned(w, s, a),
-        b,
-        c,
-    )
+    let v = scanned(w, s, a);
+    go_on(ws, val, bw, keys, kids, companions, list, cells, g, s, v, b)
 }

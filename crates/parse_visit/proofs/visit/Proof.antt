@@ -27,36 +27,35 @@ scan-block-requires c κs = open-ready (c .before .before .before .before .befor
 
 slots-after-requires : tie.Need-slots-after-requires
 slots-after-requires c κs =
-    let c1 = c .before .before .before .before .before .before .before .before .before .before .before .before .before .before .before .before .before .before .before .before .before .before .before .before .before .before .before .before in
+    let c1 = c .before .before .before .before .before .before .before .before .before .before .before .before .before .before .before .before .before .before .before .before .before .before .before .before .before .before .before in
     let o = c1 .pre .1 in
     let q = c1 .pre .0 .holding in
     ((rw (c .index-of .ensures) (bounds _ _ _ _ q _ (o .low) (open-cells o)), q .marked), o .good)
 
 go-on-requires : tie.Need-go-on-requires
 go-on-requires c κs =
-    let c1 = c .before in
-    let c2 = c1 .before .before .before .before .before .before .before .before .before .before in
-    let c3 = c2 .before .before .before .before .before .before .before .before .before .before .before .before .before .before .before .before .before .before .before .before .before .before .before .before .before .before .before .before .before in
+    let c1 = c .before .before .before .before .before in
+    let c2 = c1 .before .before .before .before .before in
+    let c3 = c2 .before .before .before .before .before .before .before .before .before .before .before .before .before .before .before .before .before .before .before .before .before .before .before .before .before .before .before .before in
     let o = c3 .pre .1 in
-    let q = c3 .pre .0 .holding in
-    let n = open-nodes o in (
-      (omega (arith, c1 .index-of2 .ensures), (rw (c .scanned .ensures) (open-cells o), open-block o)),
+    let q = c3 .pre .0 .holding in (
+      (open-nodes o, (rw (c1 .scanned .ensures) (open-cells o), open-block o)),
       (
         (λ z. omega (
           arith,
           c2 .slots-after .ensures .fine,
           sym (ap (λ (y
-              : Walk). y .answer) (c .scanned .ensures)) ∙ z,
+              : Walk). y .answer) (c1 .scanned .ensures)) ∙ z,
         )),
-        rw (c .scanned .ensures) (holds-place q),
+        rw (c1 .scanned .ensures) (holds-place q),
       ),
     )
 
 same-length-5 : tie.Need-same-length-5
-same-length-5 c = c .before .before .before .before .before .before .before .before .before .before .before .before .before .before .before .before .before .before .before .before .before .seen .given
+same-length-5 c = c .before .before .before .before .before .before .before .before .before .before .before .before .before .before .before .before .before .before .before .before .seen .given
 
 same-length-6 : tie.Need-same-length-6
-same-length-6 c = c .before .before .before .before .before .before .before .before .before .before .before .before .before .before .before .before .before .before .before .alive .given
+same-length-6 c = c .before .before .before .before .before .before .before .before .before .before .before .before .before .before .before .before .before .before .alive .given
 
 -- the slots after the block
 abbrev slotsLeft : tie.After-slots-after → Shop
@@ -65,22 +64,21 @@ slotsLeft c = let l = c .slots-after .last .1 .1 .1 .1 .1 .1 in shopFrom (arrays
 returns : tie.Need-returns
 returns c =
     let c1 = c .before .before .before .before .before .before .before .before .before .before in
-    let c2 = c1 .before in
-    let c3 = c2 .before in
-    let c4 = c3 .before .before .before .before .before .before .before in
-    let c5 = c4 .before .before in
+    let c2 = c1 .before .before .before .before .before .before in
+    let c3 = c2 .before .before in
+    let c4 = c3 .before .before in
+    let c5 = c4 .before in
     let c6 = c5 .before in
-    let c7 = c6 .before in
-    let c8 = c7 .before .before .before .before .before .before .before .before .before .before .before .before .before .before in
-    let c9 = c8 .before in
-    let c10 = c9 .before .before .before .before in
-    let c11 = c10 .before in
-    let c12 = c11 .before .before .before .before .before .before .before .before in
-    let a = c12 .args in
-    λ f hold. visits (c12 .pre .1) _ _ _ f hold _ _ (c10 .block-word2 .ensures) (c11 .block-word .ensures) _ (toZ-ofZ {w = w16} {z = a .w .limit} (record {
-      sfits = c9 .struct-told .given .0 .1;
-    })) (c8 .scan-block .result) _ _ (c8 .scan-block .ensures) (c6 .slots-after .last .1 .1 .1 .0) (c6 .slots-after .last .1 .1 .1 .1 .0) (slotsLeft c6) (c6 .slots-after .result) (rw (c7 .index-of .ensures) at (c6 .slots-after .ensures))
-    (c5 .seen .given) (c4 .alive .given) _ _ _ _ _ _ (c1 .go-on .result) (c3 .index-of2 .ensures) (rw (c2 .scanned .ensures) at (c1 .go-on .ensures .0))
+    let c7 = c6 .before .before .before .before .before .before .before .before .before .before .before .before .before in
+    let c8 = c7 .before in
+    let c9 = c8 .before .before .before .before in
+    let c10 = c9 .before in
+    let c11 = c10 .before .before .before .before .before .before .before .before in
+    let a = c11 .args in
+    λ f hold. visits (c11 .pre .1) _ _ _ f hold _ _ (c9 .block-word2 .ensures) (c10 .block-word .ensures) _ (toZ-ofZ {w = w16} {z = a .w .limit} (record {
+      sfits = c8 .struct-told .given .0 .1;
+    })) (c7 .scan-block .result) _ _ (c7 .scan-block .ensures) (c5 .slots-after .last .1 .1 .1 .0) (c5 .slots-after .last .1 .1 .1 .1 .0) (slotsLeft c5) (c5 .slots-after .result) (rw (c6 .index-of .ensures) at (c5 .slots-after .ensures))
+    (c4 .seen .given) (c3 .alive .given) _ _ _ _ _ (c1 .go-on .result) (rw (c2 .scanned .ensures) at (c1 .go-on .ensures .0))
     (c1 .go-on .ensures .1 .0) (c1 .go-on .ensures .1 .1)
 
 pub visit-spec : {M : Type 1} → statement M
@@ -94,7 +92,6 @@ visit-spec =
     scan-block-requires
     (λ c κs. search needs)
     slots-after-requires
-    (λ c κs. search needs)
     (λ c κs. search needs)
     go-on-requires
     (λ c. search needs)
