@@ -75,10 +75,10 @@ module _ (h : Model.Sheet) (s : Save) where
   shown-start xs p e = record { low = omega arith; is = rw e (shown-all (map slotOf xs)) }
 
   pub shown-more : (xs : List Slot) (i : ℕ) (p : Previewed) → ShownTo xs i p → (d : Slot) → i < length xs
-      → (x : Slot) → getD xs i d ≡ x → (m : Meanings.Meaning) → m ≡ meaningOf h s (slotOf x) → (q : Previewed) → q ≡ shown p i m → ShownTo xs (i + 1) q
-  shown-more xs i p t d l x k m e q f = record {
+      → (x : Slot) → getD xs i d ≡ x → (y : Slot) → y ≡ x → (m : Meanings.Meaning) → m ≡ meaningOf h s (slotOf y) → (q : Previewed) → q ≡ shown p i m → ShownTo xs (i + 1) q
+  shown-more xs i p t d l x k y j m e q f = record {
     low = omega arith;
-    is = rw (f, e, ← k, add-one i) (sym (ap (λ ys. shownFrom i (map (meaningOf h s) (map slotOf ys)) p) (drop-cons xs i d l)) ∙ t .is);
+    is = rw (f, e, j, ← k, add-one i) (sym (ap (λ ys. shownFrom i (map (meaningOf h s) (map slotOf ys)) p) (drop-cons xs i d l)) ∙ t .is);
   }
 
   pub shown-end : (xs : List Slot) (i : ℕ) (p : Previewed) → ShownTo xs i p → length xs ≤ i → p ≡ previewedOf (meaningsOf h (map slotOf xs) s)

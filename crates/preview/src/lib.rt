@@ -1,6 +1,6 @@
 // The preview: what a shop means under a save, slot by slot, without compiling it.
 ghost use mathlib.Core.Path.{_≡_};
-ghost use mathlib.Core.Bool.{not};
+ghost use mathlib.Core.Bool.{true, not};
 ghost use Prim.Native.Nat.{ℕ, _<_};
 ghost use lib.IntN.{ℤ, pos, _-ℤ_};
 ghost use mathlib.Core.List.{List, map};
@@ -12,15 +12,17 @@ ghost use Rattle.model.specs.Sheet.{atcFor};
 ghost use Rattle.model.specs.Compile.{rateOf, acquiredReq};
 ghost use Rattle.model.specs.Save.{natAt};
 ghost use Rattle.model.specs.Meaning.{holds, allHold, acquired, hidden, listed, noTimerHeld, oneOf, uniqueMeaning, limitMeaning, meaningOf, orOld};
+ghost use Rattle.model.specs.Flags.{shopInside};
 ghost use Rattle.model.specs.Preview.{previewCall};
 ghost use Rattle.shop.specs.declared.Sheet.{Sheet};
 ghost use Rattle.shop_codes.specs.Codes.{requirementOf};
 ghost use Rattle.shop.specs.Shapes.{entries, sheetOf, timerIs, slotOf, slotsOf};
-ghost use Rattle.shop_arrays.specs.Arrays.{arraysIn, slotAt, shopFrom};
+ghost use Rattle.shop_arrays.specs.Arrays.{arraysIn, rowAt, slotAt, shopFrom};
 ghost use Rattle.checks.specs.Calls.{saveOf};
 ghost use Rattle.preview.specs.Tests.{isThere, ratedAt};
 ghost use Rattle.preview.specs.Parts.{partsOf};
-ghost use Rattle.preview.specs.Shown.{meaningIs, blankOf, meaningsOf, previewedOf};
+ghost use Rattle.preview.specs.Shown.{meaningIs, blankOf, previewedOf};
+ghost use Rattle.preview.specs.Checked.{checked};
 use checks::check_save;
 use model::ItemId;
 use shop::CODES;
@@ -40,7 +42,6 @@ use shop::timer_of;
 use shop_arrays::arrays_of;
 use shop_arrays::check_arrays;
 use shop_arrays::item_at;
-use shop_arrays::sizes;
 use shop_codes::Subject;
 use shop_codes::is_missing;
 use shop_codes::subject_of;
@@ -60,6 +61,13 @@ struct Meaning {
     item: i32,
     count: i32,
     kept: bool,
+}
+
+// A slot but for its codes, which are read where they stand.
+struct Head {
+    item: SlotItem,
+    limit: i16,
+    len: u8,
 }
 
 // ---- the save
@@ -278,31 +286,15 @@ fn limit_meaning(item: ItemId, limit: u8, r: bool, items: &[i16]) -> Meaning
     hidden()
 }
 
-// A slot by its parts, so that its codes are read where they stand.
-fn meaning_of(
-    attached: &[u8],
-    sheet: Sheet,
-    item: SlotItem,
-    limit: i16,
-    row: &[u64],
-    len: u8,
-    items: &[i16],
-    atcs: &[u8],
-    flags: &[u8],
-    times: &[i16],
-) -> Meaning
-    ensures { λ r. ⌜ ((v : List ℤ) → meaningIs r ≡ meaningOf (sheetOf (now (attached .entry)) sheet) (saveOf (now (items .entry)) (now (atcs .entry)) (now (flags .entry)) (now (times .entry)) v) (slotOf (partsOf item limit (now (row .entry)) len))) ⌝ }
+fn head_at(sold: &[i32; SLOTS], limits: &[i16; SLOTS], lens: &[u8; SLOTS], i: usize) -> Head
+    requires { ⌜ i < slotCount ⌝ }
+    ensures { λ r. ⌜ ((cs : List ℕ) → partsOf r (rowAt cs i) ≡ slotAt (arraysIn (now (sold .entry)) (now (limits .entry)) cs (now (lens .entry))) i) ⌝ }
 {
-    match item {
-        SlotItem::Nothing => hidden(),
-        SlotItem::Of(w) => {
-            let r = all_hold(row, len, items, atcs, flags);
-            let most = limit_of(attached, sheet, w, limit);
-            if most <= 1 {
-                return unique_meaning(attached, sheet, w, r, items, atcs, times);
-            }
-            limit_meaning(w, most, r, items)
-        }
+    let item = item_at(sold, i);
+    Head {
+        item: item,
+        limit: limits[i],
+        len: lens[i],
     }
 }
 
@@ -310,10 +302,8 @@ fn meaning_of(
 fn meaning_at(
     attached: &[u8],
     sheet: Sheet,
-    sold: &[i32; SLOTS],
-    limits: &[i16; SLOTS],
+    head: Head,
     codes: &Codes,
-    lens: &[u8; SLOTS],
     i: usize,
     items: &[i16],
     atcs: &[u8],
@@ -321,25 +311,23 @@ fn meaning_at(
     times: &[i16],
 ) -> Meaning
     requires { ⌜ i < slotCount ⌝ }
-    ensures { λ r. ⌜ ((v : List ℤ) → meaningIs r ≡ meaningOf (sheetOf (now (attached .entry)) sheet) (saveOf (now (items .entry)) (now (atcs .entry)) (now (flags .entry)) (now (times .entry)) v) (slotOf (slotAt (arraysIn (now (sold .entry)) (now (limits .entry)) (now (codes .entry)) (now (lens .entry))) i))) ⌝ }
+    ensures { λ r. ⌜ ((v : List ℤ) → meaningIs r ≡ meaningOf (sheetOf (now (attached .entry)) sheet) (saveOf (now (items .entry)) (now (atcs .entry)) (now (flags .entry)) (now (times .entry)) v) (slotOf (partsOf head (rowAt (now (codes .entry)) i)))) ⌝ }
 {
-    sizes(sold, limits, codes, lens);
-    let all: &[u64] = codes;
-    let start = ENTRIES * i;
-    let end = start + ENTRIES;
-    let item = item_at(sold, i);
-    meaning_of(
-        attached,
-        sheet,
-        item,
-        limits[i],
-        &all[start..end],
-        lens[i],
-        items,
-        atcs,
-        flags,
-        times,
-    )
+    let item = head.item;
+    match item {
+        SlotItem::Nothing => hidden(),
+        SlotItem::Of(w) => {
+            let all: &[u64] = codes;
+            let start = ENTRIES * i;
+            let end = start + ENTRIES;
+            let r = all_hold(&all[start..end], head.len, items, atcs, flags);
+            let most = limit_of(attached, sheet, w, head.limit);
+            if most <= 1 {
+                return unique_meaning(attached, sheet, w, r, items, atcs, times);
+            }
+            limit_meaning(w, most, r, items)
+        }
+    }
 }
 
 // ---- the call
@@ -370,7 +358,7 @@ fn temp_after(m: Meaning, temp: i32) -> i32
     temp
 }
 
-// The answer is written where it stands: handed on at each slot, its 41 numbers would be copied each time.
+// The pairs of a shop and a save that pass 1, 8 and 12, or 23. The answer is written where it stands: handed on at each slot, its 41 numbers would be copied each time.
 fn meanings(
     attached: &[u8],
     sheet: Sheet,
@@ -384,24 +372,16 @@ fn meanings(
     times: &[i16],
     vars: &[i32],
 ) -> Previewed
-    ensures { λ r. ⌜ r ≡ previewedOf (meaningsOf (sheetOf (now (attached .entry)) sheet) (slotsOf (shopFrom (arraysIn (now (sold .entry)) (now (limits .entry)) (now (codes .entry)) (now (lens .entry))))) (saveOf (now (items .entry)) (now (atcs .entry)) (now (flags .entry)) (now (times .entry)) (now (vars .entry)))) ⌝ }
+    ensures { λ r. ⌜ r ≡ previewedOf (checked (sheetOf (now (attached .entry)) sheet) (slotsOf (shopFrom (arraysIn (now (sold .entry)) (now (limits .entry)) (now (codes .entry)) (now (lens .entry))))) (saveOf (now (items .entry)) (now (atcs .entry)) (now (flags .entry)) (now (times .entry)) (now (vars .entry))) true true true (shopInside (slotsOf (shopFrom (arraysIn (now (sold .entry)) (now (limits .entry)) (now (codes .entry)) (now (lens .entry))))))) ⌝ }
 {
+    if !flags_inside(sold, limits, codes, lens) {
+        return blank(23, vars);
+    }
     let mut out = blank(0, vars);
     let mut i = 0;
     while i < SLOTS {
-        let m = meaning_at(
-            attached,
-            sheet,
-            sold,
-            limits,
-            codes,
-            lens,
-            i,
-            items,
-            atcs,
-            flags,
-            times,
-        );
+        let head = head_at(sold, limits, lens, i);
+        let m = meaning_at(attached, sheet, head, codes, i, items, atcs, flags, times);
         let item = m.item;
         let count = m.count;
         out.items[i] = item;
@@ -436,9 +416,6 @@ pub fn preview_arrays(
     }
     if !check_save(attached, sheet, items, atcs, flags, times, vars) {
         return blank(12, vars);
-    }
-    if !flags_inside(sold, limits, codes, lens) {
-        return blank(23, vars);
     }
     meanings(
         attached,

@@ -6,7 +6,6 @@ use Rattle.model.specs.Limits.{slotCount}
 use Rattle.model.specs.Save.{Save}
 use Rattle.model.specs.Sheet.{Sheet, sheetOk, saveOk, all}
 use Rattle.model.specs.Shop.{slotOk}
-use Rattle.model.specs.Flags.{shopInside}
 use Rattle.model.specs.Laws.Checks.{is-true, is-false}
 use Rattle.shop.specs.Shapes.{sheetOf, slotsOf}
 use Rattle.shop.specs.declared.Shop.{Shop}
@@ -32,9 +31,6 @@ shop s = shopFrom (arraysIn (s .args .sold .now) (s .args .limits .now) (s .args
 -- what its checks ask
 abbrev slots-ok : tie.Start → Bool
 slots-ok s = all (slotOk (sheet s)) (slotsOf (shop s))
-
-abbrev flags-ok : tie.Start → Bool
-flags-ok s = shopInside (slotsOf (shop s))
 
 size : (s : tie.Start) → length (shop s .slots) ≡ slotCount
 size s = slots-long (arraysIn (s .args .sold .now) (s .args .limits .now) (s .args .codes .now) (s .args .lens .now))
@@ -67,25 +63,13 @@ returns-3 c =
     refl (c .blank3 .ensures)
 
 returns-4 : tie.Need-returns-4
-unfolding previewedOf
 returns-4 c =
-    let s = c .before .before .before .before .before .before .before .before .before .before .before .before in
-    answered (sheet s) (save s) (shop s) (size s) _ true true true false
-    (is-true (sheetOk (sheet s)) (c .before .before .before .before .before .before .before .before .check-sheet .ensures) (c .before .before .before .before .before .before .before .if1 .left))
-    (is-true (slots-ok s) (c .before .before .before .before .before .before .check-arrays .ensures (s .args .limits .now)) (c .before .before .before .before .before .if2 .left))
-    (is-true (saveOk (sheet s) (save s)) (c .before .before .before .before .check-save .ensures) (c .before .before .before .if3 .left))
-    (is-false (flags-ok s) (c .before .before .flags-inside .ensures) (c .before .if4 .taken))
-    (c .blank4 .ensures)
-
-returns-5 : tie.Need-returns-5
-returns-5 c =
-    let s = c .before .before .before .before .before .before .before .before .before .before .before .before in
-    answered (sheet s) (save s) (shop s) (size s) _ true true true true
-    (is-true (sheetOk (sheet s)) (c .before .before .before .before .before .before .before .before .check-sheet .ensures) (c .before .before .before .before .before .before .before .if1 .left))
-    (is-true (slots-ok s) (c .before .before .before .before .before .before .check-arrays .ensures (s .args .limits .now)) (c .before .before .before .before .before .if2 .left))
-    (is-true (saveOk (sheet s) (save s)) (c .before .before .before .before .check-save .ensures) (c .before .before .before .if3 .left))
-    (is-true (flags-ok s) (c .before .before .flags-inside .ensures) (c .before .if4 .left))
-    (c .meanings .ensures)
+    let s = c .before .before .before .before .before .before .before .before .before .before in
+    answered (sheet s) (save s) (shop s) (size s) _ true true true _
+    (is-true (sheetOk (sheet s)) (c .before .before .before .before .before .before .check-sheet .ensures) (c .before .before .before .before .before .if1 .left))
+    (is-true (slots-ok s) (c .before .before .before .before .check-arrays .ensures (s .args .limits .now)) (c .before .before .before .if2 .left))
+    (is-true (saveOk (sheet s) (save s)) (c .before .before .check-save .ensures) (c .before .if3 .left))
+    refl (c .meanings .ensures)
 
 pub preview-arrays-spec : {M : Type 1} → statement M
 preview-arrays-spec =
@@ -101,7 +85,4 @@ preview-arrays-spec =
     (λ c κs. search needs)
     returns-3
     (λ c κs. search needs)
-    (λ c κs. search needs)
-    returns-4
-    (λ c κs. search needs)
-    returns-5)
+    returns-4)
