@@ -1,6 +1,5 @@
 // The call compile: its checks in the order of 01 and 02, then the shop's blocks appended and the setup block linked to them.
 ghost use mathlib.Core.Path.{_≡_};
-ghost use Rattle.model.specs.RecordCalls.{compileRefusalIn};
 ghost use Rattle.memory.specs.View.{bornOf};
 ghost use Rattle.shop.specs.Shapes.{sheetOf};
 ghost use Rattle.shop_arrays.specs.Arrays.{arraysIn, shopFrom};
@@ -35,40 +34,18 @@ pub struct Compiled {
     pub compiles: u32,
 }
 
-// 1, 2 to 5, 6, 7, 17, 8, 9, 19 in this order, before anything is written.
-fn check_compile(
-    attached: &[u8],
-    sheet: Sheet,
-    ws: &NodeWords,
-    val: &Values,
-    cw: &CommandWords,
-    bw: &BlockWords,
-    births: &Births,
-    counts: Counts,
-    compiles: u32,
-    loader: Loader,
-    setup: BlockNo,
-    items: &[i32; SLOTS],
-    limits: &[i16; SLOTS],
-    codes: &Codes,
-    lens: &[u8; SLOTS],
-) -> u8
-    ensures { λ r. ⌜ r ≡ compileRefusalIn (sheetOf (now (attached .entry)) sheet) (bornOf (now (ws .entry)) (now (val .entry)) (now (cw .entry)) (now (bw .entry)) counts (now (births .entry)) compiles) (callOf loader (setup .0) (shopFrom (arraysIn (now (items .entry)) (now (limits .entry)) (now (codes .entry)) (now (lens .entry))))) ⌝ }
+fn answer(refusal: u8, counts: Counts, compiles: u32) -> Compiled
+    ensures { λ r. ⌜ r ≡ record { refusal = refusal; counts = counts; compiles = compiles } ⌝ }
 {
-    let first = check_call(attached, sheet, ws, val, cw, bw, counts, setup);
-    if first != 0 {
-        return first;
+    Compiled {
+        refusal: refusal,
+        counts: counts,
+        compiles: compiles,
     }
-    if birth_of(births, setup) != 0 {
-        return 17;
-    }
-    if !check_arrays(attached, sheet, items, codes, lens) {
-        return 8;
-    }
-    check_room(attached, sheet, counts, loader, items, limits, codes, lens)
 }
 
 // ShopCompiler::compile with replace, of the shop that the arrays stand for: the blocks go to the end, the setup block becomes empty code whose next is the root, the block last pushed. The fresh blocks bear the new count of compiles.
+// 1, 2 to 5, 6, 7, 17, 8, 9 and 19 are asked in this order, before anything is written.
 pub fn compile_arrays(
     attached: &[u8],
     sheet: Sheet,
@@ -88,29 +65,19 @@ pub fn compile_arrays(
 ) -> Compiled
     ensures { λ r. ⌜ CompiledAs (sheetOf (now (attached .entry)) sheet) (bornOf (now (ws .entry)) (now (val .entry)) (now (cw .entry)) (now (bw .entry)) counts (now (births .entry)) compiles) (callOf loader (setup .0) (shopFrom (arraysIn (now (items .entry)) (now (limits .entry)) (now (codes .entry)) (now (lens .entry))))) (r .refusal) (bornOf (now (ws .exit)) (now (val .exit)) (now (cw .exit)) (now (bw .exit)) (r .counts) (now (births .exit)) (r .compiles)) ⌝ }
 {
-    let refused = check_compile(
-        attached,
-        sheet,
-        ws,
-        val,
-        cw,
-        bw,
-        births,
-        counts,
-        compiles,
-        loader,
-        setup,
-        items,
-        limits,
-        codes,
-        lens,
-    );
-    if refused != 0 {
-        return Compiled {
-            refusal: refused,
-            counts: counts,
-            compiles: compiles,
-        };
+    let first = check_call(attached, sheet, ws, val, cw, bw, counts, setup);
+    if first != 0 {
+        return answer(first, counts, compiles);
+    }
+    if birth_of(births, setup) != 0 {
+        return answer(17, counts, compiles);
+    }
+    if !check_arrays(attached, sheet, items, codes, lens) {
+        return answer(8, counts, compiles);
+    }
+    let full = check_room(attached, sheet, counts, loader, items, limits, codes, lens);
+    if full != 0 {
+        return answer(full, counts, compiles);
     }
     let after = compile_shop(
         attached,
@@ -128,11 +95,7 @@ pub fn compile_arrays(
     set_block(bw, setup.0 as u16, 1, 0, 0, after.blocks, 0);
     let mark = one_compile(compiles);
     mark_births(births, counts.blocks, after.blocks, mark);
-    Compiled {
-        refusal: 0,
-        counts: after,
-        compiles: mark,
-    }
+    answer(0, after, mark)
 }
 
 // The same of a shop as a value.
