@@ -41,10 +41,6 @@ value-eval s v e z p = subst (Worth (eval s v e)) p (imm-worth s v e)
 pub number-worth : (s : Save) (v : List ℤ) (e : Expr) {x : Value} {y z : ℤ} {m : MaybeNumber} → x ≡ ok y → y ≡ z → m ≡ Is z → numberOf m ≡ value e → x ≡ eval s v e
 number-worth s v e {z = z} p q w h = p ∙ ap ok q ∙ sym (value-eval s v e z (sym h ∙ ap numberOf w))
 
--- and what was answered for one that was evaluated by a call
-pub called-worth : (s : Save) (v : List ℤ) (e : Expr) {x y z : code.Value} → x ≡ y → y ≡ z → valueOf z ≡ eval s v e → valueOf x ≡ eval s v e
-called-worth s v e p q h = ap valueOf (p ∙ q) ∙ h
-
 pub out-done : (s : Save) (v : List ℤ) (ns : Nodes) (b i : ℕ) → b ≤ i → stop 13 ≡ eval s v (treeBelow ns b i)
 out-done s v ns b i h = sym (ap (eval s v) (below-out ns b i h))
 
@@ -52,15 +48,8 @@ module _ (s : Save) (v : List ℤ) (ns : Nodes) (b i : ℕ) (lt : i < b) (k : Ki
   pub two-done : (o : Op2) (r x y : Value) → k ≡ Two o → r ≡ join2 o x y → x ≡ eval s v (treeBelow ns i (leftAt ns i)) → y ≡ eval s v (treeBelow ns i (rightAt ns i)) → r ≡ eval s v (treeBelow ns b i)
   two-done o r x y e er ex ey = er ∙ rw (ex, ey) (sym (ap (eval s v) (below-two ns b i lt k found o e)))
 
-  one-value : (o : Op1) (r x : Value) → k ≡ One o → r ≡ join1 s v o x → x ≡ eval s v (treeBelow ns i (leftAt ns i)) → r ≡ eval s v (treeBelow ns b i)
-  one-value o r x e er ex = er ∙ rw ex (sym (ap (eval s v) (below-one ns b i lt k found o e)))
-
-  -- the operand x was answered as y
-  pub one-done : (o : Op1) (r : Value) (x y : code.Value) → k ≡ One o → r ≡ join1 s v o (valueOf x) → x ≡ y → valueOf y ≡ eval s v (treeBelow ns i (leftAt ns i)) → r ≡ eval s v (treeBelow ns b i)
-  one-done o r x y e er q ey = one-value o r (valueOf x) e er (ap valueOf q ∙ ey)
-
-  pub number-done : (o : Op1) (r : Value) (z : ℤ) {m : MaybeNumber} → k ≡ One o → r ≡ read1 s v o z → m ≡ Is z → numberOf m ≡ value (treeBelow ns i (leftAt ns i)) → r ≡ eval s v (treeBelow ns b i)
-  number-done o r z e er w h = one-value o r (ok z) e er (sym (value-eval s v (treeBelow ns i (leftAt ns i)) z (sym h ∙ ap numberOf w)))
+  pub one-done : (o : Op1) (r x : Value) → k ≡ One o → r ≡ join1 s v o x → x ≡ eval s v (treeBelow ns i (leftAt ns i)) → r ≡ eval s v (treeBelow ns b i)
+  one-done o r x e er ex = er ∙ rw ex (sym (ap (eval s v) (below-one ns b i lt k found o e)))
 
   pub imm16-done : (z : ℤ) → k ≡ Imm16 → z ≡ valueAt ns i → ok z ≡ eval s v (treeBelow ns b i)
   imm16-done z e ez = ap ok ez ∙ sym (ap (eval s v) (below-imm16 ns b i lt k found e))

@@ -16,6 +16,7 @@ use memory::kind_of;
 use model::Kind;
 use model::Op1;
 use model::Op2;
+use model::Variables;
 
 // Refusals as numbers stand above the bits of every value.
 const REFUSED: u64 = 4294967296;
@@ -85,7 +86,7 @@ fn short_at(list: &[i16], x: i32) -> i32
     }
 }
 
-fn number_at(list: &[i32; 1024], x: i32) -> i32
+fn number_at(list: &Variables, x: i32) -> i32
     ensures { λ r. ⌜ r ≡ intAt (now (list .entry)) x ⌝ }
 {
     let all: &[i32] = list;
@@ -100,7 +101,7 @@ pub fn apply_one(
     atcs: &[u8],
     flags: &[u8],
     times: &[i16],
-    vars: &[i32; 1024],
+    vars: &Variables,
     o: Op1,
     x: i32,
 ) -> i32
@@ -164,7 +165,7 @@ fn read_one(
     atcs: &[u8],
     flags: &[u8],
     times: &[i16],
-    vars: &[i32; 1024],
+    vars: &Variables,
     o: Op1,
     x: i32,
 ) -> Value
@@ -193,7 +194,7 @@ fn join_one(
     atcs: &[u8],
     flags: &[u8],
     times: &[i16],
-    vars: &[i32; 1024],
+    vars: &Variables,
     o: Op1,
     a: Value,
 ) -> Value
@@ -237,7 +238,7 @@ fn evaluate_below(
     atcs: &[u8],
     flags: &[u8],
     times: &[i16],
-    vars: &[i32; 1024],
+    vars: &Variables,
 ) -> u64
     requires { ⌜ b ≤ nodeLimit ⌝ }
     ensures { λ r. ⌜ ((n : ℕ) → valueOf (unpackedOf r) ≡ eval (reads (now (items .entry)) (now (atcs .entry)) (now (flags .entry)) (now (times .entry))) (now (vars .entry)) (treeBelow (nodesIn (now (ws .entry)) (now (val .entry)) n) b i)) × (r < 4294967552) ⌝ }
@@ -251,36 +252,13 @@ fn evaluate_below(
     let right = ws[3 * at + 2];
     match k {
         Kind::Two(o) => {
-            let p = number_below(ws, val, i, left);
-            let x = match p {
-                MaybeNumber::Is(z) => Value::Is(z),
-                MaybeNumber::Nothing => {
-                    let w = evaluate_below(ws, val, i, left, items, atcs, flags, times, vars);
-                    unpacked(w)
-                }
-            };
-            let q = number_below(ws, val, i, right);
-            let y = match q {
-                MaybeNumber::Is(z) => Value::Is(z),
-                MaybeNumber::Nothing => {
-                    let w = evaluate_below(ws, val, i, right, items, atcs, flags, times, vars);
-                    unpacked(w)
-                }
-            };
+            let x = evaluate(ws, val, i, left, items, atcs, flags, times, vars);
+            let y = evaluate(ws, val, i, right, items, atcs, flags, times, vars);
             packed(join_two(o, x, y))
         }
         Kind::One(o) => {
-            let v = number_below(ws, val, i, left);
-            match v {
-                MaybeNumber::Is(z) => {
-                    let y = read_one(items, atcs, flags, times, vars, o, z);
-                    packed(y)
-                }
-                MaybeNumber::Nothing => {
-                    let w = evaluate_below(ws, val, i, left, items, atcs, flags, times, vars);
-                    packed(join_one(items, atcs, flags, times, vars, o, unpacked(w)))
-                }
-            }
+            let x = evaluate(ws, val, i, left, items, atcs, flags, times, vars);
+            packed(join_one(items, atcs, flags, times, vars, o, x))
         }
         Kind::Imm16 => packed(Value::Is(val[at])),
         Kind::Imm32 => packed(Value::Is(val[at])),
@@ -298,7 +276,7 @@ pub fn evaluate(
     atcs: &[u8],
     flags: &[u8],
     times: &[i16],
-    vars: &[i32; 1024],
+    vars: &Variables,
 ) -> Value
     requires { ⌜ b ≤ nodeLimit ⌝ }
     ensures { λ r. ⌜ ((n : ℕ) → valueOf r ≡ eval (reads (now (items .entry)) (now (atcs .entry)) (now (flags .entry)) (now (times .entry))) (now (vars .entry)) (treeBelow (nodesIn (now (ws .entry)) (now (val .entry)) n) b i)) ⌝ }
@@ -306,17 +284,10 @@ pub fn evaluate(
     let v = number_below(ws, val, b, i);
     match v {
         MaybeNumber::Is(z) => Value::Is(z),
-        MaybeNumber::Nothing => unpacked(evaluate_below(
-            ws,
-            val,
-            b,
-            i,
-            items,
-            atcs,
-            flags,
-            times,
-            vars,
-        )),
+        MaybeNumber::Nothing => {
+            let w = evaluate_below(ws, val, b, i, items, atcs, flags, times, vars);
+            unpacked(w)
+        }
     }
 }
 

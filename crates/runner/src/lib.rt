@@ -5,7 +5,7 @@ ghost use mathlib.Core.List.{List};
 ghost use Prim.Native.Nat.{ℕ, _<_};
 ghost use lib.IntN.{ℤ};
 ghost use lib.ListN.{length};
-ghost use Rattle.model.specs.Limits.{nodeLimit};
+ghost use Rattle.model.specs.Limits.{nodeLimit, variableCount};
 ghost use Rattle.model.specs.Script.{setVariable, ifElse};
 ghost use Rattle.model.specs.Run.{execute, follow, step, store, run};
 ghost use Rattle.model.specs.Memory.{nodesIn, codedIn, tree, commandIn, commandsIn, linkIn, scriptOf};
@@ -27,6 +27,8 @@ use memory::NodeWords;
 use memory::Values;
 use model::BlockNo;
 use model::Link;
+use model::VARIABLES;
+use model::Variables;
 use shop::Sheet;
 
 // Where a block leads: to a block, to Return, to a refusal.
@@ -91,7 +93,7 @@ fn follow_link(link: Link) -> Step
 
 // The write of a Set whose target and value are worth t and e, the target's refusal first. Both are matched here: matched
 // where they were evaluated they would be copied once more.
-fn store_value(vars: &mut [i32; 1024], t: Value, e: Value) -> Flow
+fn store_value(vars: &mut Variables, t: Value, e: Value) -> Flow
     ensures { λ r. ⌜ Sets (valueOf t) (valueOf e) (now (vars .entry)) r (now (vars .exit)) ⌝ }
 {
     match t {
@@ -116,7 +118,7 @@ fn set_variable(
     atcs: &[u8],
     flags: &[u8],
     times: &[i16],
-    vars: &mut [i32; 1024],
+    vars: &mut Variables,
 ) -> Flow
     requires { ⌜ target < nodeLimit ⌝ }
     requires { ⌜ value < nodeLimit ⌝ }
@@ -138,7 +140,7 @@ fn if_else(
     atcs: &[u8],
     flags: &[u8],
     times: &[i16],
-    vars: &[i32; 1024],
+    vars: &Variables,
 ) -> Flow
     requires { ⌜ test < nodeLimit ⌝ }
     ensures { λ r. ⌜ ((n : ℕ) → Flows (reads (now (items .entry)) (now (atcs .entry)) (now (flags .entry)) (now (times .entry))) (linkIn (link .0)) (ifElse (tree (nodesIn (now (ws .entry)) (now (val .entry)) n) test) (other .0)) (now (vars .entry)) r (now (vars .entry))) ⌝ }
@@ -166,7 +168,7 @@ fn command(
     atcs: &[u8],
     flags: &[u8],
     times: &[i16],
-    vars: &mut [i32; 1024],
+    vars: &mut Variables,
 ) -> Flow
     requires { ⌜ Readable (now cw) c ⌝ }
     ensures { λ r. ⌜ ((n m : ℕ) → Flows (reads (now (items .entry)) (now (atcs .entry)) (now (flags .entry)) (now (times .entry))) (linkIn (link .0)) (commandIn (codedIn (now (ws .entry)) (now (val .entry)) (now (cw .entry)) n m) c) (now (vars .entry)) r (now (vars .exit))) ⌝ }
@@ -206,7 +208,7 @@ fn execute_block(
     atcs: &[u8],
     flags: &[u8],
     times: &[i16],
-    vars: &mut [i32; 1024],
+    vars: &mut Variables,
 ) -> Step
     requires { ⌜ Readables (now cw) first many ⌝ }
     ensures { λ r. ⌜ ((n m : ℕ) → outcomeOf r (now (vars .exit)) ≡ execute (reads (now (items .entry)) (now (atcs .entry)) (now (flags .entry)) (now (times .entry))) (linkIn (link .0)) (commandsIn (codedIn (now (ws .entry)) (now (val .entry)) (now (cw .entry)) n m) many first) (now (vars .entry))) ⌝ }
@@ -239,7 +241,7 @@ fn step_block(
     atcs: &[u8],
     flags: &[u8],
     times: &[i16],
-    vars: &mut [i32; 1024],
+    vars: &mut Variables,
 ) -> Step
     requires { ⌜ Ready (now cw) (now bw) (counts .blocks) ⌝ }
     ensures { λ r. ⌜ outcomeOf r (now (vars .exit)) ≡ step (scriptOf (memoryOf (now (ws .entry)) (now (val .entry)) (now (cw .entry)) (now (bw .entry)) counts) .blocks) (reads (now (items .entry)) (now (atcs .entry)) (now (flags .entry)) (now (times .entry))) (b .0) (now (vars .entry)) ⌝ }
@@ -271,7 +273,7 @@ fn run_blocks(
     atcs: &[u8],
     flags: &[u8],
     times: &[i16],
-    vars: &mut [i32; 1024],
+    vars: &mut Variables,
     budget: u32,
 ) -> Ran
     requires { ⌜ Ready (now cw) (now bw) (counts .blocks) ⌝ }
@@ -312,8 +314,8 @@ fn copy_numbers(from: &[i32], to: &mut [i32])
 }
 
 // An array lent to a call has its length in its type, which of a local is forgotten once it was written to.
-fn write_back(held: &[i32; 1024], vars: &mut [i32])
-    requires { ⌜ length (now vars) ≡ 1024 ⌝ }
+fn write_back(held: &Variables, vars: &mut [i32])
+    requires { ⌜ length (now vars) ≡ variableCount ⌝ }
     ensures { λ _. ⌜ now (vars .exit) ≡ now (held .entry) ⌝ }
 {
     copy_numbers(held, vars);
@@ -336,10 +338,10 @@ pub fn run_copied(
     budget: u32,
 ) -> Ran
     requires { ⌜ Ready (now cw) (now bw) (counts .blocks) ⌝ }
-    requires { ⌜ length (now vars) ≡ 1024 ⌝ }
+    requires { ⌜ length (now vars) ≡ variableCount ⌝ }
     ensures { λ r. ⌜ ranOf r (now (vars .exit)) ≡ run (scriptOf (memoryOf (now (ws .entry)) (now (val .entry)) (now (cw .entry)) (now (bw .entry)) counts) .blocks) (reads (now (items .entry)) (now (atcs .entry)) (now (flags .entry)) (now (times .entry))) budget (start .0) (now (vars .entry)) ⌝ }
 {
-    let mut held = [0; 1024];
+    let mut held = [0; VARIABLES];
     copy_numbers(vars, &mut held);
     let ran = run_blocks(
         ws,
