@@ -6,20 +6,13 @@ ghost use Rattle.checks.specs.Calls.{saveOf};
 ghost use Rattle.tariff.specs.Prices.{tariffOf};
 ghost use Rattle.shopper_model.specs.Shopper.{leftBy, shoppingCall};
 ghost use Rattle.capi_values.specs.Values.{sheetBy};
-ghost use Rattle.capi_shopper.specs.Left.{leftIn};
+ghost use Rattle.shopper.specs.Answer.{leftAs};
 use capi_values::sheet_by;
 use shop::Codes;
 use shop::SLOTS;
+use shopper::Shopped;
 use shopper::WISHES;
 use shopper::shopping;
-
-// The refusal or 0, how many steps were made, and the money left.
-#[repr(C)]
-pub struct Shopped {
-    pub refusal: u8,
-    pub steps: u16,
-    pub money: u32,
-}
 
 // A step for each wish, in the shop of the four arrays, from this save and this money: of each step 0 bought, 1 sold out, 2 too dear or 23, and the
 // coins paid. Refused, the save and both arrays stay as they were.
@@ -46,10 +39,10 @@ pub extern "C" fn lk_shopper(
     answers: &mut [u8; WISHES],
     coins: &mut [u32; WISHES],
 ) -> Shopped
-    ensures { λ r. ⌜ leftIn r (now (answers .exit)) (now (coins .exit)) (saveOf (now (items .exit)) (now (held .exit)) (now (flags .entry)) (now (times .entry)) (now (vars .exit))) ≡ leftBy (shoppingCall (sheetOf (now (attached .entry)) (sheetBy atcs timer5 timer10 timer15)) (slotsOf (shopFrom (arraysIn (now (wares .entry)) (now (limits .entry)) (now (codes .entry)) (now (lens .entry))))) (saveOf (now (items .entry)) (now (held .entry)) (now (flags .entry)) (now (times .entry)) (now (vars .entry))) (tariffOf (now (prices .entry)) discount) money (now (wishes .entry))) (now (answers .entry)) (now (coins .entry)) ⌝ }
+    ensures { λ r. ⌜ leftAs r (now (answers .exit)) (now (coins .exit)) (saveOf (now (items .exit)) (now (held .exit)) (now (flags .entry)) (now (times .entry)) (now (vars .exit))) ≡ leftBy (shoppingCall (sheetOf (now (attached .entry)) (sheetBy atcs timer5 timer10 timer15)) (slotsOf (shopFrom (arraysIn (now (wares .entry)) (now (limits .entry)) (now (codes .entry)) (now (lens .entry))))) (saveOf (now (items .entry)) (now (held .entry)) (now (flags .entry)) (now (times .entry)) (now (vars .entry))) (tariffOf (now (prices .entry)) discount) money (now (wishes .entry))) (now (answers .entry)) (now (coins .entry)) ⌝ }
 {
     let sheet = sheet_by(atcs, timer5, timer10, timer15);
-    let r = shopping(
+    shopping(
         attached,
         sheet,
         wares,
@@ -67,10 +60,5 @@ pub extern "C" fn lk_shopper(
         wishes,
         answers,
         coins,
-    );
-    Shopped {
-        refusal: r.refusal,
-        steps: r.steps,
-        money: r.money,
-    }
+    )
 }
