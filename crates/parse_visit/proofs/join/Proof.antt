@@ -22,16 +22,11 @@ read-condition-requires c κs =
     (rw (c2 .index-of2 .ensures) (c3 .pre .0 .0), rw (c1 .place .ensures) (c3 .pre .1 .1))
 
 returns-2 : tie.Need-returns-2
-returns-2 c =
-    let c1 = c .before .before .before .before .before .before .before .before .before .before in
-    let c2 = c1 .before .before .before .before .before in
-    let c3 = c2 .before in
-    let c4 = c3 .before .before in
-    record {
-      full = λ q l. rw (c2 .place .ensures, c3 .index-of3 .ensures, c4 .index-of2 .ensures) at (c1 .read-condition .ensures .no-room (c .before .if2 .taken));
-      read = λ d. absurd (d (rw (c .answered2 .ensures)));
-      limit = rw (c .answered2 .ensures);
-    }
+returns-2 c = record {
+  full = λ q l. rw (c .before .before .before .before .before .before .before .before .before .before .before .before .before .before .before .place .ensures, c .before .before .before .before .before .before .before .before .before .before .before .before .before .before .before .before .index-of3 .ensures, c .before .before .before .before .before .before .before .before .before .before .before .before .before .before .before .before .before .before .index-of2 .ensures) at (c .before .before .before .before .before .before .before .before .before .before .read-condition .ensures .no-room (c .before .if2 .taken));
+  read = λ d. absurd (d (rw (c .answered2 .ensures)));
+  limit = rw (c .answered2 .ensures);
+}
 
 one-cell-more-requires : tie.Need-one-cell-more-requires
 one-cell-more-requires c κs = c .before .before .before .before .before .before .before .before .before .before .before .before .before .before .before .before .before .before .before .before .before .before .before .before .before .before .before .before .before .before .pre .0 .1 .1
