@@ -12,6 +12,7 @@ use memory::NodeWords;
 use memory::Values;
 use model::BlockNo;
 use parse_keys::Known;
+use parse_visit::Given;
 use parse_walk::walk;
 use shop::CODES;
 use shop::Codes;
@@ -54,19 +55,8 @@ pub fn parse_arrays(
         items: attached.len() as u16,
         atcs: sheet.atcs,
     };
-    let w = walk(
-        ws,
-        val,
-        cw,
-        bw,
-        items,
-        limits,
-        codes,
-        lens,
-        counts,
-        known,
-        setup,
-    );
+    let given = Given { counts, known };
+    let w = walk(ws, val, cw, bw, items, limits, codes, lens, given, setup);
     if w.answer != 0 {
         clear_arrays(items, limits, codes, lens);
         return w.answer;

@@ -14,13 +14,13 @@ ghost use Rattle.parse_walk.specs.Walks.{startWalk, noneYet, Walked, Wal
 use memory::BLOCKS;
 use memory::BlockWords;
 use memory::CommandWords;
-use memory::Counts;
 use memory::NodeWords;
 use memory::Values;
 use model::BlockNo;
 use parse_filter::Marked;
-use parse_keys::Known;
+use parse_visit::Given;
 use parse_visit::NO_ROOM;
+use parse_visit::Reached;
 use parse_visit::Walk;
 use parse_visit::answered;
 use parse_visit::visit;
@@ -65,30 +65,31 @@ fn walk_all(
     limits: &mut [i16; SLOTS],
     codes: &mut Codes,
     lens: &mut [u8; SLOTS],
-    k: Counts,
-    known: Known,
+    g: Given,
 ) -> Walk
-    requires { ⌜ Holding known (storedIn (now keys) (now kids) (now companions) (now list) (now seen) (now alive) (now cells)) startWalk noneYet × ((now marks ≡ replicate blockLimit false) × ((2 ≤ length (now stack)) × (getD (now stack) 1 0 ≡ 0))) ⌝ }
-    requires { ⌜ Accepted (memoryOf (now ws) (now val) (now cw) (now bw) k) × (shopFrom (arraysIn (now items) (now limits) (now codes) (now lens)) ≡ noShop) ⌝ }
-    ensures { λ r. ⌜ Ends known (memoryOf (now (ws .entry)) (now (val .entry)) (now (cw .entry)) (now (bw .entry)) k) (getD (now (stack .entry)) 0 0) (storedIn (now (keys .entry)) (now (kids .entry)) (now (companions .entry)) (now (list .entry)) (now (seen .entry)) (now (alive .entry)) (now (cells .entry))) (now (stack .entry)) (shopFrom (arraysIn (now (items .exit)) (now (limits .exit)) (now (codes .exit)) (now (lens .exit)))) r ⌝ }
+    requires { ⌜ Holding (g .known) (storedIn (now keys) (now kids) (now companions) (now list) (now seen) (now alive) (now cells)) startWalk noneYet × ((now marks ≡ replicate blockLimit false) × ((2 ≤ length (now stack)) × (getD (now stack) 1 0 ≡ 0))) ⌝ }
+    requires { ⌜ Accepted (memoryOf (now ws) (now val) (now cw) (now bw) (g .counts)) × (shopFrom (arraysIn (now items) (now limits) (now codes) (now lens)) ≡ noShop) ⌝ }
+    ensures { λ r. ⌜ Ends (g .known) (memoryOf (now (ws .entry)) (now (val .entry)) (now (cw .entry)) (now (bw .entry)) (g .counts)) (getD (now (stack .entry)) 0 0) (storedIn (now (keys .entry)) (now (kids .entry)) (now (companions .entry)) (now (list .entry)) (now (seen .entry)) (now (alive .entry)) (now (cells .entry))) (now (stack .entry)) (shopFrom (arraysIn (now (items .exit)) (now (limits .exit)) (now (codes .exit)) (now (lens .exit)))) r ⌝ }
 {
     let mut ids = [0i16; SLOTS];
     let mut counts = [0i16; SLOTS];
     let mut w = start();
     let mut depth = 1;
     while 0 < depth {
-        let top = top_unmarked(marks, stack, k.blocks, depth);
+        let top = top_unmarked(marks, stack, g.counts.blocks, depth);
         if top == 0 {
             return w;
         }
         let d = top - 1;
-        let b = BlockNo(stack[2 * d] as u32);
-        if !is_code(bw, k.blocks, b) {
+        let block = BlockNo(stack[2 * d] as u32);
+        if !is_code(bw, g.counts.blocks, block) {
             return answered(w, 10);
         }
         if stack.len() < 2 * d + 4 {
             return answered(w, NO_ROOM);
         }
+        let under = Condition(stack[2 * d + 1]);
+        let b = Reached { block, under };
         let v = visit(
             ws,
             val,
@@ -108,11 +109,9 @@ fn walk_all(
             lens,
             &mut ids,
             &mut counts,
-            k,
-            known,
+            g,
             w,
             b,
-            Condition(stack[2 * d + 1]),
         );
         w = v.walk;
         if w.answer != 0 {
@@ -133,13 +132,12 @@ fn walk_few(
     limits: &mut [i16; SLOTS],
     codes: &mut Codes,
     lens: &mut [u8; SLOTS],
-    k: Counts,
-    known: Known,
+    g: Given,
     setup: BlockNo,
 ) -> Walk
-    requires { ⌜ Accepted (memoryOf (now ws) (now val) (now cw) (now bw) k) × (shopFrom (arraysIn (now items) (now limits) (now codes) (now lens)) ≡ noShop) ⌝ }
-    requires { ⌜ setup .0 < k .blocks ⌝ }
-    ensures { λ r. ⌜ WalkedIf known (memoryOf (now (ws .entry)) (now (val .entry)) (now (cw .entry)) (now (bw .entry)) k) (setup .0) (shopFrom (arraysIn (now (items .exit)) (now (limits .exit)) (now (codes .exit)) (now (lens .exit)))) r ⌝ }
+    requires { ⌜ Accepted (memoryOf (now ws) (now val) (now cw) (now bw) (g .counts)) × (shopFrom (arraysIn (now items) (now limits) (now codes) (now lens)) ≡ noShop) ⌝ }
+    requires { ⌜ setup .0 < g .counts .blocks ⌝ }
+    ensures { λ r. ⌜ WalkedIf (g .known) (memoryOf (now (ws .entry)) (now (val .entry)) (now (cw .entry)) (now (bw .entry)) (g .counts)) (setup .0) (shopFrom (arraysIn (now (items .exit)) (now (limits .exit)) (now (codes .exit)) (now (lens .exit)))) r ⌝ }
 {
     let mut keys = [0u64; 256];
     let mut kids = [0u16; 512];
@@ -169,8 +167,7 @@ fn walk_few(
         limits,
         codes,
         lens,
-        k,
-        known,
+        g,
     )
 }
 
@@ -184,13 +181,12 @@ fn walk_many(
     limits: &mut [i16; SLOTS],
     codes: &mut Codes,
     lens: &mut [u8; SLOTS],
-    k: Counts,
-    known: Known,
+    g: Given,
     setup: BlockNo,
 ) -> Walk
-    requires { ⌜ Accepted (memoryOf (now ws) (now val) (now cw) (now bw) k) × (shopFrom (arraysIn (now items) (now limits) (now codes) (now lens)) ≡ noShop) ⌝ }
-    requires { ⌜ setup .0 < k .blocks ⌝ }
-    ensures { λ r. ⌜ ((h : Sheet) → Has h (known .items) (known .atcs) → Walked h (memoryOf (now (ws .entry)) (now (val .entry)) (now (cw .entry)) (now (bw .entry)) k) (setup .0) (shopFrom (arraysIn (now (items .exit)) (now (limits .exit)) (now (codes .exit)) (now (lens .exit)))) r) ⌝ }
+    requires { ⌜ Accepted (memoryOf (now ws) (now val) (now cw) (now bw) (g .counts)) × (shopFrom (arraysIn (now items) (now limits) (now codes) (now lens)) ≡ noShop) ⌝ }
+    requires { ⌜ setup .0 < g .counts .blocks ⌝ }
+    ensures { λ r. ⌜ ((h : Sheet) → Has h (g .known .items) (g .known .atcs) → Walked h (memoryOf (now (ws .entry)) (now (val .entry)) (now (cw .entry)) (now (bw .entry)) (g .counts)) (setup .0) (shopFrom (arraysIn (now (items .exit)) (now (limits .exit)) (now (codes .exit)) (now (lens .exit)))) r) ⌝ }
 {
     let mut keys = [0u64; 12289];
     let mut kids = [0u16; 24578];
@@ -220,8 +216,7 @@ fn walk_many(
         limits,
         codes,
         lens,
-        k,
-        known,
+        g,
     )
 }
 
@@ -235,18 +230,17 @@ pub fn walk(
     limits: &mut [i16; SLOTS],
     codes: &mut Codes,
     lens: &mut [u8; SLOTS],
-    k: Counts,
-    known: Known,
+    g: Given,
     setup: BlockNo,
 ) -> Walk
-    requires { ⌜ Accepted (memoryOf (now ws) (now val) (now cw) (now bw) k) × (shopFrom (arraysIn (now items) (now limits) (now codes) (now lens)) ≡ noShop) ⌝ }
-    requires { ⌜ setup .0 < k .blocks ⌝ }
-    ensures { λ r. ⌜ ((h : Sheet) → Has h (known .items) (known .atcs) → Walked h (memoryOf (now (ws .entry)) (now (val .entry)) (now (cw .entry)) (now (bw .entry)) k) (setup .0) (shopFrom (arraysIn (now (items .exit)) (now (limits .exit)) (now (codes .exit)) (now (lens .exit)))) r) ⌝ }
+    requires { ⌜ Accepted (memoryOf (now ws) (now val) (now cw) (now bw) (g .counts)) × (shopFrom (arraysIn (now items) (now limits) (now codes) (now lens)) ≡ noShop) ⌝ }
+    requires { ⌜ setup .0 < g .counts .blocks ⌝ }
+    ensures { λ r. ⌜ ((h : Sheet) → Has h (g .known .items) (g .known .atcs) → Walked h (memoryOf (now (ws .entry)) (now (val .entry)) (now (cw .entry)) (now (bw .entry)) (g .counts)) (setup .0) (shopFrom (arraysIn (now (items .exit)) (now (limits .exit)) (now (codes .exit)) (now (lens .exit)))) r) ⌝ }
 {
-    let w = walk_few(ws, val, cw, bw, items, limits, codes, lens, k, known, setup);
+    let w = walk_few(ws, val, cw, bw, items, limits, codes, lens, g, setup);
     if w.answer != NO_ROOM {
         return w;
     }
     clear_arrays(items, limits, codes, lens);
-    walk_many(ws, val, cw, bw, items, limits, codes, lens, k, known, setup)
+    walk_many(ws, val, cw, bw, items, limits, codes, lens, g, setup)
 }

@@ -23,17 +23,17 @@ use Rattle.parse_walk.proofs.walk_all.Tie as tie
 use Rattle.memory.specs.View.{memoryOf}
 
 abbrev Inv-loop : tie.InvT-loop
-Inv-loop ws val cw bw keys₀ kids₀ companions₀ list₀ seen₀ alive₀ cells₀ stack₀ marks₀ items₀ limits₀ codes₀ lens₀ k known ids₀ counts₀ w₀ depth₀ keys kids companions list seen alive cells stack marks items limits codes lens ids counts w depth =
-    Turning known (memoryOf ws val cw bw k) (getD stack₀ 0 0) (storedIn keys kids companions list seen alive cells)
+Inv-loop ws val cw bw keys₀ kids₀ companions₀ list₀ seen₀ alive₀ cells₀ stack₀ marks₀ items₀ limits₀ codes₀ lens₀ g ids₀ counts₀ w₀ depth₀ keys kids companions list seen alive cells stack marks items limits codes lens ids counts w depth =
+    Turning (g .known) (memoryOf ws val cw bw (g .counts)) (getD stack₀ 0 0) (storedIn keys kids companions list seen alive cells)
     marks stack (shopFrom (arraysIn items limits codes lens)) w depth
     × Lengths (storedIn keys kids companions list seen alive cells) stack (storedIn keys₀ kids₀ companions₀ list₀ seen₀ alive₀ cells₀) stack₀
 
 abbrev μ-loop : tie.MeasureT-loop
-μ-loop ws val cw bw keys₀ kids₀ companions₀ list₀ seen₀ alive₀ cells₀ stack₀ marks₀ items₀ limits₀ codes₀ lens₀ k known ids₀ counts₀ w₀ depth₀ keys kids companions list seen alive cells stack marks items limits codes lens ids counts w depth = unmarked (take (k .blocks) marks)
+μ-loop ws val cw bw keys₀ kids₀ companions₀ list₀ seen₀ alive₀ cells₀ stack₀ marks₀ items₀ limits₀ codes₀ lens₀ g ids₀ counts₀ w₀ depth₀ keys kids companions list seen alive cells stack marks items limits codes lens ids counts w depth = unmarked (take (g .counts .blocks) marks)
 
 -- the record, and the slots as a turn finds them
 abbrev memory : tie.At-loop Inv-loop μ-loop → Memory
-memory a = let s = a .before .before .before .before .before .before .before .before .before .before in memoryOf (s .args .ws .now) (s .args .val .now) (s .args .cw .now) (s .args .bw .now) (s .args .k)
+memory a = let s = a .before .before .before .before .before .before .before .before .before .before in memoryOf (s .args .ws .now) (s .args .val .now) (s .args .cw .now) (s .args .bw .now) (s .args .g .counts)
 
 abbrev slots : tie.At-loop Inv-loop μ-loop → Shop
 slots a = shopFrom (arraysIn (a .loop .items) (a .loop .limits) (a .loop .codes) (a .loop .lens))
@@ -93,17 +93,17 @@ same-length-8 c = c .before .before .before .before .before .loop .inv .1 .entri
 returns : tie.Need-returns Inv-loop μ-loop
 returns c = ends-none (c .before .before .before .before .before .loop .inv .0) (sym (c .before .top-unmarked .ensures) ∙ c .if1 .taken)
 
-mul-t32 : tie.Need-mul-t32 Inv-loop μ-loop
-mul-t32 c = omega (arith, top-few (c .before .before .before .before .before .loop .inv .0 .ready) (c .before .top-unmarked .ensures))
-
 mul-t33 : tie.Need-mul-t33 Inv-loop μ-loop
 mul-t33 c = omega (arith, top-few (c .before .before .before .before .before .loop .inv .0 .ready) (c .before .top-unmarked .ensures))
 
-slice-read-t35 : tie.Need-slice-read-t35 Inv-loop μ-loop
-slice-read-t35 c = omega (arith, top-fits (c .before .before .before .before .before .before .loop .inv .0 .ready) (c .before .before .top-unmarked .ensures))
+mul-t34 : tie.Need-mul-t34 Inv-loop μ-loop
+mul-t34 c = omega (arith, top-few (c .before .before .before .before .before .loop .inv .0 .ready) (c .before .top-unmarked .ensures))
 
-cast-t36 : tie.Need-cast-t36 Inv-loop μ-loop
-cast-t36 c = omega (arith, c .slice-known9 .given (2 * (c .before .before .top-unmarked .result - 1)))
+slice-read-t36 : tie.Need-slice-read-t36 Inv-loop μ-loop
+slice-read-t36 c = omega (arith, top-fits (c .before .before .before .before .before .before .loop .inv .0 .ready) (c .before .before .top-unmarked .ensures))
+
+cast-t37 : tie.Need-cast-t37 Inv-loop μ-loop
+cast-t37 c = omega (arith, c .slice-known9 .given (2 * (c .before .before .top-unmarked .result - 1)))
 
 is-code-requires : tie.Need-is-code-requires Inv-loop μ-loop
 is-code-requires c κs = few-blocks _ (c .before .before .before .before .before .before .loop .inv .0 .ready .accepted)
@@ -174,26 +174,17 @@ returns-3 c =
     let c5 = c4 .before .before .before .before in
     ends-full (c5 .loop .inv .0) (c4 .top-unmarked .ensures) (c3 .if1 .left) refl refl (coded c2) (c5 .loop .inv .1) {s′ = slots c5} (c1 .if3 .taken) (c .answered2 .ensures)
 
-mul-t32-2 : tie.Need-mul-t32-2 Inv-loop μ-loop
-mul-t32-2 c =
-    let c1 = c .before .before .before .before .before .before .before .before .before .before .before .before .before .before .before .before .before .before .before in
-    let c2 = c1 .before .before .before .before in
-    omega (arith, top-few (c2 .loop .inv .0 .ready) (c1 .top-unmarked .ensures))
+mul-t33-2 : tie.Need-mul-t33-2 Inv-loop μ-loop
+mul-t33-2 c = omega (arith, top-few (c .before .before .before .before .before .before .before .before .before .loop .inv .0 .ready) (c .before .before .before .before .before .top-unmarked .ensures))
 
-add-t33 : tie.Need-add-t33 Inv-loop μ-loop
-add-t33 c =
-    let c1 = c .before .before .before .before .before .before .before .before .before .before .before .before .before .before .before .before .before .before .before in
-    let c2 = c1 .before .before .before .before in
-    omega (arith, top-few (c2 .loop .inv .0 .ready) (c1 .top-unmarked .ensures))
+add-t34 : tie.Need-add-t34 Inv-loop μ-loop
+add-t34 c = omega (arith, top-few (c .before .before .before .before .before .before .before .before .before .loop .inv .0 .ready) (c .before .before .before .before .before .top-unmarked .ensures))
 
-mul-t38 : tie.Need-mul-t38 Inv-loop μ-loop
-mul-t38 c =
-    let c1 = c .before .before .before .before .before .before .before .before .before .before .before .before .before .before .before .before .before .before .before in
-    let c2 = c1 .before .before .before .before in
-    omega (arith, top-few (c2 .loop .inv .0 .ready) (c1 .top-unmarked .ensures))
+mul-t39 : tie.Need-mul-t39 Inv-loop μ-loop
+mul-t39 c = omega (arith, top-few (c .before .before .before .before .before .before .before .before .before .loop .inv .0 .ready) (c .before .before .before .before .before .top-unmarked .ensures))
 
-slice-read-t35-2 : tie.Need-slice-read-t35-2 Inv-loop μ-loop
-slice-read-t35-2 c = omega (arith, c .before .before .before .before .before .before .before .before .before .before .before .before .before .before .before .if3 .left)
+slice-read-t36-2 : tie.Need-slice-read-t36-2 Inv-loop μ-loop
+slice-read-t36-2 c = omega (arith, c .before .if3 .left)
 
 visit-requires : tie.Need-visit-requires Inv-loop μ-loop
 visit-requires c κs =
@@ -331,7 +322,7 @@ same-length-40 : tie.Need-same-length-40 Inv-loop μ-loop
 same-length-40 c = c .before .loop .inv .1 .entries
 
 returns-5 : tie.Need-returns-5 Inv-loop μ-loop
-returns-5 c = ends-none (c .before .loop .inv .0) (omega (arith, top-most (take (c .before .before .before .before .before .before .before .before .before .before .before .args .k .blocks) (c .before .loop .marks)) (c .before .loop .stack) (c .before .loop .depth), c .loop-test .left))
+returns-5 c = ends-none (c .before .loop .inv .0) (omega (arith, top-most (take (c .before .before .before .before .before .before .before .before .before .before .before .args .g .counts .blocks) (c .before .loop .marks)) (c .before .loop .stack) (c .before .loop .depth), c .loop-test .left))
 
 pub walk-all-spec : {M : Type 1} → statement M
 walk-all-spec =
@@ -352,10 +343,10 @@ walk-all-spec =
     same-length-8
     returns
     (λ c. search needs)
-    mul-t32
     mul-t33
-    slice-read-t35
-    cast-t36
+    mul-t34
+    slice-read-t36
+    cast-t37
     is-code-requires
     (λ c κs. search needs)
     same-length-9
@@ -379,10 +370,10 @@ walk-all-spec =
     same-length-23
     same-length-24
     returns-3
-    mul-t32-2
-    add-t33
-    mul-t38
-    slice-read-t35-2
+    mul-t33-2
+    add-t34
+    mul-t39
+    slice-read-t36-2
     visit-requires
     same-length-25
     same-length-26

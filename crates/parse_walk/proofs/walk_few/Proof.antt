@@ -18,7 +18,7 @@ walk-all-requires c κs =
     let c1 = c .before .before .before .before .before .before .before .before .before .before .before .before .before .before in
     let a = c1 .pre .0 in (
       (
-        start-holds (c1 .args .known) 256 512 512 512 512 512 384 (omega arith) (omega arith) (omega arith) (omega arith) (omega arith) (omega arith) (omega arith),
+        start-holds (c1 .args .g .known) 256 512 512 512 512 512 384 (omega arith) (omega arith) (omega arith) (omega arith) (omega arith) (omega arith) (omega arith),
         (
           refl {a = replicate blockLimit false},
           (

@@ -21,7 +21,7 @@ walk-all-requires c κs =
     let c1 = c .before .before .before .before .before .before .before .before .before .before .before .before .before .before in
     let a = c1 .pre .0 in (
       (
-        start-holds (c1 .args .known) 12289 24578 24578 12288 24578 12288 12288 (omega arith) (omega arith) (omega arith) (omega arith) (omega arith) (omega arith) (omega arith),
+        start-holds (c1 .args .g .known) 12289 24578 24578 12288 24578 12288 12288 (omega arith) (omega arith) (omega arith) (omega arith) (omega arith) (omega arith) (omega arith),
         (
           refl {a = replicate blockLimit false},
           (search needs, first-under 8194 (c1 .args .setup .0) (omega arith)),
@@ -39,9 +39,9 @@ returns c =
     let c1 = c .before .before .before .before .before .before .before .before in
     let c2 = c1 .before .before .before .before .before .before .before .before .before .before .before .before .before .before .before in
     let s = c2 .args .setup .0 in
-    let m = memoryOf (c2 .args .ws .now) (c2 .args .val .now) (c2 .args .cw .now) (c2 .args .bw .now) (c2 .args .k) in
+    let m = memoryOf (c2 .args .ws .now) (c2 .args .val .now) (c2 .args .cw .now) (c2 .args .bw .now) (c2 .args .g .counts) in
     let b = few-blocks m (c2 .pre .0 .0) in
-    λ h k. walked-large {known = c2 .args .known} {m = m} {b = getD (firstStack 8194 s) 0 0} {t = zeros 12289 24578 24578 12288 24578 12288 12288} {stack = firstStack 8194 s} {s = slotsLeft c1} (c1 .walk-all .ensures) _ (first-block 8194 s (omega arith)) (large-start m b 12289 24578 24578 12288 24578 12288 12288 8194 s (omega arith)
+    λ h k. walked-large {known = c2 .args .g .known} {m = m} {b = getD (firstStack 8194 s) 0 0} {t = zeros 12289 24578 24578 12288 24578 12288 12288} {stack = firstStack 8194 s} {s = slotsLeft c1} (c1 .walk-all .ensures) _ (first-block 8194 s (omega arith)) (large-start m b 12289 24578 24578 12288 24578 12288 12288 8194 s (omega arith)
     (omega arith) (omega arith) (omega arith)) h k
 
 pub walk-many-spec : {M : Type 1} → statement M
