@@ -37,8 +37,8 @@ passes c = sym (c .before .check-call .ensures) ∙ c .if1 .left
 returns : tie.Need-returns
 returns c = let s = c .before .before .before .before .before .before .before .before in parse-refused (sheet s) (memory s) (s .args .setup .0) _ (c .before .check-call .ensures) (c .if1 .taken) (cleared (c .before .before)) (c .before .before .clear-arrays .ensures)
 
-cast-t23 : tie.Need-cast-t23
-cast-t23 c = let s = c .before .before .before .before .before .before .before .before in record { fits = omega (arith, items-low (s .args .attached .now) (s .args .sheet) (memory s) (s .args .setup .0) (passes (c))) }
+cast-t24 : tie.Need-cast-t24
+cast-t24 c = let s = c .before .before .before .before .before .before .before .before in record { fits = omega (arith, items-low (s .args .attached .now) (s .args .sheet) (memory s) (s .args .setup .0) (passes (c))) }
 
 walk-requires : tie.Need-walk-requires
 walk-requires c κs =
@@ -77,7 +77,7 @@ parse-arrays-spec =
     (λ c κs. search needs)
     (λ c κs. search needs)
     returns
-    cast-t23
+    cast-t24
     walk-requires
     (λ c κs. search needs)
     returns-2
