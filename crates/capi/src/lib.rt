@@ -21,6 +21,7 @@ ghost use Rattle.shop_with_slots.specs.Twenty.{twenty};
 ghost use Rattle.capi_values.specs.Values.{countsBy, sheetBy};
 ghost use Rattle.capi.specs.Answers.{countsIn, loaderBy, readAs, ranAs, previewedAs};
 use births::start_anew;
+use capi_values::counts_by;
 use capi_values::sheet_by;
 use compile::compile_arrays;
 use image_read::Image;
@@ -86,6 +87,31 @@ fn loader_by(number: u8) -> Loader
     }
 }
 
+fn kept_by(refusal: u8, counts: Counts, compiles: u32) -> Kept
+    ensures { λ r. ⌜ r ≡ record { refusal = refusal; nodes = counts .nodes; commands = counts .commands; blocks = counts .blocks; compiles = compiles } ⌝ }
+{
+    Kept {
+        refusal: refusal,
+        nodes: counts.nodes,
+        commands: counts.commands,
+        blocks: counts.blocks,
+        compiles: compiles,
+    }
+}
+
+fn previewed_by(p: preview::Previewed) -> Previewed
+    ensures { λ r. ⌜ previewedAs r ≡ p ⌝ }
+{
+    let items = p.items;
+    let counts = p.counts;
+    Previewed {
+        refusal: p.refusal,
+        items: items,
+        counts: counts,
+        temp: p.temp,
+    }
+}
+
 // The script of an image. A refused read hands out nothing: the arrays are zero then. An image carries no birth marks, so these and the count of compiles are 0 either way (02, A.2).
 #[no_mangle]
 pub extern "C" fn lk_read(
@@ -101,20 +127,8 @@ pub extern "C" fn lk_read(
     start_anew(births);
     let r = read_script(bytes, 0, ws, val, cw, bw);
     match r {
-        Image::Read(k) => Kept {
-            refusal: 0,
-            nodes: k.nodes,
-            commands: k.commands,
-            blocks: k.blocks,
-            compiles: 0,
-        },
-        Image::No(e) => Kept {
-            refusal: e,
-            nodes: 0,
-            commands: 0,
-            blocks: 0,
-            compiles: 0,
-        },
+        Image::Read(k) => kept_by(0, k, 0),
+        Image::No(e) => kept_by(e, counts_by(0, 0, 0), 0),
     }
 }
 
@@ -132,11 +146,7 @@ pub extern "C" fn lk_write(
 ) -> Written
     ensures { λ r. ⌜ (wrote (r .refusal) (now (out .exit)) ≡ writeIn (memoryOf (now (ws .entry)) (now (val .entry)) (now (cw .entry)) (now (bw .entry)) (countsBy nodes commands blocks)) (now (out .entry))) × (r .len ≡ lengthIn (memoryOf (now (ws .entry)) (now (val .entry)) (now (cw .entry)) (now (bw .entry)) (countsBy nodes commands blocks)) (now (out .entry))) ⌝ }
 {
-    let counts = Counts {
-        nodes: nodes,
-        commands: commands,
-        blocks: blocks,
-    };
+    let counts = counts_by(nodes, commands, blocks);
     let w = write_script(ws, val, cw, bw, counts, out);
     Written {
         refusal: w.refusal,
@@ -170,11 +180,7 @@ pub extern "C" fn lk_run(
     ensures { λ r. ⌜ ranAs r (now (vars .exit)) ≡ runIn (sheetOf (now (attached .entry)) (sheetBy atcs timer5 timer10 timer15)) (memoryOf (now (ws .entry)) (now (val .entry)) (now (cw .entry)) (now (bw .entry)) (countsBy nodes commands blocks)) start (saveOf (now (items .entry)) (now (held .entry)) (now (flags .entry)) (now (times .entry)) (now (vars .entry))) budget ⌝ }
 {
     let sheet = sheet_by(atcs, timer5, timer10, timer15);
-    let counts = Counts {
-        nodes: nodes,
-        commands: commands,
-        blocks: blocks,
-    };
+    let counts = counts_by(nodes, commands, blocks);
     let r = run(
         attached,
         sheet,
@@ -224,11 +230,7 @@ pub extern "C" fn lk_compile(
     ensures { λ r. ⌜ CompiledAs (sheetOf (now (attached .entry)) (sheetBy atcs timer5 timer10 timer15)) (bornOf (now (ws .entry)) (now (val .entry)) (now (cw .entry)) (now (bw .entry)) (countsBy nodes commands blocks) (now (births .entry)) compiles) (callOf (loaderBy loader) setup (shopFrom (arraysIn (now (items .entry)) (now (limits .entry)) (now (codes .entry)) (now (lens .entry))))) (r .refusal) (bornOf (now (ws .exit)) (now (val .exit)) (now (cw .exit)) (now (bw .exit)) (countsIn r) (now (births .exit)) (r .compiles)) ⌝ }
 {
     let sheet = sheet_by(atcs, timer5, timer10, timer15);
-    let counts = Counts {
-        nodes: nodes,
-        commands: commands,
-        blocks: blocks,
-    };
+    let counts = counts_by(nodes, commands, blocks);
     let r = compile_arrays(
         attached,
         sheet,
@@ -247,13 +249,7 @@ pub extern "C" fn lk_compile(
         lens,
     );
     let kept = r.counts;
-    Kept {
-        refusal: r.refusal,
-        nodes: kept.nodes,
-        commands: kept.commands,
-        blocks: kept.blocks,
-        compiles: r.compiles,
-    }
+    kept_by(r.refusal, kept, r.compiles)
 }
 
 // Takes back the blocks that no root reaches by next, else and command targets: the others keep their order and get the numbers from 0 on,
@@ -274,20 +270,10 @@ pub extern "C" fn lk_reclaim(
 ) -> Kept
     ensures { λ r. ⌜ ReclaimedAs (bornOf (now (ws .entry)) (now (val .entry)) (now (cw .entry)) (now (bw .entry)) (countsBy nodes commands blocks) (now (births .entry)) compiles) (now (roots .entry)) (now (moved .entry)) (r .refusal) (bornOf (now (ws .exit)) (now (val .exit)) (now (cw .exit)) (now (bw .exit)) (countsIn r) (now (births .exit)) (r .compiles)) (now (moved .exit)) ⌝ }
 {
-    let counts = Counts {
-        nodes: nodes,
-        commands: commands,
-        blocks: blocks,
-    };
+    let counts = counts_by(nodes, commands, blocks);
     let r = reclaim(ws, val, cw, bw, births, counts, roots, moved);
     let left = r.counts;
-    Kept {
-        refusal: r.refusal,
-        nodes: left.nodes,
-        commands: left.commands,
-        blocks: left.blocks,
-        compiles: compiles,
-    }
+    kept_by(r.refusal, left, compiles)
 }
 
 // The arrays of a shop from any number of slots, each with a row of codes. As many slots are given as there are items; what another slice
@@ -341,11 +327,7 @@ pub extern "C" fn lk_parse(
     ensures { λ r. ⌜ ParsedInto (parseIn (sheetOf (now (attached .entry)) (sheetBy atcs timer5 timer10 timer15)) (memoryOf (now (ws .entry)) (now (val .entry)) (now (cw .entry)) (now (bw .entry)) (countsBy nodes commands blocks)) setup) r (arraysIn (now (items .exit)) (now (limits .exit)) (now (codes .exit)) (now (lens .exit))) ⌝ }
 {
     let sheet = sheet_by(atcs, timer5, timer10, timer15);
-    let counts = Counts {
-        nodes: nodes,
-        commands: commands,
-        blocks: blocks,
-    };
+    let counts = counts_by(nodes, commands, blocks);
     parse_arrays(
         attached,
         sheet,
@@ -396,12 +378,5 @@ pub extern "C" fn lk_preview(
         times,
         vars,
     );
-    let pair_items = r.items;
-    let pair_counts = r.counts;
-    Previewed {
-        refusal: r.refusal,
-        items: pair_items,
-        counts: pair_counts,
-        temp: r.temp,
-    }
+    previewed_by(r)
 }

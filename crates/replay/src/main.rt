@@ -404,8 +404,6 @@ fn one_compile(
     let answer = number_at(s, given.at, 255);
     let counts = t.counts;
     let shop = given.shop;
-    let at = BlockNo(setup.value as u32);
-    let n = t.compiles;
     let c = compile(
         attached,
         sheet,
@@ -415,9 +413,9 @@ fn one_compile(
         bw,
         births,
         counts,
-        n,
+        t.compiles,
         Loader::Disc,
-        at,
+        BlockNo(setup.value as u32),
         shop,
     );
     let left = c.counts;

@@ -14,15 +14,27 @@ defined s = readInto (emptyIn (s .args .ws .now) (s .args .val .now) (s .args .c
 
 returns : tie.Need-returns
 returns c =
-    let d = c .before .before .before in
-    (read-fine _ _ _ _ _ {o = defined (c .before .before .before .before .before .before .before .before .before .before .before)} _ (d .read-script .ensures) (c .before .r .given .1), d .before .before .before .before .before .start-anew .ensures, refl)
+    let d = c .before .before .before .before in
+    let s = d .before .before .before .before .before .before .before .before in
+    rw (c .kept-by .ensures) (read-fine _ _ _ _ _ {o = defined s} _ (d .read-script .ensures) (c .before .before .r .given .1), d .before .before .before .before .before .start-anew .ensures, refl)
 
 returns-2 : tie.Need-returns-2
 returns-2 c =
-    let d = c .before .before .before in
-    let s = c .before .before .before .before .before .before .before .before .before .before .before in
-    (read-refused _ _ _ _ _ (emptyIn (s .args .ws .now) (s .args .val .now) (s .args .cw .now) (s .args .bw .now)) (s .args .bytes .now) _ (d .read-script .ensures) (c .before .r2 .given .1), d .before .before .before .before .before .start-anew .ensures, refl)
+    let d = c .before .before .before .before .before in
+    let s = d .before .before .before .before .before .before .before .before in
+    rw (c .kept-by2 .ensures, c .before .counts-by .ensures)
+    (read-refused _ _ _ _ _ (emptyIn (s .args .ws .now) (s .args .val .now) (s .args .cw .now) (s .args .bw .now)) (s .args .bytes .now) _ (d .read-script .ensures) (c .before .before .before .r2 .given .1), d .before .before .before .before .before .start-anew .ensures, refl)
 
 pub lk-read-spec : {M : Type 1} → statement M
 lk-read-spec =
-    tie.close (tie.spec (λ c κs. search needs) (λ c κs. search needs) (λ c. search needs) (λ c. search needs) returns returns-2)
+    tie.close
+    (tie.spec
+    (λ c κs. search needs)
+    (λ c κs. search needs)
+    (λ c. search needs)
+    (λ c κs. search needs)
+    (λ c. search needs)
+    (λ c κs. search needs)
+    (λ c κs. search needs)
+    returns
+    returns-2)
