@@ -10,7 +10,7 @@ ghost use Rattle.model.specs.Memory.{nodesIn};
 ghost use Rattle.expr.specs.Tree.{treeBelow};
 ghost use Rattle.expr.specs.Value.{reads};
 ghost use Rattle.lanes_model.specs.Flat.{part};
-ghost use Rattle.lanes_expr.specs.Lanes.{placeIn, Lies, Parts, Stand, applyIn, evalIn, firstOf2, readsFlag, flagStop, readStop, Valued};
+ghost use Rattle.lanes_expr.specs.Lanes.{placeIn, Lies, Parts, Stand, applyIn, evalIn, firstOf2, readsFlag, flagStop, readStop, Valued, Begun};
 ghost use Rattle.lanes_expr.specs.Each.{Each};
 use expr::MaybeNumber;
 use expr::number_below;
@@ -23,6 +23,13 @@ use model::Op2;
 
 // The most lanes of a walk. What a loop over lanes leaves is dense: place j belongs to the lane whose number stands at place j.
 pub const LANES: usize = 64;
+
+// How many lanes a list names, and how many items and ATCs each save has.
+pub struct Widths {
+    pub lanes: usize,
+    pub items: usize,
+    pub atcs: usize,
+}
 
 // ---- one lane: its part of a list begins at its number times the part's width
 
@@ -97,25 +104,24 @@ fn number_in(list: &[i32], width: usize, l: usize, x: i32) -> i32
 // What an operator makes of x by the save and the variables of lane l.
 fn apply_in(
     o: Op1,
-    n: usize,
-    m: usize,
+    w: Widths,
     l: usize,
     items: &[i16],
     atcs: &[u8],
     flags: &[u8],
     times: &[i16],
-    vars: &[i32],
+    vs: &[i32],
     x: i32,
 ) -> i32
-    requires { ⌜ Lies n m (reads (now items) (now atcs) (now flags) (now times)) (now vars) l ⌝ }
-    ensures { λ r. ⌜ r ≡ applyIn n m (reads (now (items .entry)) (now (atcs .entry)) (now (flags .entry)) (now (times .entry))) (now (vars .entry)) o l x ⌝ }
+    requires { ⌜ Lies (w .items) (w .atcs) (reads (now items) (now atcs) (now flags) (now times)) (now vs) l ⌝ }
+    ensures { λ r. ⌜ r ≡ applyIn (w .items) (w .atcs) (reads (now (items .entry)) (now (atcs .entry)) (now (flags .entry)) (now (times .entry))) (now (vs .entry)) o l x ⌝ }
 {
     match o {
         Op1::Not => expr::apply_two(Op2::Equal, x, 0),
         Op1::Flag => byte_in(flags, 2048, l, x),
-        Op1::Variable => number_in(vars, 1024, l, x),
-        Op1::Item => short_in(items, n, l, x),
-        Op1::Atc => byte_in(atcs, m, l, x),
+        Op1::Variable => number_in(vs, 1024, l, x),
+        Op1::Item => short_in(items, w.items, l, x),
+        Op1::Atc => byte_in(atcs, w.atcs, l, x),
         Op1::Time => short_in(times, 8, l, x),
     }
 }
@@ -260,27 +266,25 @@ fn two_each(o: Op2, s: usize, right: &[i32; LANES], out: &mut [i32; LANES])
 
 fn one_each(
     o: Op1,
-    lanes: &[u8; LANES],
-    s: usize,
-    n: usize,
-    m: usize,
+    ls: &[u8; LANES],
+    w: Widths,
     items: &[i16],
     atcs: &[u8],
     flags: &[u8],
     times: &[i16],
-    vars: &[i32],
-    out: &mut [i32; LANES],
+    vs: &[i32],
+    xs: &mut [i32; LANES],
 )
-    requires { ⌜ Stand n m (reads (now items) (now atcs) (now flags) (now times)) (now vars) (now lanes) s ⌝ }
-    ensures { λ _. ⌜ Each (pos 0) (λ j x. applyIn n m (reads (now (items .entry)) (now (atcs .entry)) (now (flags .entry)) (now (times .entry))) (now (vars .entry)) o (getD (now (lanes .entry)) j 0) x) s (now (out .entry)) (now (out .exit)) ⌝ }
+    requires { ⌜ Stand (w .items) (w .atcs) (reads (now items) (now atcs) (now flags) (now times)) (now vs) (now ls) (w .lanes) ⌝ }
+    ensures { λ _. ⌜ Each (pos 0) (λ j x. applyIn (w .items) (w .atcs) (reads (now (items .entry)) (now (atcs .entry)) (now (flags .entry)) (now (times .entry))) (now (vs .entry)) o (getD (now (ls .entry)) j 0) x) (w .lanes) (now (xs .entry)) (now (xs .exit)) ⌝ }
 {
-    let _all = known(out);
+    let _all = known(xs);
     let mut j = 0;
-    while j < s {
-        let l = lane_of(lanes[j]);
-        let x = out[j];
-        let z = apply_in(o, n, m, l, items, atcs, flags, times, vars, x);
-        out[j] = z;
+    while j < w.lanes {
+        let l = lane_of(ls[j]);
+        let x = xs[j];
+        let z = apply_in(o, w, l, items, atcs, flags, times, vs, x);
+        xs[j] = z;
         j += 1;
     }
 }
@@ -307,26 +311,24 @@ fn apply_two_lanes(o: Op2, s: usize, right: &[i32; LANES], out: &mut [i32; LANES
 // Not is a comparison with 0; the other operators read.
 fn apply_one_lanes(
     o: Op1,
-    lanes: &[u8; LANES],
-    s: usize,
-    n: usize,
-    m: usize,
+    ls: &[u8; LANES],
+    w: Widths,
     items: &[i16],
     atcs: &[u8],
     flags: &[u8],
     times: &[i16],
-    vars: &[i32],
-    out: &mut [i32; LANES],
+    vs: &[i32],
+    xs: &mut [i32; LANES],
 )
-    requires { ⌜ Stand n m (reads (now items) (now atcs) (now flags) (now times)) (now vars) (now lanes) s ⌝ }
-    ensures { λ _. ⌜ Each (pos 0) (λ j x. applyIn n m (reads (now (items .entry)) (now (atcs .entry)) (now (flags .entry)) (now (times .entry))) (now (vars .entry)) o (getD (now (lanes .entry)) j 0) x) s (now (out .entry)) (now (out .exit)) ⌝ }
+    requires { ⌜ Stand (w .items) (w .atcs) (reads (now items) (now atcs) (now flags) (now times)) (now vs) (now ls) (w .lanes) ⌝ }
+    ensures { λ _. ⌜ Each (pos 0) (λ j x. applyIn (w .items) (w .atcs) (reads (now (items .entry)) (now (atcs .entry)) (now (flags .entry)) (now (times .entry))) (now (vs .entry)) o (getD (now (ls .entry)) j 0) x) (w .lanes) (now (xs .entry)) (now (xs .exit)) ⌝ }
 {
     match o {
         Op1::Not => {
             let zeros = repeated(0);
-            two_each(Op2::Equal, s, &zeros, out)
+            two_each(Op2::Equal, w.lanes, &zeros, xs)
         }
-        _ => one_each(o, lanes, s, n, m, items, atcs, flags, times, vars, out),
+        _ => one_each(o, ls, w, items, atcs, flags, times, vs, xs),
     }
 }
 
@@ -395,143 +397,114 @@ fn same_numbers(
 fn apply_same_lanes(
     o: Op1,
     x: i32,
-    lanes: &[u8; LANES],
-    s: usize,
-    n: usize,
-    m: usize,
+    ls: &[u8; LANES],
+    w: Widths,
     items: &[i16],
     atcs: &[u8],
     flags: &[u8],
     times: &[i16],
-    vars: &[i32],
-    out: &mut [i32; LANES],
+    vs: &[i32],
+    xs: &mut [i32; LANES],
 )
-    requires { ⌜ Stand n m (reads (now items) (now atcs) (now flags) (now times)) (now vars) (now lanes) s ⌝ }
-    ensures { λ _. ⌜ Each (pos 0) (λ j _. applyIn n m (reads (now (items .entry)) (now (atcs .entry)) (now (flags .entry)) (now (times .entry))) (now (vars .entry)) o (getD (now (lanes .entry)) j 0) x) s (now (out .entry)) (now (out .exit)) ⌝ }
+    requires { ⌜ Stand (w .items) (w .atcs) (reads (now items) (now atcs) (now flags) (now times)) (now vs) (now ls) (w .lanes) ⌝ }
+    ensures { λ _. ⌜ Each (pos 0) (λ j _. applyIn (w .items) (w .atcs) (reads (now (items .entry)) (now (atcs .entry)) (now (flags .entry)) (now (times .entry))) (now (vs .entry)) o (getD (now (ls .entry)) j 0) x) (w .lanes) (now (xs .entry)) (now (xs .exit)) ⌝ }
 {
     match o {
-        Op1::Not => fill(expr::apply_two(Op2::Equal, x, 0), s, out),
-        Op1::Flag => same_bytes(flags, 2048, lanes, s, x, out),
-        Op1::Variable => same_numbers(vars, 1024, lanes, s, x, out),
-        Op1::Item => same_shorts(items, n, lanes, s, x, out),
-        Op1::Atc => same_bytes(atcs, m, lanes, s, x, out),
-        Op1::Time => same_shorts(times, 8, lanes, s, x, out),
+        Op1::Not => fill(expr::apply_two(Op2::Equal, x, 0), w.lanes, xs),
+        Op1::Flag => same_bytes(flags, 2048, ls, w.lanes, x, xs),
+        Op1::Variable => same_numbers(vs, 1024, ls, w.lanes, x, xs),
+        Op1::Item => same_shorts(items, w.items, ls, w.lanes, x, xs),
+        Op1::Atc => same_bytes(atcs, w.atcs, ls, w.lanes, x, xs),
+        Op1::Time => same_shorts(times, 8, ls, w.lanes, x, xs),
     }
 }
 
 // ---- an expression
 
-// What node i is worth as an operand of node b, for each of the s lanes; a lane that stops keeps its first refusal. Both
-// operands are evaluated, left first; an Imm is read on the spot.
-pub fn evaluate_lanes(
+// What is left to do at a node: its operator, and the operands to evaluate for it.
+enum Rest {
+    Nothing,
+    One(Op1, u16),
+    Two(Op2, u16, u16),
+}
+
+// Node i, where it needs no other node's value: an Imm, an operator on an Imm, Other. An Imm is read on the spot.
+fn evaluate_leaf(
     ws: &NodeWords,
     val: &Values,
-    b: u16,
     i: u16,
-    lanes: &[u8; LANES],
-    s: usize,
-    n: usize,
-    m: usize,
+    ls: &[u8; LANES],
+    w: Widths,
     items: &[i16],
     atcs: &[u8],
     flags: &[u8],
     times: &[i16],
-    vars: &[i32],
-    out: &mut [i32; LANES],
-    stops: &mut [u8; LANES],
-)
-    requires { ⌜ b ≤ nodeLimit ⌝ }
-    requires { ⌜ Stand n m (reads (now items) (now atcs) (now flags) (now times)) (now vars) (now lanes) s ⌝ }
-    ensures { λ _. ⌜ ((k : ℕ) → Valued s (λ j. evalIn n m (reads (now (items .entry)) (now (atcs .entry)) (now (flags .entry)) (now (times .entry))) (now (vars .entry)) (treeBelow (nodesIn (now (ws .entry)) (now (val .entry)) k) b i) (getD (now (lanes .entry)) j 0)) (now (stops .entry)) (now (stops .exit)) (now (out .exit))) ⌝ }
+    vs: &[i32],
+    xs: &mut [i32; LANES],
+    rs: &mut [u8; LANES],
+) -> Rest
+    requires { ⌜ (i < nodeLimit) × Stand (w .items) (w .atcs) (reads (now items) (now atcs) (now flags) (now times)) (now vs) (now ls) (w .lanes) ⌝ }
+    ensures { λ r. ⌜ ((k : ℕ) → Begun (nodesIn (now (ws .entry)) (now (val .entry)) k) i (w .lanes) (λ e j. evalIn (w .items) (w .atcs) (reads (now (items .entry)) (now (atcs .entry)) (now (flags .entry)) (now (times .entry))) (now (vs .entry)) e (getD (now (ls .entry)) j 0)) (now (rs .entry)) (now (rs .exit)) (now (xs .exit)) r) ⌝ }
 {
-    if i >= b {
-        stop_lanes(13, s, stops);
-        return;
-    }
     let at = i as usize;
     let k = kind_of(ws[3 * at]);
     let l = ws[3 * at + 1];
     let r = ws[3 * at + 2];
     match k {
-        Kind::Two(o) => {
-            evaluate_lanes(
-                ws,
-                val,
-                i,
-                l,
-                lanes,
-                s,
-                n,
-                m,
-                items,
-                atcs,
-                flags,
-                times,
-                vars,
-                out,
-                stops,
-            );
-            let q = number_below(ws, val, i, r);
-            match q {
-                MaybeNumber::Is(z) => {
-                    let y = repeated(z);
-                    apply_two_lanes(o, s, &y, out);
-                }
-                MaybeNumber::Nothing => {
-                    let mut y = [0; LANES];
-                    evaluate_lanes(
-                        ws,
-                        val,
-                        i,
-                        r,
-                        lanes,
-                        s,
-                        n,
-                        m,
-                        items,
-                        atcs,
-                        flags,
-                        times,
-                        vars,
-                        &mut y,
-                        stops,
-                    );
-                    apply_two_lanes(o, s, &y, out);
-                }
-            }
-        }
+        Kind::Two(o) => return Rest::Two(o, l, r),
         Kind::One(o) => {
             let q = number_below(ws, val, i, l);
-            match q {
-                MaybeNumber::Is(z) => {
-                    stop_same(o, z, s, stops);
-                    apply_same_lanes(o, z, lanes, s, n, m, items, atcs, flags, times, vars, out);
-                }
-                MaybeNumber::Nothing => {
-                    evaluate_lanes(
-                        ws,
-                        val,
-                        i,
-                        l,
-                        lanes,
-                        s,
-                        n,
-                        m,
-                        items,
-                        atcs,
-                        flags,
-                        times,
-                        vars,
-                        out,
-                        stops,
-                    );
-                    stop_each(o, s, out, stops);
-                    apply_one_lanes(o, lanes, s, n, m, items, atcs, flags, times, vars, out);
-                }
-            }
+            let MaybeNumber::Is(x) = q else {
+                return Rest::One(o, l);
+            };
+            stop_same(o, x, w.lanes, rs);
+            apply_same_lanes(o, x, ls, w, items, atcs, flags, times, vs, xs);
         }
-        Kind::Imm16 => fill(val[at], s, out),
-        Kind::Imm32 => fill(val[at], s, out),
-        Kind::Other => stop_lanes(13, s, stops),
+        Kind::Imm16 => fill(val[at], w.lanes, xs),
+        Kind::Imm32 => fill(val[at], w.lanes, xs),
+        Kind::Other => stop_lanes(13, w.lanes, rs),
+    }
+    Rest::Nothing
+}
+
+// What node i is worth as an operand of node b, for each of the lanes; a lane that stops keeps its first refusal. Both
+// operands are evaluated, left first.
+pub fn evaluate_lanes(
+    ws: &NodeWords,
+    val: &Values,
+    b: u16,
+    i: u16,
+    ls: &[u8; LANES],
+    w: Widths,
+    items: &[i16],
+    atcs: &[u8],
+    flags: &[u8],
+    times: &[i16],
+    vs: &[i32],
+    xs: &mut [i32; LANES],
+    rs: &mut [u8; LANES],
+)
+    requires { ⌜ (b ≤ nodeLimit) × Stand (w .items) (w .atcs) (reads (now items) (now atcs) (now flags) (now times)) (now vs) (now ls) (w .lanes) ⌝ }
+    ensures { λ _. ⌜ ((k : ℕ) → Valued (w .lanes) (λ j. evalIn (w .items) (w .atcs) (reads (now (items .entry)) (now (atcs .entry)) (now (flags .entry)) (now (times .entry))) (now (vs .entry)) (treeBelow (nodesIn (now (ws .entry)) (now (val .entry)) k) b i) (getD (now (ls .entry)) j 0)) (now (rs .entry)) (now (rs .exit)) (now (xs .exit))) ⌝ }
+{
+    if i >= b {
+        stop_lanes(13, w.lanes, rs);
+        return;
+    }
+    let rest = evaluate_leaf(ws, val, i, ls, w, items, atcs, flags, times, vs, xs, rs);
+    match rest {
+        Rest::Nothing => {}
+        Rest::One(o, l) => {
+            evaluate_lanes(ws, val, i, l, ls, w, items, atcs, flags, times, vs, xs, rs);
+            stop_each(o, w.lanes, xs, rs);
+            apply_one_lanes(o, ls, w, items, atcs, flags, times, vs, xs);
+        }
+        Rest::Two(o, l, r) => {
+            let mut right = [0; LANES];
+            let ys = &mut right;
+            evaluate_lanes(ws, val, i, l, ls, w, items, atcs, flags, times, vs, xs, rs);
+            evaluate_lanes(ws, val, i, r, ls, w, items, atcs, flags, times, vs, ys, rs);
+            apply_two_lanes(o, w.lanes, &right, xs);
+        }
     }
 }

@@ -12,8 +12,8 @@ use Rattle.lanes_expr.proofs.apply_in.Statement.{statement}
 use Rattle.lanes_expr.proofs.apply_in.Tie as tie
 
 -- what an arm computed is what the operator says
-arm : (c : tie.Start) (r : ℤ) (p : Op1) → SFits w32 r → c .args .o ≡ p → r ≡ applyIn (c .args .n) (c .args .m) (value.reads (c .args .items .now) (c .args .atcs .now) (c .args .flags .now) (c .args .times .now)) (c .args .vars .now) p (c .args .l) (c .args .x)
-    → toZ w32 (ofZ w32 r) ≡ applyIn (c .args .n) (c .args .m) (value.reads (c .args .items .now) (c .args .atcs .now) (c .args .flags .now) (c .args .times .now)) (c .args .vars .now) (c .args .o) (c .args .l) (c .args .x)
+arm : (c : tie.Start) (r : ℤ) (p : Op1) → SFits w32 r → c .args .o ≡ p → r ≡ applyIn (c .args .w .items) (c .args .w .atcs) (value.reads (c .args .items .now) (c .args .atcs .now) (c .args .flags .now) (c .args .times .now)) (c .args .vs .now) p (c .args .l) (c .args .x)
+    → toZ w32 (ofZ w32 r) ≡ applyIn (c .args .w .items) (c .args .w .atcs) (value.reads (c .args .items .now) (c .args .atcs .now) (c .args .flags .now) (c .args .times .now)) (c .args .vs .now) (c .args .o) (c .args .l) (c .args .x)
 arm c r p f e q = toZ-ofZ f ∙ q ∙ rw e
 
 returns : tie.Need-returns

@@ -15,8 +15,8 @@ use Rattle.lanes_expr.proofs.apply_one_lanes.Statement.{statement}
 use Rattle.lanes_expr.proofs.apply_one_lanes.Tie as tie
 
 -- what an arm computed is what the operator says
-arm : (c : tie.Start) (p : Op1) {xs′ : List ℤ} → c .args .o ≡ p → Each (pos 0) (λ j x. applyIn (c .args .n) (c .args .m) (value.reads (c .args .items .now) (c .args .atcs .now) (c .args .flags .now) (c .args .times .now)) (c .args .vars .now) p (getD (c .args .lanes .now) j 0) x) (c .args .s) (c .args .out .now) xs′
-    → Each (pos 0) (λ j x. applyIn (c .args .n) (c .args .m) (value.reads (c .args .items .now) (c .args .atcs .now) (c .args .flags .now) (c .args .times .now)) (c .args .vars .now) (c .args .o) (getD (c .args .lanes .now) j 0) x) (c .args .s) (c .args .out .now) xs′
+arm : (c : tie.Start) (p : Op1) {xs′ : List ℤ} → c .args .o ≡ p → Each (pos 0) (λ j x. applyIn (c .args .w .items) (c .args .w .atcs) (value.reads (c .args .items .now) (c .args .atcs .now) (c .args .flags .now) (c .args .times .now)) (c .args .vs .now) p (getD (c .args .ls .now) j 0) x) (c .args .w .lanes) (c .args .xs .now) xs′
+    → Each (pos 0) (λ j x. applyIn (c .args .w .items) (c .args .w .atcs) (value.reads (c .args .items .now) (c .args .atcs .now) (c .args .flags .now) (c .args .times .now)) (c .args .vs .now) (c .args .o) (getD (c .args .ls .now) j 0) x) (c .args .w .lanes) (c .args .xs .now) xs′
 arm c p e h = rw e h
 
 returns : tie.Need-returns

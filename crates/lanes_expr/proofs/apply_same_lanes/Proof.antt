@@ -15,8 +15,8 @@ use Rattle.lanes_expr.proofs.apply_same_lanes.Statement.{statement}
 use Rattle.lanes_expr.proofs.apply_same_lanes.Tie as tie
 
 -- what an arm computed is what the operator says
-arm : (c : tie.Start) (p : Op1) {f : ℕ → ℤ → ℤ} {xs′ : List ℤ} → c .args .o ≡ p → Each (pos 0) f (c .args .s) (c .args .out .now) xs′ → ((j : ℕ) (y : ℤ) → f j y ≡ applyIn (c .args .n) (c .args .m) (value.reads (c .args .items .now) (c .args .atcs .now) (c .args .flags .now) (c .args .times .now)) (c .args .vars .now) p (getD (c .args .lanes .now) j 0) (c .args .x))
-    → Each (pos 0) (λ j _. applyIn (c .args .n) (c .args .m) (value.reads (c .args .items .now) (c .args .atcs .now) (c .args .flags .now) (c .args .times .now)) (c .args .vars .now) (c .args .o) (getD (c .args .lanes .now) j 0) (c .args .x)) (c .args .s) (c .args .out .now) xs′
+arm : (c : tie.Start) (p : Op1) {f : ℕ → ℤ → ℤ} {xs′ : List ℤ} → c .args .o ≡ p → Each (pos 0) f (c .args .w .lanes) (c .args .xs .now) xs′ → ((j : ℕ) (y : ℤ) → f j y ≡ applyIn (c .args .w .items) (c .args .w .atcs) (value.reads (c .args .items .now) (c .args .atcs .now) (c .args .flags .now) (c .args .times .now)) (c .args .vs .now) p (getD (c .args .ls .now) j 0) (c .args .x))
+    → Each (pos 0) (λ j _. applyIn (c .args .w .items) (c .args .w .atcs) (value.reads (c .args .items .now) (c .args .atcs .now) (c .args .flags .now) (c .args .times .now)) (c .args .vs .now) (c .args .o) (getD (c .args .ls .now) j 0) (c .args .x)) (c .args .w .lanes) (c .args .xs .now) xs′
 arm c p e h q = each-as h (λ j y. q j y ∙ rw e)
 
 same-bytes-requires : tie.Need-same-bytes-requires

@@ -14,22 +14,22 @@ use Rattle.lanes_expr.proofs.one_each.Statement.{statement}
 use Rattle.lanes_expr.proofs.one_each.Tie as tie
 
 abbrev Inv-loop : tie.InvT-loop
-Inv-loop o lanes s n m items atcs flags times vars out₀ -all j₀ out j = (j ≤ s) × Each (pos 0) (λ j x. applyIn n m (value.reads items atcs flags times) vars o (getD lanes j 0) x) j out₀ out
+Inv-loop o ls w items atcs flags times vs xs₀ -all j₀ xs j = (j ≤ w .lanes) × Each (pos 0) (λ j x. applyIn (w .items) (w .atcs) (value.reads items atcs flags times) vs o (getD ls j 0) x) j xs₀ xs
 
 abbrev μ-loop : tie.MeasureT-loop
-μ-loop o lanes s n m items atcs flags times vars out₀ -all j₀ out j = s - j
+μ-loop o ls w items atcs flags times vs xs₀ -all j₀ xs j = w .lanes - j
 
 loop-holds : tie.Need-loop-holds Inv-loop μ-loop
 loop-holds c = (omega arith, each-none _ _ _)
 
 apply-in-requires : tie.Need-apply-in-requires Inv-loop μ-loop
-apply-in-requires c κs = rw (c .before .lane-of .ensures) (c .before .before .before .before .before .before .before .before .before .pre .lie (c .before .before .before .before .loop .j) (c .before .before .before .loop-test .taken))
+apply-in-requires c κs = rw (c .before .lane-of .ensures) (c .before .before .before .before .before .before .before .before .before .before .pre .lie (c .before .before .before .before .before .loop .j) (c .before .before .before .if1 .taken))
 
 loop-again : tie.Need-loop-again Inv-loop μ-loop
-loop-again c = (omega arith, each-more (c .before .before .before .before .before .loop .inv .1) (omega (arith, c .before .before .before .before .before .before .known .ensures, c .before .before .before .before .before .before .before .before .before .before .pre .few)) (toZ-ofZ {w = w32} (record { sfits = c .apply-in .ok }) ∙ (rw (toZ-ofZ {w = w32} (record { sfits = c .before .x .given }), c .before .before .lane-of .ensures) at (c .apply-in .ensures))))
+loop-again c = (omega arith, each-more (c .before .before .before .before .before .before .loop .inv .1) (omega (arith, c .before .before .before .before .before .before .before .known .ensures, c .before .before .before .before .before .before .before .before .before .before .before .pre .few)) (toZ-ofZ {w = w32} (record { sfits = c .apply-in .ok }) ∙ (rw (toZ-ofZ {w = w32} (record { sfits = c .before .x .given }), c .before .before .lane-of .ensures) at (c .apply-in .ensures))))
 
 returns : tie.Need-returns Inv-loop μ-loop
-returns c = each-all (c .before .loop .inv .1) (c .before .loop .inv .0) (c .loop-test .left)
+returns c = each-all (c .before .before .loop .inv .1) (c .before .before .loop .inv .0) (c .if1 .left)
 
 pub one-each-spec : {M : Type 1} → statement M
 one-each-spec =
