@@ -23,7 +23,7 @@ use Rattle.lanes_block.specs.declared.Way.{Way}
 use Rattle.lanes_block.specs.declared.Exit.{Exit}
 use Rattle.lanes_block.specs.declared.Flow.{Flow}
 use Rattle.lanes_block.specs.declared.Flow.the-variants.{On, Out}
-use Rattle.lanes_block.specs.Ways.{KeptParts, carry, goes, wayOf, leave, followed, chosen, sameWay, storedPart, Worth, StoredAll, onward, Flows, Does, Leaves, stateOf, Settled, Visited}
+use Rattle.lanes_block.specs.Ways.{KeptParts, carry, goes, wayOf, leave, followed, forked, chosen, sameWay, storedPart, Worth, StoredAll, onward, Flows, Does, Leaves, stateOf, Settled, Visited}
 use Rattle.lanes_block.specs.Laws.{parts-same, parts-on}
 
 -- ---- one lane
@@ -77,7 +77,7 @@ same-leaves k r z v = by (isZero z)
     by false = refl
 
 if-flows : (s : Save) (v : List ℤ) (c : Expr) (n k r r′ : ℕ) (z : ℤ) → laneValue r′ z ≡ firstStop r (eval s v c)
-    → Flows s (linkIn n) (ifElse c k) r v (Out (record { then = followed n; otherwise = record { word = k + 1; answer = 0 } })) z r′ v
+    → Flows s (linkIn n) (ifElse c k) r v (Out (forked n (k + 1))) z r′ v
 if-flows s v c n k zero zero z p =
     record { is = λ cs. ap (λ a. orHalt a v (λ x. cond (isZero x) (next k v) (follow (linkIn n) v))) (sym p) ∙ if-leaves s (linkIn n) v n k z }
 if-flows s v c n k zero (suc m) z p = record { is = λ cs. ap (λ a. orHalt a v (λ x. cond (isZero x) (next k v) (follow (linkIn n) v))) (sym p) }
@@ -110,10 +110,6 @@ module _ {save : ℕ → Save} {nx : Option ℕ} {ls : List ℕ} {s : ℕ} {vs :
 pub goto-way : (k b : ℕ) (v : List ℤ) → k ≡ b + 1 → next b v ≡ goes k 0 v
 goto-way k b v q = rw (q, add-one b)
 
-pub if-exit : (n b k : ℕ) (w : Way) → w ≡ followed n → k ≡ b + 1
-    → _≡_ {A = Exit} (record { then = w; otherwise = record { word = k; answer = 0 } }) (record { then = followed n; otherwise = record { word = b + 1; answer = 0 } })
-if-exit n b k w p q = rw (p, q)
-
 -- the exit as the code has it
 pub does-out : {save : ℕ → Save} {nx : Option ℕ} {x : Command} {ls : List ℕ} {s : ℕ} {vs : List ℤ} {rs : List ℕ} {e e′ : Exit} {vs′ xs′ : List ℤ} {rs′ : List ℕ}
     → e′ ≡ e → Does save nx x ls s vs rs (Out e) vs′ xs′ rs′ → Does save nx x ls s vs rs (Out e′) vs′ xs′ rs′
@@ -121,7 +117,7 @@ does-out {save} {nx} {x} {ls} {s} {vs} {rs} {e} {e′} {vs′} {xs′} {rs′} q
 
 pub if-does : (n : ℕ) {save : ℕ → Save} {ls : List ℕ} {s : ℕ} {vs : List ℤ} {rs rs′ : List ℕ} {c : Expr} {k : ℕ} {xs : List ℤ}
     → Valued s (λ j. eval (save (getD ls j 0)) (part variableCount (getD ls j 0) vs) c) rs rs′ xs
-    → Does save (linkIn n) (ifElse c k) ls s vs rs (Out (record { then = followed n; otherwise = record { word = k + 1; answer = 0 } })) vs xs rs′
+    → Does save (linkIn n) (ifElse c k) ls s vs rs (Out (forked n (k + 1))) vs xs rs′
 if-does n {save} {ls} {s} {vs} {rs} {rs′} {c} {k} {xs} p = record {
   kept = parts-same ls s vs;
   each = λ j h. if-flows (save (getD ls j 0)) (part variableCount (getD ls j 0) vs) c n k (getD rs j 0) (getD rs′ j 0) (getD xs j (pos 0)) (p .is j h);

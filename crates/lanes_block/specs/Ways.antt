@@ -75,6 +75,10 @@ abbrev pub chosen : Exit → ℤ → ℕ → Way
 chosen e z zero = cond (isZero z) (e .otherwise) (e .then)
 chosen e z (suc n) = record { word = 0; answer = suc n }
 
+-- by a link, and to word k where the value is 0
+abbrev pub forked : ℕ → ℕ → Exit
+forked n k = record { then = followed n; otherwise = record { word = k; answer = 0 } }
+
 abbrev pub sameWay : ℕ → ℕ → Exit
 sameWay k r = record { then = record { word = k; answer = r }; otherwise = record { word = k; answer = r } }
 

@@ -14,10 +14,11 @@ ghost use Rattle.expr.specs.Value.{reads};
 ghost use Rattle.runner.specs.Steps.{Readable, Readables, Ready};
 ghost use Rattle.lanes_model.specs.Flat.{saveIn};
 ghost use Rattle.lanes_expr.specs.Lanes.{Stand};
-ghost use Rattle.lanes_block.specs.Ways.{Rising, Held, Countable, chosen, followed, sameWay, storedIn, Always, StoredAll, Does, Leaves, Settled, Visited};
+ghost use Rattle.lanes_block.specs.Ways.{Rising, Held, Countable, chosen, followed, forked, sameWay, storedIn, Always, StoredAll, Does, Leaves, Settled, Visited};
 use expr::MaybeNumber;
 use expr::number_below;
 use lanes_expr::LANES;
+use lanes_expr::Widths;
 use lanes_expr::evaluate_lanes;
 use memory::BlockWords;
 use memory::CommandWords;
@@ -156,169 +157,104 @@ fn store_number(
     }
 }
 
-// A Set whose target is no Imm: target and value are evaluated for each lane.
+// A Set whose target t is no Imm: target and value v are evaluated for each lane.
 fn set_each(
     ws: &NodeWords,
     val: &Values,
-    target: u16,
-    value: u16,
-    lanes: &[u8; LANES],
-    s: usize,
-    n: usize,
-    m: usize,
+    t: u16,
+    v: u16,
+    ls: &[u8; LANES],
+    w: Widths,
     items: &[i16],
     atcs: &[u8],
     flags: &[u8],
     times: &[i16],
-    vars: &mut [i32],
-    out: &mut [i32; LANES],
-    stops: &mut [u8; LANES],
+    vs: &mut [i32],
+    xs: &mut [i32; LANES],
+    rs: &mut [u8; LANES],
 )
-    requires { ⌜ (target < nodeLimit) × (value < nodeLimit) × Stand n m (reads (now items) (now atcs) (now flags) (now times)) (now vars) (now lanes) s × Rising (now lanes) s ⌝ }
-    ensures { λ _. ⌜ ((c : ℕ) (nx : Option ℕ) → Does (saveIn n m (reads (now (items .entry)) (now (atcs .entry)) (now (flags .entry)) (now (times .entry)))) nx (setVariable (tree (nodesIn (now (ws .entry)) (now (val .entry)) c) target) (tree (nodesIn (now (ws .entry)) (now (val .entry)) c) value)) (now (lanes .entry)) s (now (vars .entry)) (now (stops .entry)) Flow.On (now (vars .exit)) (now (out .exit)) (now (stops .exit))) ⌝ }
+    requires { ⌜ (t < nodeLimit) × (v < nodeLimit) × Stand (w .items) (w .atcs) (reads (now items) (now atcs) (now flags) (now times)) (now vs) (now ls) (w .lanes) × Rising (now ls) (w .lanes) ⌝ }
+    ensures { λ _. ⌜ ((c : ℕ) (nx : Option ℕ) → Does (saveIn (w .items) (w .atcs) (reads (now (items .entry)) (now (atcs .entry)) (now (flags .entry)) (now (times .entry)))) nx (setVariable (tree (nodesIn (now (ws .entry)) (now (val .entry)) c) t) (tree (nodesIn (now (ws .entry)) (now (val .entry)) c) v)) (now (ls .entry)) (w .lanes) (now (vs .entry)) (now (rs .entry)) Flow.On (now (vs .exit)) (now (xs .exit)) (now (rs .exit))) ⌝ }
 {
     let mut targets = [0; LANES];
-    evaluate_lanes(
-        ws,
-        val,
-        target + 1,
-        target,
-        lanes,
-        s,
-        n,
-        m,
-        items,
-        atcs,
-        flags,
-        times,
-        vars,
-        &mut targets,
-        stops,
-    );
-    evaluate_lanes(
-        ws,
-        val,
-        value + 1,
-        value,
-        lanes,
-        s,
-        n,
-        m,
-        items,
-        atcs,
-        flags,
-        times,
-        vars,
-        out,
-        stops,
-    );
-    store_lanes(lanes, s, &targets, out, stops, vars);
+    let ks = &mut targets;
+    let b = t + 1;
+    evaluate_lanes(ws, val, b, t, ls, w, items, atcs, flags, times, vs, ks, rs);
+    let e = v + 1;
+    evaluate_lanes(ws, val, e, v, ls, w, items, atcs, flags, times, vs, xs, rs);
+    store_lanes(ls, w.lanes, &targets, xs, rs, vs);
 }
 
-// A Set whose target is the Imm k. Where the value is one too, as most are, nothing is evaluated.
+// A Set whose target is the Imm k. Where the value v is one too, as most are, nothing is evaluated.
 fn set_same(
     ws: &NodeWords,
     val: &Values,
     k: i32,
-    value: u16,
-    lanes: &[u8; LANES],
-    s: usize,
-    n: usize,
-    m: usize,
+    v: u16,
+    ls: &[u8; LANES],
+    w: Widths,
     items: &[i16],
     atcs: &[u8],
     flags: &[u8],
     times: &[i16],
-    vars: &mut [i32],
-    out: &mut [i32; LANES],
-    stops: &mut [u8; LANES],
+    vs: &mut [i32],
+    xs: &mut [i32; LANES],
+    rs: &mut [u8; LANES],
 )
-    requires { ⌜ (value < nodeLimit) × Stand n m (reads (now items) (now atcs) (now flags) (now times)) (now vars) (now lanes) s × Rising (now lanes) s ⌝ }
-    ensures { λ _. ⌜ ((c : ℕ) (nx : Option ℕ) (t : Expr) → Always t k → Does (saveIn n m (reads (now (items .entry)) (now (atcs .entry)) (now (flags .entry)) (now (times .entry)))) nx (setVariable t (tree (nodesIn (now (ws .entry)) (now (val .entry)) c) value)) (now (lanes .entry)) s (now (vars .entry)) (now (stops .entry)) Flow.On (now (vars .exit)) (now (out .exit)) (now (stops .exit))) ⌝ }
+    requires { ⌜ (v < nodeLimit) × Stand (w .items) (w .atcs) (reads (now items) (now atcs) (now flags) (now times)) (now vs) (now ls) (w .lanes) × Rising (now ls) (w .lanes) ⌝ }
+    ensures { λ _. ⌜ ((c : ℕ) (nx : Option ℕ) (t : Expr) → Always t k → Does (saveIn (w .items) (w .atcs) (reads (now (items .entry)) (now (atcs .entry)) (now (flags .entry)) (now (times .entry)))) nx (setVariable t (tree (nodesIn (now (ws .entry)) (now (val .entry)) c) v)) (now (ls .entry)) (w .lanes) (now (vs .entry)) (now (rs .entry)) Flow.On (now (vs .exit)) (now (xs .exit)) (now (rs .exit))) ⌝ }
 {
-    let v = number_below(ws, val, value + 1, value);
-    match v {
-        MaybeNumber::Is(x) => store_number(lanes, s, k, x, stops, vars),
+    let b = v + 1;
+    let q = number_below(ws, val, b, v);
+    match q {
+        MaybeNumber::Is(x) => store_number(ls, w.lanes, k, x, rs, vs),
         MaybeNumber::Nothing => {
-            evaluate_lanes(
-                ws,
-                val,
-                value + 1,
-                value,
-                lanes,
-                s,
-                n,
-                m,
-                items,
-                atcs,
-                flags,
-                times,
-                vars,
-                out,
-                stops,
-            );
-            store_same(lanes, s, k, out, stops, vars);
+            evaluate_lanes(ws, val, b, v, ls, w, items, atcs, flags, times, vs, xs, rs);
+            store_same(ls, w.lanes, k, xs, rs, vs);
         }
     }
 }
 
-// Set evaluates target, then value, then writes, each for all lanes. Every target of a compiled shop is an Imm.
+// Set evaluates its target t, then its value v, then writes, each for all lanes. Every target of a compiled shop is an Imm.
 fn set_variable(
     ws: &NodeWords,
     val: &Values,
-    target: u16,
-    value: u16,
-    lanes: &[u8; LANES],
-    s: usize,
-    n: usize,
-    m: usize,
+    t: u16,
+    v: u16,
+    ls: &[u8; LANES],
+    w: Widths,
     items: &[i16],
     atcs: &[u8],
     flags: &[u8],
     times: &[i16],
-    vars: &mut [i32],
-    out: &mut [i32; LANES],
-    stops: &mut [u8; LANES],
+    vs: &mut [i32],
+    xs: &mut [i32; LANES],
+    rs: &mut [u8; LANES],
 )
-    requires { ⌜ (target < nodeLimit) × (value < nodeLimit) × Stand n m (reads (now items) (now atcs) (now flags) (now times)) (now vars) (now lanes) s × Rising (now lanes) s ⌝ }
-    ensures { λ _. ⌜ ((c : ℕ) (nx : Option ℕ) → Does (saveIn n m (reads (now (items .entry)) (now (atcs .entry)) (now (flags .entry)) (now (times .entry)))) nx (setVariable (tree (nodesIn (now (ws .entry)) (now (val .entry)) c) target) (tree (nodesIn (now (ws .entry)) (now (val .entry)) c) value)) (now (lanes .entry)) s (now (vars .entry)) (now (stops .entry)) Flow.On (now (vars .exit)) (now (out .exit)) (now (stops .exit))) ⌝ }
+    requires { ⌜ (t < nodeLimit) × (v < nodeLimit) × Stand (w .items) (w .atcs) (reads (now items) (now atcs) (now flags) (now times)) (now vs) (now ls) (w .lanes) × Rising (now ls) (w .lanes) ⌝ }
+    ensures { λ _. ⌜ ((c : ℕ) (nx : Option ℕ) → Does (saveIn (w .items) (w .atcs) (reads (now (items .entry)) (now (atcs .entry)) (now (flags .entry)) (now (times .entry)))) nx (setVariable (tree (nodesIn (now (ws .entry)) (now (val .entry)) c) t) (tree (nodesIn (now (ws .entry)) (now (val .entry)) c) v)) (now (ls .entry)) (w .lanes) (now (vs .entry)) (now (rs .entry)) Flow.On (now (vs .exit)) (now (xs .exit)) (now (rs .exit))) ⌝ }
 {
-    let t = number_below(ws, val, target + 1, target);
-    match t {
-        MaybeNumber::Is(k) => set_same(
-            ws,
-            val,
-            k,
-            value,
-            lanes,
-            s,
-            n,
-            m,
-            items,
-            atcs,
-            flags,
-            times,
-            vars,
-            out,
-            stops,
-        ),
-        MaybeNumber::Nothing => set_each(
-            ws,
-            val,
-            target,
-            value,
-            lanes,
-            s,
-            n,
-            m,
-            items,
-            atcs,
-            flags,
-            times,
-            vars,
-            out,
-            stops,
-        ),
+    let q = number_below(ws, val, t + 1, t);
+    match q {
+        MaybeNumber::Is(k) => {
+            set_same(ws, val, k, v, ls, w, items, atcs, flags, times, vs, xs, rs)
+        }
+        MaybeNumber::Nothing => {
+            set_each(ws, val, t, v, ls, w, items, atcs, flags, times, vs, xs, rs)
+        }
+    }
+}
+
+// An If's ways: by its block's next, and to the block of that word where the value is 0.
+fn fork(link: u16, word: u32) -> Exit
+    ensures { λ r. ⌜ r ≡ forked link word ⌝ }
+{
+    Exit {
+        then: follow_link(link),
+        otherwise: Way {
+            word: word,
+            answer: 0,
+        },
     }
 }
 
@@ -329,25 +265,23 @@ fn command(
     cw: &CommandWords,
     c: u16,
     link: u16,
-    lanes: &[u8; LANES],
-    s: usize,
-    n: usize,
-    m: usize,
+    ls: &[u8; LANES],
+    w: Widths,
     items: &[i16],
     atcs: &[u8],
     flags: &[u8],
     times: &[i16],
-    vars: &mut [i32],
-    out: &mut [i32; LANES],
-    stops: &mut [u8; LANES],
+    vs: &mut [i32],
+    xs: &mut [i32; LANES],
+    rs: &mut [u8; LANES],
 ) -> Flow
-    requires { ⌜ Readable (now cw) c × Stand n m (reads (now items) (now atcs) (now flags) (now times)) (now vars) (now lanes) s × Rising (now lanes) s ⌝ }
-    ensures { λ r. ⌜ ((d e : ℕ) → Does (saveIn n m (reads (now (items .entry)) (now (atcs .entry)) (now (flags .entry)) (now (times .entry)))) (linkIn link) (commandIn (codedIn (now (ws .entry)) (now (val .entry)) (now (cw .entry)) d e) c) (now (lanes .entry)) s (now (vars .entry)) (now (stops .entry)) r (now (vars .exit)) (now (out .exit)) (now (stops .exit))) ⌝ }
+    requires { ⌜ Readable (now cw) c × Stand (w .items) (w .atcs) (reads (now items) (now atcs) (now flags) (now times)) (now vs) (now ls) (w .lanes) × Rising (now ls) (w .lanes) ⌝ }
+    ensures { λ r. ⌜ ((d e : ℕ) → Does (saveIn (w .items) (w .atcs) (reads (now (items .entry)) (now (atcs .entry)) (now (flags .entry)) (now (times .entry)))) (linkIn link) (commandIn (codedIn (now (ws .entry)) (now (val .entry)) (now (cw .entry)) d e) c) (now (ls .entry)) (w .lanes) (now (vs .entry)) (now (rs .entry)) r (now (vs .exit)) (now (xs .exit)) (now (rs .exit))) ⌝ }
 {
     let at = c as usize;
     let kind = cw[4 * at];
-    let first = cw[4 * at + 1];
-    let second = cw[4 * at + 2];
+    let t = cw[4 * at + 1];
+    let v = cw[4 * at + 2];
     let block = cw[4 * at + 3];
     let target = word_of(block);
     match kind {
@@ -357,50 +291,13 @@ fn command(
             if block != 0 {
                 return Flow::Out(both(0, 13));
             }
-            set_variable(
-                ws,
-                val,
-                first,
-                second,
-                lanes,
-                s,
-                n,
-                m,
-                items,
-                atcs,
-                flags,
-                times,
-                vars,
-                out,
-                stops,
-            );
+            set_variable(ws, val, t, v, ls, w, items, atcs, flags, times, vs, xs, rs);
             Flow::On
         }
         3 => {
-            evaluate_lanes(
-                ws,
-                val,
-                first + 1,
-                first,
-                lanes,
-                s,
-                n,
-                m,
-                items,
-                atcs,
-                flags,
-                times,
-                vars,
-                out,
-                stops,
-            );
-            Flow::Out(Exit {
-                then: follow_link(link),
-                otherwise: Way {
-                    word: target,
-                    answer: 0,
-                },
-            })
+            let b = t + 1;
+            evaluate_lanes(ws, val, b, t, ls, w, items, atcs, flags, times, vs, xs, rs);
+            Flow::Out(fork(link, target))
         }
         4 => Flow::Out(both(target, 0)),
         _ => Flow::Out(both(0, 13)),
@@ -409,48 +306,49 @@ fn command(
 
 // ---- blocks
 
-// The commands of one block, many of them from command first on, each decoded once for all lanes.
+// Where a block's commands stand: many of them from command first on; link is the block's next.
+struct Code {
+    first: u16,
+    many: u16,
+    link: u16,
+}
+
+// The commands of one block, each decoded once for all lanes.
 fn execute_block(
     ws: &NodeWords,
     val: &Values,
     cw: &CommandWords,
-    first: u16,
-    many: u16,
-    link: u16,
-    lanes: &[u8; LANES],
-    s: usize,
-    n: usize,
-    m: usize,
+    c: Code,
+    ls: &[u8; LANES],
+    w: Widths,
     items: &[i16],
     atcs: &[u8],
     flags: &[u8],
     times: &[i16],
-    vars: &mut [i32],
-    out: &mut [i32; LANES],
-    stops: &mut [u8; LANES],
+    vs: &mut [i32],
+    xs: &mut [i32; LANES],
+    rs: &mut [u8; LANES],
 ) -> Exit
-    requires { ⌜ Readables (now cw) first many × Stand n m (reads (now items) (now atcs) (now flags) (now times)) (now vars) (now lanes) s × Rising (now lanes) s ⌝ }
-    ensures { λ r. ⌜ ((d e : ℕ) → Leaves (λ t. execute t (linkIn link) (commandsIn (codedIn (now (ws .entry)) (now (val .entry)) (now (cw .entry)) d e) many first)) (saveIn n m (reads (now (items .entry)) (now (atcs .entry)) (now (flags .entry)) (now (times .entry)))) (now (lanes .entry)) s (now (vars .entry)) (now (stops .entry)) r (now (vars .exit)) (now (out .exit)) (now (stops .exit))) ⌝ }
+    requires { ⌜ Readables (now cw) (c .first) (c .many) × Stand (w .items) (w .atcs) (reads (now items) (now atcs) (now flags) (now times)) (now vs) (now ls) (w .lanes) × Rising (now ls) (w .lanes) ⌝ }
+    ensures { λ r. ⌜ ((d e : ℕ) → Leaves (λ t. execute t (linkIn (c .link)) (commandsIn (codedIn (now (ws .entry)) (now (val .entry)) (now (cw .entry)) d e) (c .many) (c .first))) (saveIn (w .items) (w .atcs) (reads (now (items .entry)) (now (atcs .entry)) (now (flags .entry)) (now (times .entry)))) (now (ls .entry)) (w .lanes) (now (vs .entry)) (now (rs .entry)) r (now (vs .exit)) (now (xs .exit)) (now (rs .exit))) ⌝ }
 {
     let mut i = 0;
-    while i < many {
+    while i < c.many {
         let f = command(
             ws,
             val,
             cw,
-            first + i,
-            link,
-            lanes,
-            s,
-            n,
-            m,
+            c.first + i,
+            c.link,
+            ls,
+            w,
             items,
             atcs,
             flags,
             times,
-            vars,
-            out,
-            stops,
+            vs,
+            xs,
+            rs,
         );
         match f {
             Flow::On => {
@@ -461,7 +359,7 @@ fn execute_block(
             }
         }
     }
-    let next = follow_link(link);
+    let next = follow_link(c.link);
     Exit {
         then: next,
         otherwise: next,
@@ -476,20 +374,18 @@ fn step_block(
     bw: &BlockWords,
     counts: Counts,
     b: u32,
-    lanes: &[u8; LANES],
-    s: usize,
-    n: usize,
-    m: usize,
+    ls: &[u8; LANES],
+    w: Widths,
     items: &[i16],
     atcs: &[u8],
     flags: &[u8],
     times: &[i16],
-    vars: &mut [i32],
-    out: &mut [i32; LANES],
-    stops: &mut [u8; LANES],
+    vs: &mut [i32],
+    xs: &mut [i32; LANES],
+    rs: &mut [u8; LANES],
 ) -> Exit
-    requires { ⌜ Ready (now cw) (now bw) (counts .blocks) × Stand n m (reads (now items) (now atcs) (now flags) (now times)) (now vars) (now lanes) s × Rising (now lanes) s ⌝ }
-    ensures { λ r. ⌜ Leaves (λ t. step (scriptOf (memoryOf (now (ws .entry)) (now (val .entry)) (now (cw .entry)) (now (bw .entry)) counts) .blocks) t b) (saveIn n m (reads (now (items .entry)) (now (atcs .entry)) (now (flags .entry)) (now (times .entry)))) (now (lanes .entry)) s (now (vars .entry)) (now (stops .entry)) r (now (vars .exit)) (now (out .exit)) (now (stops .exit)) ⌝ }
+    requires { ⌜ Ready (now cw) (now bw) (counts .blocks) × Stand (w .items) (w .atcs) (reads (now items) (now atcs) (now flags) (now times)) (now vs) (now ls) (w .lanes) × Rising (now ls) (w .lanes) ⌝ }
+    ensures { λ r. ⌜ Leaves (λ t. step (scriptOf (memoryOf (now (ws .entry)) (now (val .entry)) (now (cw .entry)) (now (bw .entry)) counts) .blocks) t b) (saveIn (w .items) (w .atcs) (reads (now (items .entry)) (now (atcs .entry)) (now (flags .entry)) (now (times .entry)))) (now (ls .entry)) (w .lanes) (now (vs .entry)) (now (rs .entry)) r (now (vs .exit)) (now (xs .exit)) (now (rs .exit)) ⌝ }
 {
     if b >= counts.blocks as u32 {
         return both(0, 13);
@@ -499,28 +395,12 @@ fn step_block(
     if kind != 1 {
         return both(0, 13);
     }
-    let first = bw[5 * at + 1];
-    let many = bw[5 * at + 2];
-    let link = bw[5 * at + 3];
-    execute_block(
-        ws,
-        val,
-        cw,
-        first,
-        many,
-        link,
-        lanes,
-        s,
-        n,
-        m,
-        items,
-        atcs,
-        flags,
-        times,
-        vars,
-        out,
-        stops,
-    )
+    let c = Code {
+        first: bw[5 * at + 1],
+        many: bw[5 * at + 2],
+        link: bw[5 * at + 3],
+    };
+    execute_block(ws, val, cw, c, ls, w, items, atcs, flags, times, vs, xs, rs)
 }
 
 // ---- lanes
@@ -583,7 +463,7 @@ fn settle(
     }
 }
 
-// Block b is read for the first s of lanes, which stand at it.
+// Block b is read for the lanes that stand at it.
 pub fn visit_block(
     ws: &NodeWords,
     val: &Values,
@@ -591,24 +471,22 @@ pub fn visit_block(
     bw: &BlockWords,
     counts: Counts,
     b: u32,
-    lanes: &[u8; LANES],
-    s: usize,
-    n: usize,
-    m: usize,
+    ls: &[u8; LANES],
+    w: Widths,
     items: &[i16],
     atcs: &[u8],
     flags: &[u8],
     times: &[i16],
-    vars: &mut [i32],
+    vs: &mut [i32],
     at: &mut [u32; LANES],
     answers: &mut [u8; LANES],
     entered: &mut [u32; LANES],
 )
-    requires { ⌜ Ready (now cw) (now bw) (counts .blocks) × Stand n m (reads (now items) (now atcs) (now flags) (now times)) (now vars) (now lanes) s × Rising (now lanes) s × Countable (now lanes) s (now entered) ⌝ }
-    ensures { λ _. ⌜ Visited (saveIn n m (reads (now (items .entry)) (now (atcs .entry)) (now (flags .entry)) (now (times .entry)))) (scriptOf (memoryOf (now (ws .entry)) (now (val .entry)) (now (cw .entry)) (now (bw .entry)) counts) .blocks) b (now (lanes .entry)) s (now (at .entry)) (now (answers .entry)) (now (entered .entry)) (now (vars .entry)) (now (at .exit)) (now (answers .exit)) (now (entered .exit)) (now (vars .exit)) ⌝ }
+    requires { ⌜ Ready (now cw) (now bw) (counts .blocks) × Stand (w .items) (w .atcs) (reads (now items) (now atcs) (now flags) (now times)) (now vs) (now ls) (w .lanes) × Rising (now ls) (w .lanes) × Countable (now ls) (w .lanes) (now entered) ⌝ }
+    ensures { λ _. ⌜ Visited (saveIn (w .items) (w .atcs) (reads (now (items .entry)) (now (atcs .entry)) (now (flags .entry)) (now (times .entry)))) (scriptOf (memoryOf (now (ws .entry)) (now (val .entry)) (now (cw .entry)) (now (bw .entry)) counts) .blocks) b (now (ls .entry)) (w .lanes) (now (at .entry)) (now (answers .entry)) (now (entered .entry)) (now (vs .entry)) (now (at .exit)) (now (answers .exit)) (now (entered .exit)) (now (vs .exit)) ⌝ }
 {
-    let mut out = [0; LANES];
-    let mut stops = [0; LANES];
+    let mut xs = [0; LANES];
+    let mut rs = [0; LANES];
     let exit = step_block(
         ws,
         val,
@@ -616,17 +494,15 @@ pub fn visit_block(
         bw,
         counts,
         b,
-        lanes,
-        s,
-        n,
-        m,
+        ls,
+        w,
         items,
         atcs,
         flags,
         times,
-        vars,
-        &mut out,
-        &mut stops,
+        vs,
+        &mut xs,
+        &mut rs,
     );
-    settle(lanes, s, &out, &stops, exit, at, answers, entered);
+    settle(ls, w.lanes, &xs, &rs, exit, at, answers, entered);
 }

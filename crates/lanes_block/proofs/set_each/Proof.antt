@@ -14,11 +14,11 @@ returns : tie.Need-returns
 returns c =
     let a = c .before .before .before .before .before .before .before .before .before .before .before .before .before .before .before .before in
     let t = c .before .before .before .before .before .before .before .before .before .before .evaluate-lanes in
-    let t′ = t .last .1 .1 .1 .1 .1 .1 .1 .1 .1 .1 .1 .1 .1 in
+    let t′ = t .last .1 .1 .1 .1 .1 .1 .1 .1 .1 .1 .1 in
     let v = c .before .before .before .before .before .before .evaluate-lanes2 in
     λ d nx.
     let ns = nodesIn (a .args .ws .now) (a .args .val .now) d in
-    set-does {rs₁ = t′ .1 .0} (valued-worth {xs = t′ .0} (rw (below-root ns (a .args .target)) at (t .ensures d))) (valued-worth {rs = t′ .1 .0} {xs = v .last .1 .1 .1 .1 .1 .1 .1 .1 .1 .1 .1 .1 .1 .0} (rw (below-root ns (a .args .value)) at (v .ensures d))) (c .before .store-lanes .ensures)
+    set-does {rs₁ = t′ .1 .0} (valued-worth {xs = t′ .0} (rw (below-root ns (a .args .t)) at (t .ensures d))) (valued-worth {rs = t′ .1 .0} {xs = v .last .1 .1 .1 .1 .1 .1 .1 .1 .1 .1 .1 .0} (rw (below-root ns (a .args .v)) at (v .ensures d))) (c .before .store-lanes .ensures)
 
 pub set-each-spec : {M : Type 1} → statement M
 set-each-spec =

@@ -22,12 +22,12 @@ returns c =
     let a = c .before .before .before .before .before .before .before .before .before .before in
     λ d nx t p.
     let ns = nodesIn (a .args .ws .now) (a .args .val .now) d in
-    set-does (always-worth (toZ-ofZ (a .fits .k)) p) (always-worth refl (imm-always (tree ns (a .args .value)) _ (imm-found (tree ns (a .args .value)) (toZ-ofZ {w = w32} (record { sfits = c .before .before .before .before .known-told .given .0 .1 })) (c .before .before .before .before .before .v .given .1) (rw (below-root ns (a .args .value)) at (c .before .before .before .before .before .before .before .number-below .ensures d))))) (c .before .store-number .ensures)
+    set-does (always-worth (toZ-ofZ (a .fits .k)) p) (always-worth refl (imm-always (tree ns (a .args .v)) _ (imm-found (tree ns (a .args .v)) (toZ-ofZ {w = w32} (record { sfits = c .before .before .before .before .known-told .given .0 .1 })) (c .before .before .before .before .before .q .given .1) (rw (below-root ns (a .args .v)) at (c .before .before .before .before .before .before .before .number-below .ensures d))))) (c .before .store-number .ensures)
 
 returns-2 : tie.Need-returns-2
 returns-2 c =
     let a = c .before .before .before .before .before .before .before .before .before .before .before .before .before .before in
-    λ d nx t p. set-does (always-worth (toZ-ofZ (a .fits .k)) p) (valued-worth {xs = c .before .before .before .before .before .evaluate-lanes .last .1 .1 .1 .1 .1 .1 .1 .1 .1 .1 .1 .1 .1 .0} (rw (below-root (nodesIn (a .args .ws .now) (a .args .val .now) d) (a .args .value)) at (c .before .before .before .before .before .evaluate-lanes .ensures d))) (c .before .store-same .ensures)
+    λ d nx t p. set-does (always-worth (toZ-ofZ (a .fits .k)) p) (valued-worth {xs = c .before .before .before .before .before .evaluate-lanes .last .1 .1 .1 .1 .1 .1 .1 .1 .1 .1 .1 .0} (rw (below-root (nodesIn (a .args .ws .now) (a .args .val .now) d) (a .args .v)) at (c .before .before .before .before .before .evaluate-lanes .ensures d))) (c .before .store-same .ensures)
 
 pub set-same-spec : {M : Type 1} → statement M
 set-same-spec =
@@ -37,7 +37,6 @@ set-same-spec =
     (λ c κs. search needs)
     (λ c. search needs)
     store-number-requires
-    (λ c. search needs)
     (λ c. search needs)
     (λ c κs. search needs)
     store-same-requires

@@ -15,7 +15,7 @@ returns c =
     let a = c .before .before .before .before .before .before .before .before .before .before .before in
     λ d nx.
     let ns = nodesIn (a .args .ws .now) (a .args .val .now) d in
-    c .before .set-same .ensures d nx (tree ns (a .args .target)) (imm-always (tree ns (a .args .target)) (toZ w32 (ofZ w32 (c .before .before .before .before .before .before .t .given .0 .0))) (imm-found (tree ns (a .args .target)) (toZ-ofZ {w = w32} (record { sfits = c .before .before .before .before .before .known-told .given .0 .1 })) (c .before .before .before .before .before .before .t .given .1) (rw (below-root ns (a .args .target)) at (c .before .before .before .before .before .before .before .before .number-below .ensures d))))
+    c .before .set-same .ensures d nx (tree ns (a .args .t)) (imm-always (tree ns (a .args .t)) (toZ w32 (ofZ w32 (c .before .before .before .before .before .before .q .given .0 .0))) (imm-found (tree ns (a .args .t)) (toZ-ofZ {w = w32} (record { sfits = c .before .before .before .before .before .known-told .given .0 .1 })) (c .before .before .before .before .before .before .q .given .1) (rw (below-root ns (a .args .t)) at (c .before .before .before .before .before .before .before .before .number-below .ensures d))))
 
 pub set-variable-spec : {M : Type 1} → statement M
 set-variable-spec =

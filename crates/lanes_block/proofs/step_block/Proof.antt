@@ -14,7 +14,7 @@ use Rattle.lanes_block.proofs.step_block.Tie as tie
 
 -- what the call was given
 abbrev save : tie.Start → ℕ → Save
-save a = saveIn (a .args .n) (a .args .m) (reads (a .args .items .now) (a .args .atcs .now) (a .args .flags .now) (a .args .times .now))
+save a = saveIn (a .args .w .items) (a .args .w .atcs) (reads (a .args .items .now) (a .args .atcs .now) (a .args .flags .now) (a .args .times .now))
 
 abbrev memory : tie.Start → Memory
 memory a = memoryOf (a .args .ws .now) (a .args .val .now) (a .args .cw .now) (a .args .bw .now) (a .args .counts)
@@ -37,8 +37,8 @@ returns-3 : tie.Need-returns-3
 returns-3 c =
     let a = c .before .before .before .before .before .before .before .before .before .before .before .before .before .before in
     let x = c .before .execute-block in
-    let x′ = x .last .1 .1 .1 .1 .1 .1 .1 .1 .1 .1 .1 .1 .1 .1 in
-    leaves-as {save = save a} {ls = a .args .lanes .now} {s = a .args .s} {vs = a .args .vars .now} {rs = a .args .stops .now} {vs′ = x′ .0} {xs′ = x′ .1 .0} {rs′ = x′ .1 .1 .0} (λ t v. sym (step-code (memory a) t (a .args .b) v (c .before .before .before .before .before .before .before .before .before .before .if1 .left) (c .before .before .before .before .before .before .before .before .if2 .left) refl)) (x .ensures (a .args .counts .nodes) (a .args .counts .commands))
+    let x′ = x .last .1 .1 .1 .1 .1 .1 .1 .1 .1 .1 in
+    leaves-as {save = save a} {ls = a .args .ls .now} {s = a .args .w .lanes} {vs = a .args .vs .now} {rs = a .args .rs .now} {vs′ = x′ .0} {xs′ = x′ .1 .0} {rs′ = x′ .1 .1 .0} (λ t v. sym (step-code (memory a) t (a .args .b) v (c .before .before .before .before .before .before .before .before .before .before .if1 .left) (c .before .before .before .before .before .before .before .before .if2 .left) refl)) (x .ensures (a .args .counts .nodes) (a .args .counts .commands))
 
 pub step-block-spec : {M : Type 1} → statement M
 step-block-spec =
