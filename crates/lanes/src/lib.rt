@@ -29,6 +29,7 @@ use checks::numbers_known;
 use checks::shorts_known;
 use lanes_block::visit_block;
 use lanes_expr::LANES;
+use lanes_expr::Widths;
 use lanes_falls::falls_from;
 use memory::BlockWords;
 use memory::CommandWords;
@@ -123,9 +124,7 @@ fn visit_standing(
     bw: &BlockWords,
     counts: Counts,
     word: u32,
-    k: usize,
-    n: usize,
-    m: usize,
+    w: Widths,
     items: &[i16],
     atcs: &[u8],
     flags: &[u8],
@@ -135,11 +134,12 @@ fn visit_standing(
     answers: &mut [u8; LANES],
     entered: &mut [u32; LANES],
 )
-    requires { ⌜ Ready (now cw) (now bw) (counts .blocks) × Lying n m (reads (now items) (now atcs) (now flags) (now times)) (now vars) k × (0 < word) × CountsTo k 4294967294 (now entered) ⌝ }
-    ensures { λ _. ⌜ ((w : List ℤ) → Stepped (saveIn n m (saveOf (now (items .entry)) (now (atcs .entry)) (now (flags .entry)) (now (times .entry)) w)) (scriptOf (memoryOf (now (ws .entry)) (now (val .entry)) (now (cw .entry)) (now (bw .entry)) counts) .blocks) (word - 1) k (now (at .entry)) (now (answers .entry)) (now (entered .entry)) (now (vars .entry)) (now (at .exit)) (now (answers .exit)) (now (entered .exit)) (now (vars .exit))) ⌝ }
+    requires { ⌜ Ready (now cw) (now bw) (counts .blocks) × Lying (w .items) (w .atcs) (reads (now items) (now atcs) (now flags) (now times)) (now vars) (w .lanes) × (0 < word) × CountsTo (w .lanes) 4294967294 (now entered) ⌝ }
+    ensures { λ _. ⌜ ((v : List ℤ) → Stepped (saveIn (w .items) (w .atcs) (saveOf (now (items .entry)) (now (atcs .entry)) (now (flags .entry)) (now (times .entry)) v)) (scriptOf (memoryOf (now (ws .entry)) (now (val .entry)) (now (cw .entry)) (now (bw .entry)) counts) .blocks) (word - 1) (w .lanes) (now (at .entry)) (now (answers .entry)) (now (entered .entry)) (now (vars .entry)) (now (at .exit)) (now (answers .exit)) (now (entered .exit)) (now (vars .exit))) ⌝ }
 {
-    let mut lanes = [0; LANES];
-    let s = gather(at, k, word, &mut lanes);
+    let mut ls = [0; LANES];
+    let mut v = w;
+    v.lanes = gather(at, w.lanes, word, &mut ls);
     visit_block(
         ws,
         val,
@@ -147,10 +147,8 @@ fn visit_standing(
         bw,
         counts,
         word - 1,
-        &lanes,
-        s,
-        n,
-        m,
+        &ls,
+        v,
         items,
         atcs,
         flags,
@@ -169,9 +167,7 @@ fn walk_down(
     cw: &CommandWords,
     bw: &BlockWords,
     counts: Counts,
-    k: usize,
-    n: usize,
-    m: usize,
+    w: Widths,
     items: &[i16],
     atcs: &[u8],
     flags: &[u8],
@@ -181,12 +177,12 @@ fn walk_down(
     answers: &mut [u8; LANES],
     entered: &mut [u32; LANES],
 ) -> u32
-    requires { ⌜ Ready (now cw) (now bw) (counts .blocks) × Lying n m (reads (now items) (now atcs) (now flags) (now times)) (now vars) k × CountsTo k 1 (now entered) ⌝ }
-    ensures { λ r. ⌜ ((w : List ℤ) → Down (saveIn n m (saveOf (now (items .entry)) (now (atcs .entry)) (now (flags .entry)) (now (times .entry)) w)) (scriptOf (memoryOf (now (ws .entry)) (now (val .entry)) (now (cw .entry)) (now (bw .entry)) counts) .blocks) (counts .blocks) k (now (at .entry)) (now (answers .entry)) (now (entered .entry)) (now (vars .entry)) r (now (at .exit)) (now (answers .exit)) (now (entered .exit)) (now (vars .exit))) ⌝ }
+    requires { ⌜ Ready (now cw) (now bw) (counts .blocks) × Lying (w .items) (w .atcs) (reads (now items) (now atcs) (now flags) (now times)) (now vars) (w .lanes) × CountsTo (w .lanes) 1 (now entered) ⌝ }
+    ensures { λ r. ⌜ ((v : List ℤ) → Down (saveIn (w .items) (w .atcs) (saveOf (now (items .entry)) (now (atcs .entry)) (now (flags .entry)) (now (times .entry)) v)) (scriptOf (memoryOf (now (ws .entry)) (now (val .entry)) (now (cw .entry)) (now (bw .entry)) counts) .blocks) (counts .blocks) (w .lanes) (now (at .entry)) (now (answers .entry)) (now (entered .entry)) (now (vars .entry)) r (now (at .exit)) (now (answers .exit)) (now (entered .exit)) (now (vars .exit))) ⌝ }
 {
     let mut read: u32 = 0;
     let mut top = counts.blocks as u32;
-    let mut word = highest(at, k, top);
+    let mut word = highest(at, w.lanes, top);
     while word != 0 {
         visit_standing(
             ws,
@@ -195,9 +191,7 @@ fn walk_down(
             bw,
             counts,
             word,
-            k,
-            n,
-            m,
+            w,
             items,
             atcs,
             flags,
@@ -209,7 +203,7 @@ fn walk_down(
         );
         read += 1;
         top = word - 1;
-        word = highest(at, k, top);
+        word = highest(at, w.lanes, top);
     }
     read
 }
@@ -267,9 +261,7 @@ fn walk_all(
     bw: &BlockWords,
     counts: Counts,
     start: BlockNo,
-    k: usize,
-    n: usize,
-    m: usize,
+    w: Widths,
     items: &[i16],
     atcs: &[u8],
     flags: &[u8],
@@ -278,12 +270,12 @@ fn walk_all(
     answers: &mut [u8; LANES],
     entered: &mut [u32; LANES],
 ) -> u32
-    requires { ⌜ Ready (now cw) (now bw) (counts .blocks) × Lying n m (reads (now items) (now atcs) (now flags) (now times)) (now vars) k × (start .0 < counts .blocks) ⌝ }
-    ensures { λ r. ⌜ LanesWalked (scriptOf (memoryOf (now (ws .entry)) (now (val .entry)) (now (cw .entry)) (now (bw .entry)) counts) .blocks) (start .0) n m (saveOf (now (items .entry)) (now (atcs .entry)) (now (flags .entry)) (now (times .entry)) (now (vars .entry))) k (now (answers .entry)) (now (entered .entry)) r (now (answers .exit)) (now (entered .exit)) (now (vars .exit)) ⌝ }
+    requires { ⌜ Ready (now cw) (now bw) (counts .blocks) × Lying (w .items) (w .atcs) (reads (now items) (now atcs) (now flags) (now times)) (now vars) (w .lanes) × (start .0 < counts .blocks) ⌝ }
+    ensures { λ r. ⌜ LanesWalked (scriptOf (memoryOf (now (ws .entry)) (now (val .entry)) (now (cw .entry)) (now (bw .entry)) counts) .blocks) (start .0) (w .items) (w .atcs) (saveOf (now (items .entry)) (now (atcs .entry)) (now (flags .entry)) (now (times .entry)) (now (vars .entry))) (w .lanes) (now (answers .entry)) (now (entered .entry)) r (now (answers .exit)) (now (entered .exit)) (now (vars .exit)) ⌝ }
 {
     let mut at = [0; LANES];
     let word = start.0 + 1;
-    begin(k, word, &mut at, entered);
+    begin(w.lanes, word, &mut at, entered);
     visit_standing(
         ws,
         val,
@@ -291,9 +283,7 @@ fn walk_all(
         bw,
         counts,
         word,
-        k,
-        n,
-        m,
+        w,
         items,
         atcs,
         flags,
@@ -309,9 +299,7 @@ fn walk_all(
         cw,
         bw,
         counts,
-        k,
-        n,
-        m,
+        w,
         items,
         atcs,
         flags,
@@ -321,7 +309,7 @@ fn walk_all(
         answers,
         entered,
     );
-    finish(&at, k, answers);
+    finish(&at, w.lanes, answers);
     read + 1
 }
 
@@ -515,8 +503,11 @@ fn walk_saves(
             entered,
         );
     }
-    let n = attached.len();
-    let m = sheet.atcs as usize;
+    let w = Widths {
+        lanes: k as usize,
+        items: attached.len(),
+        atcs: sheet.atcs as usize,
+    };
     walk_all(
         ws,
         val,
@@ -524,9 +515,7 @@ fn walk_saves(
         bw,
         counts,
         start,
-        k as usize,
-        n,
-        m,
+        w,
         items,
         atcs,
         flags,

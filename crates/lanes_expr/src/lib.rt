@@ -22,6 +22,7 @@ use model::Op1;
 use model::Op2;
 
 // The most lanes of a walk. What a loop over lanes leaves is dense: place j belongs to the lane whose number stands at place j.
+// By the names of the definitions: ls has the lanes' numbers, vs the variables of all saves, xs and rs a value and a refusal, or 0, for each lane of ls.
 pub const LANES: usize = 64;
 
 // How many lanes a list names, and how many items and ATCs each save has.

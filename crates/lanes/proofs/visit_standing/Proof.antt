@@ -27,9 +27,9 @@ returns : tie.Need-returns
 returns c =
     let a = c .before .before .before .before .before .before .before .before .before .before .before .before in
     let z = c .before .visit-block in
-    let z′ = z .last .1 .1 .1 .1 .1 .1 .1 .1 .1 .1 .1 .1 .1 .1 in
-    λ w. stepped {qs = a .args .answers .now} {es = a .args .entered .now} {ps′ = z′ .1 .0} {qs′ = z′ .1 .1 .0} {es′ = z′ .1 .1 .1 .0} {vs = a .args .vars .now} {vs′ = z′ .0}
-    (λ l v. step-rest (saveIn (a .args .n) (a .args .m) (saveOf (a .args .items .now) (a .args .atcs .now) (a .args .flags .now) (a .args .times .now) w) l) (blocks a) (a .args .word - 1) v ∙ sym (step-rest (saveIn (a .args .n) (a .args .m) (reads (a .args .items .now) (a .args .atcs .now) (a .args .flags .now) (a .args .times .now)) l) (blocks a) (a .args .word - 1) v)) (gathered-word (c .before .before .before .before .before .before .before .gather .ensures) (a .pre .2)) (z .ensures)
+    let z′ = z .last .1 .1 .1 .1 .1 .1 .1 .1 .1 .1 .1 .1 in
+    λ v. stepped {qs = a .args .answers .now} {es = a .args .entered .now} {ps′ = z′ .1 .0} {qs′ = z′ .1 .1 .0} {es′ = z′ .1 .1 .1 .0} {vs = a .args .vars .now} {vs′ = z′ .0}
+    (λ l u. step-rest (saveIn (a .args .w .items) (a .args .w .atcs) (saveOf (a .args .items .now) (a .args .atcs .now) (a .args .flags .now) (a .args .times .now) v) l) (blocks a) (a .args .word - 1) u ∙ sym (step-rest (saveIn (a .args .w .items) (a .args .w .atcs) (reads (a .args .items .now) (a .args .atcs .now) (a .args .flags .now) (a .args .times .now)) l) (blocks a) (a .args .word - 1) u)) (gathered-word (c .before .before .before .before .before .before .before .gather .ensures) (a .pre .2)) (z .ensures)
 
 pub visit-standing-spec : {M : Type 1} → statement M
 visit-standing-spec =

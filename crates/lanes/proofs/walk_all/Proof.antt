@@ -34,9 +34,9 @@ returns : tie.Need-returns
 returns c =
     let a = c .before .before .before .before .before .before .before .before .before .before .before .before .before .before .before .before .before .before .before .before .before in
     let v = c .before .before .before .before .before .before .before .before .before .before .visit-standing in
-    let v′ = v .last .1 .1 .1 .1 .1 .1 .1 .1 .1 .1 .1 .1 .1 in
+    let v′ = v .last .1 .1 .1 .1 .1 .1 .1 .1 .1 .1 .1 in
     let d = c .before .before .before .before .walk-down in
-    let d′ = d .last .1 .1 .1 .1 .1 .1 .1 .1 .1 .1 .1 .1 in
+    let d′ = d .last .1 .1 .1 .1 .1 .1 .1 .1 .1 .1 in
     lanes-walked {bs = scriptOf (memory a) .blocks} {f = save a} {ps₂ = v′ .1 .0} {ps₃ = d′ .1 .0} {qs = a .args .answers .now} {qs₂ = v′ .1 .1 .0} {qs₃ = d′ .1 .1 .0} {es₂ = v′ .1 .1 .1 .0} {es′ = d′ .1 .1 .1 .0} {vs₂ = v′ .0} {vs′ = d′ .0} (c .before .before .before .before .before .before .before .before .before .before .before .before .before .before .before .begin .ensures) (v .ensures (a .args .vars .now)) (script-length (memory a)) (d .ensures (a .args .vars .now)) (c .finish .ensures)
 
 pub walk-all-spec : {M : Type 1} → statement M

@@ -53,7 +53,7 @@ returns-2 : tie.Need-returns-2
 returns-2 c =
     let a = c .before .before .before .before .before .before .before .before .before .before in
     let w = c .before .walk-all in
-    let w′ = w .last .1 .1 .1 .1 .1 .1 .1 .1 .1 .1 .1 .1 .1 in
+    let w′ = w .last .1 .1 .1 .1 .1 .1 .1 .1 .1 .1 .1 in
     left-walked (a .args .attached .now) (a .args .sheet) (memory a) (a .args .start .0) (a .args .k) (save a) (a .args .answers .now) (a .args .entered .now) (w .result) (w′ .1 .0) (w′ .1 .1 .0) (w′ .0) (a .pre)
     (saves-long (a .args .attached .now) (a .args .sheet) (save a) (a .args .k) (walk-passed-in (sheet a) (memory a) (a .args .start .0) (a .args .k) (save a) (a .pre) .lengths)) (w .ensures)
 
