@@ -37,6 +37,9 @@ use memory::Counts;
 use memory::NodeWords;
 use memory::Values;
 use model::BlockNo;
+use model::FLAGS;
+use model::TIMES;
+use model::VARIABLES;
 use runner::run_copied;
 use shop::Sheet;
 
@@ -337,9 +340,9 @@ fn lengths_ok(
 {
     let a = items.len() == k * n;
     let b = atcs.len() == k * m;
-    let c = flags.len() == k * 2048;
-    let d = times.len() == k * 8;
-    let e = vars.len() == k * 1024;
+    let c = flags.len() == k * FLAGS;
+    let d = times.len() == k * TIMES;
+    let e = vars.len() == k * VARIABLES;
     a & (b & (c & (d & e)))
 }
 

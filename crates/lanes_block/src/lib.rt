@@ -25,6 +25,7 @@ use memory::CommandWords;
 use memory::Counts;
 use memory::NodeWords;
 use memory::Values;
+use model::VARIABLES;
 
 // Where a lane goes: block + 1, or 0 where it ends with that answer.
 pub struct Way {
@@ -96,8 +97,8 @@ fn store_lane(vars: &mut [i32], lane: u8, k: i32, x: i32, stop: u8)
         return;
     }
     let i = k as usize;
-    if i < 1024 {
-        vars[(lane as usize) * 1024 + i] = x;
+    if i < VARIABLES {
+        vars[(lane as usize) * VARIABLES + i] = x;
     }
 }
 

@@ -17,9 +17,12 @@ use expr::number_below;
 use memory::NodeWords;
 use memory::Values;
 use memory::kind_of;
+use model::FLAGS;
 use model::Kind;
 use model::Op1;
 use model::Op2;
+use model::TIMES;
+use model::VARIABLES;
 
 // The most lanes of a walk. What a loop over lanes leaves is dense: place j belongs to the lane whose number stands at place j.
 // By the names of the definitions: ls has the lanes' numbers, vs the variables of all saves, xs and rs a value and a refusal, or 0, for each lane of ls.
@@ -119,11 +122,11 @@ fn apply_in(
 {
     match o {
         Op1::Not => expr::apply_two(Op2::Equal, x, 0),
-        Op1::Flag => byte_in(flags, 2048, l, x),
-        Op1::Variable => number_in(vs, 1024, l, x),
+        Op1::Flag => byte_in(flags, FLAGS, l, x),
+        Op1::Variable => number_in(vs, VARIABLES, l, x),
         Op1::Item => short_in(items, w.items, l, x),
         Op1::Atc => byte_in(atcs, w.atcs, l, x),
-        Op1::Time => short_in(times, 8, l, x),
+        Op1::Time => short_in(times, TIMES, l, x),
     }
 }
 
@@ -412,11 +415,11 @@ fn apply_same_lanes(
 {
     match o {
         Op1::Not => fill(expr::apply_two(Op2::Equal, x, 0), w.lanes, xs),
-        Op1::Flag => same_bytes(flags, 2048, ls, w.lanes, x, xs),
-        Op1::Variable => same_numbers(vs, 1024, ls, w.lanes, x, xs),
+        Op1::Flag => same_bytes(flags, FLAGS, ls, w.lanes, x, xs),
+        Op1::Variable => same_numbers(vs, VARIABLES, ls, w.lanes, x, xs),
         Op1::Item => same_shorts(items, w.items, ls, w.lanes, x, xs),
         Op1::Atc => same_bytes(atcs, w.atcs, ls, w.lanes, x, xs),
-        Op1::Time => same_shorts(times, 8, ls, w.lanes, x, xs),
+        Op1::Time => same_shorts(times, TIMES, ls, w.lanes, x, xs),
     }
 }
 
