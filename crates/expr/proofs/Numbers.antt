@@ -11,6 +11,12 @@ use Rattle.model.specs.declared.Op1.{Op1}
 use Rattle.model.specs.declared.Kind.{Kind}
 use Rattle.model.specs.declared.Kind.the-variants.{Two, One, Imm16, Imm32, Other}
 use Rattle.expr.specs.Tree.{treeBelow, below-out, below-two, below-one, below-imm16, below-imm32, below-other}
+use Rattle.expr.specs.Value.{numberIn}
+use Rattle.expr.specs.Requirement.{numberOf}
+use Rattle.expr.specs.declared.Value.{Value}
+use Rattle.expr.specs.declared.Value.the-variants as packed
+use Rattle.expr.specs.declared.MaybeNumber.{MaybeNumber}
+use Rattle.expr.specs.declared.MaybeNumber.the-variants.{Is, Nothing}
 
 pub no-number : (ns : Nodes) (b i : ℕ) → b ≤ i → none ≡ value (treeBelow ns b i)
 no-number ns b i h = sym (ap value (below-out ns b i h))
@@ -30,3 +36,11 @@ module _ (ns : Nodes) (b i : ℕ) (lt : i < b) (k : Kind) (found : k ≡ kindOf 
 
   pub number-other : k ≡ Other → none ≡ value (treeBelow ns b i)
   number-other e = sym (ap value (below-other ns b i lt k found e))
+
+-- m is what was found at the node, r what is packed for it
+module _ (ns : Nodes) (b i : ℕ) {m : MaybeNumber} (found : numberOf m ≡ value (treeBelow ns b i)) where
+  pub number-packed : {r : Value} {y z : ℤ} → r ≡ packed.Is y → y ≡ z → m ≡ Is z → numberIn r ≡ value (treeBelow ns b i)
+  number-packed p q w = ap numberIn p ∙ ap some q ∙ sym (ap numberOf w) ∙ found
+
+  pub none-packed : m ≡ Nothing → none ≡ value (treeBelow ns b i)
+  none-packed w = sym (ap numberOf w) ∙ found

@@ -2,6 +2,7 @@
 use mathlib.Core.Path.{_≡_, refl, ap}
 use mathlib.Core.List.{List, []}
 use mathlib.Core.Bool.{cond}
+use mathlib.Core.Option.{Option, none, some}
 use Prim.Native.Nat.{ℕ, _-_, _<_}
 use lib.Dec.{ltb}
 use mir.Syntax.{w32}
@@ -26,6 +27,11 @@ valueOf (Refused n) = stop n
 
 abbrev pub unpackedOf : ℕ → Value
 unpackedOf x = cond (ltb x 4294967296) (Is (toZ w32 x)) (Refused (x - 4294967296))
+
+-- the number that a value is
+abbrev pub numberIn : Value → Option ℤ
+numberIn (Is z) = some z
+numberIn (Refused n) = none
 
 pub record Packed (v : Value) (x : ℕ) : Type 0 where
   pub is : unpackedOf x ≡ v

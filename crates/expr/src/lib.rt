@@ -9,7 +9,7 @@ ghost use Rattle.model.specs.Memory.{nodesIn};
 ghost use Rattle.model.specs.Parse.{value, isJoin};
 ghost use Rattle.expr.specs.Tree.{treeBelow};
 ghost use Rattle.expr.specs.Requirement.{numberOf};
-ghost use Rattle.expr.specs.Value.{valueOf, reads, placeOf, join2, join1, unpackedOf, Packed};
+ghost use Rattle.expr.specs.Value.{valueOf, reads, placeOf, join2, join1, unpackedOf, Packed, numberIn};
 use memory::NodeWords;
 use memory::Values;
 use memory::kind_of;
@@ -227,6 +227,18 @@ fn unpacked(x: u64) -> Value
     Value::Refused((x - REFUSED) as u8)
 }
 
+// The number of node i as an operand of node b, packed, if it is an Imm; else a number above those of all values.
+fn packed_number(ws: &NodeWords, val: &Values, b: u16, i: u16) -> u64
+    requires { ⌜ b ≤ nodeLimit ⌝ }
+    ensures { λ r. ⌜ ((n : ℕ) → numberIn (unpackedOf r) ≡ value (treeBelow (nodesIn (now (ws .entry)) (now (val .entry)) n) b i)) ⌝ }
+{
+    let v = number_below(ws, val, b, i);
+    match v {
+        MaybeNumber::Is(z) => packed(Value::Is(z)),
+        MaybeNumber::Nothing => REFUSED,
+    }
+}
+
 // What node i is worth as an operand of node b, by a save of these parts and the variables of the moment. Both operands are
 // evaluated, left first; an Imm is read on the spot.
 fn evaluate_below(
@@ -252,13 +264,22 @@ fn evaluate_below(
     let right = ws[3 * at + 2];
     match k {
         Kind::Two(o) => {
-            let x = evaluate(ws, val, i, left, items, atcs, flags, times, vars);
-            let y = evaluate(ws, val, i, right, items, atcs, flags, times, vars);
-            packed(join_two(o, x, y))
+            let mut x = packed_number(ws, val, i, left);
+            if x >= REFUSED {
+                x = evaluate_below(ws, val, i, left, items, atcs, flags, times, vars);
+            }
+            let mut y = packed_number(ws, val, i, right);
+            if y >= REFUSED {
+                y = evaluate_below(ws, val, i, right, items, atcs, flags, times, vars);
+            }
+            packed(join_two(o, unpacked(x), unpacked(y)))
         }
         Kind::One(o) => {
-            let x = evaluate(ws, val, i, left, items, atcs, flags, times, vars);
-            packed(join_one(items, atcs, flags, times, vars, o, x))
+            let mut x = packed_number(ws, val, i, left);
+            if x >= REFUSED {
+                x = evaluate_below(ws, val, i, left, items, atcs, flags, times, vars);
+            }
+            packed(join_one(items, atcs, flags, times, vars, o, unpacked(x)))
         }
         Kind::Imm16 => packed(Value::Is(val[at])),
         Kind::Imm32 => packed(Value::Is(val[at])),
@@ -281,14 +302,11 @@ pub fn evaluate(
     requires { ⌜ b ≤ nodeLimit ⌝ }
     ensures { λ r. ⌜ ((n : ℕ) → valueOf r ≡ eval (reads (now (items .entry)) (now (atcs .entry)) (now (flags .entry)) (now (times .entry))) (now (vars .entry)) (treeBelow (nodesIn (now (ws .entry)) (now (val .entry)) n) b i)) ⌝ }
 {
-    let v = number_below(ws, val, b, i);
-    match v {
-        MaybeNumber::Is(z) => Value::Is(z),
-        MaybeNumber::Nothing => {
-            let w = evaluate_below(ws, val, b, i, items, atcs, flags, times, vars);
-            unpacked(w)
-        }
+    let mut w = packed_number(ws, val, b, i);
+    if w >= REFUSED {
+        w = evaluate_below(ws, val, b, i, items, atcs, flags, times, vars);
     }
+    unpacked(w)
 }
 
 // ---- conditions
