@@ -3,10 +3,11 @@ use mathlib.Core.Path.{_≡_, refl, sym, ap, _∙_}
 use mathlib.Core.Bool.{Bool, true, false, cond}
 use mathlib.Core.Option.{some}
 use mathlib.Core.List.{List}
-use Prim.Native.Nat.{ℕ, zero, suc, _+_}
+use Prim.Native.Nat.{ℕ, zero, suc, _+_, _≤_, _<_}
 use native.Mathlib.Omega.{arith}
-use lib.ListN.{getD}
+use lib.ListN.{getD, replicate, getD-replicate}
 use lib.IntN.{ℤ, pos}
+use Rattle.model.specs.Limits.{mostSaves}
 use Rattle.model.specs.Refusal.{noFlag}
 use Rattle.model.specs.Save.{Save}
 use Rattle.model.specs.Expr.{Expr, two, one, imm16, imm32, other, Value, ok, stop, andThen, apply2, readable, eval}
@@ -109,6 +110,13 @@ module _ (n m : ℕ) (f : Save) (vs : List ℤ) (ls : List ℕ) (s : ℕ) where
 
   pub other-done : {t : Expr} {rs rs′ : List ℕ} {xs : List ℤ} → t ≡ other → Each 0 (λ _ a. firstOf2 a 13) s rs rs′ → Valued s (worth t) rs rs′ xs
   other-done {rs = rs} {xs = xs} p h = record { is = λ j l. rw (h .done j l, p) (stop-lane (getD rs j 0) 12 (getD xs j (pos 0))); rest = h .rest }
+
+  -- an Imm b as the right operand
+  pub same-done : (b : Expr) {rs : List ℕ} {ys : List ℤ} (z : ℤ) → some z ≡ value b → s ≤ mostSaves → ys ≡ replicate mostSaves z → Valued s (worth b) rs rs ys
+  same-done b {rs} z p few q = record {
+    is = λ j l. let h : j < mostSaves = omega arith in rw (q, getD-replicate mostSaves j z (pos 0) h) (ok-lane (getD rs j 0) z ∙ ap (firstStop (getD rs j 0)) (imm-worth _ _ b z p));
+    rest = λ j l. refl;
+  }
 
   pub two-done : {t a b : Expr} {o : Op2} {rs rs₁ rs₂ : List ℕ} {xs ys xs′ : List ℤ} → t ≡ two o a b → Valued s (worth a) rs rs₁ xs → Valued s (worth b) rs₁ rs₂ ys → Each (pos 0) (λ j x. apply2 o x (getD ys j (pos 0))) s xs xs′ → Valued s (worth t) rs rs₂ xs′
   two-done {a = a} {b} {o} {rs} {rs₁} {rs₂} {xs} {ys} p va vb h = record {

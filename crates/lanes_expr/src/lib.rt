@@ -504,11 +504,20 @@ pub fn evaluate_lanes(
             apply_one_lanes(o, ls, w, items, atcs, flags, times, vs, xs);
         }
         Rest::Two(o, l, r) => {
-            let mut right = [0; LANES];
-            let ys = &mut right;
             evaluate_lanes(ws, val, i, l, ls, w, items, atcs, flags, times, vs, xs, rs);
-            evaluate_lanes(ws, val, i, r, ls, w, items, atcs, flags, times, vs, ys, rs);
-            apply_two_lanes(o, w.lanes, &right, xs);
+            let q = number_below(ws, val, i, r);
+            match q {
+                MaybeNumber::Is(z) => {
+                    let right = repeated(z);
+                    apply_two_lanes(o, w.lanes, &right, xs);
+                }
+                MaybeNumber::Nothing => {
+                    let mut right = [0; LANES];
+                    let ys = &mut right;
+                    evaluate_lanes(ws, val, i, r, ls, w, items, atcs, flags, times, vs, ys, rs);
+                    apply_two_lanes(o, w.lanes, &right, xs);
+                }
+            }
         }
     }
 }
