@@ -3,7 +3,7 @@ use mathlib.Core.Path.{_≡_, refl, sym, ap, _∙_}
 use mathlib.Core.Bool.{Bool, true, false, cond}
 use mathlib.Core.Option.{some}
 use mathlib.Core.List.{List}
-use Prim.Native.Nat.{ℕ, zero, suc, _+_, _≤_, _<_}
+use Prim.Native.Nat.{ℕ, zero, suc, _≤_, _<_}
 use native.Mathlib.Omega.{arith}
 use lib.ListN.{getD, replicate, getD-replicate}
 use lib.IntN.{ℤ, pos}
@@ -12,14 +12,14 @@ use Rattle.model.specs.Refusal.{noFlag}
 use Rattle.model.specs.Save.{Save}
 use Rattle.model.specs.Expr.{Expr, two, one, imm16, imm32, other, Value, ok, stop, andThen, apply2, readable, eval}
 use Rattle.model.specs.Image.{kindOf}
-use Rattle.model.specs.Memory.{Nodes, codeAt, leftAt, rightAt, valueAt, tree}
+use Rattle.model.specs.Memory.{Nodes, codeAt, leftAt, rightAt, valueAt}
 use Rattle.model.specs.Parse.{value}
 use Rattle.model.specs.declared.Op2.{Op2}
 use Rattle.model.specs.declared.Op1.{Op1}
 use Rattle.model.specs.declared.Op1.the-variants.{Not, Flag, Variable, Item, Atc, Time}
 use Rattle.model.specs.declared.Kind.{Kind}
 use Rattle.model.specs.declared.Kind.the-variants.{Two, One, Imm16, Imm32, Other}
-use Rattle.expr.specs.Tree.{treeBelow, below-root, below-two, below-one, below-imm16, below-imm32, below-other}
+use Rattle.expr.specs.Tree.{treeBelow, below-out, below-two, below-one, below-imm16, below-imm32, below-other}
 use Rattle.expr.specs.Requirement.{numberOf}
 use Rattle.expr.specs.declared.MaybeNumber.{MaybeNumber}
 use Rattle.expr.specs.declared.MaybeNumber.the-variants.{Is}
@@ -93,67 +93,65 @@ pub none-new : (a r : ℕ) → 0 ≡ r → a ≡ firstOf2 a r
 none-new zero r p = p
 none-new (suc a) r p = refl
 
--- ---- all lanes: a tree t by its operands
+-- ---- all lanes: node i as an operand of node b
 
-module _ (n m : ℕ) (f : Save) (vs : List ℤ) (ls : List ℕ) (s : ℕ) where
+module _ (n m : ℕ) (f : Save) (vs : List ℤ) (ls : List ℕ) (s : ℕ) (ns : Nodes) (b i : ℕ) where
   abbrev worth : Expr → ℕ → Value
   worth e j = evalIn n m f vs e (getD ls j 0)
 
-  imm-done : (e : Expr) {rs : List ℕ} {xs xs′ : List ℤ} (z : ℤ) → some z ≡ value e → Each (pos 0) (λ _ _. z) s xs xs′ → Valued s (worth e) rs rs xs′
-  imm-done e {rs} z p h = record { is = λ j l. rw (h .done j l) (ok-lane (getD rs j 0) z ∙ ap (firstStop (getD rs j 0)) (imm-worth _ _ e z p)); rest = λ j l. refl }
+  abbrev Here : List ℕ → List ℕ → List ℤ → Type 0
+  Here rs rs′ xs = Valued s (worth (treeBelow ns b i)) rs rs′ xs
 
-  pub imm16-done : {t : Expr} {x z : ℤ} {rs : List ℕ} {xs xs′ : List ℤ} → t ≡ imm16 x → z ≡ x → Each (pos 0) (λ _ _. z) s xs xs′ → Valued s (worth t) rs rs xs′
-  imm16-done {t = t} {z = z} p q h = imm-done t z (ap some q ∙ sym (ap value p)) h
+  abbrev Left : List ℕ → List ℕ → List ℤ → Type 0
+  Left rs rs′ xs = Valued s (worth (treeBelow ns i (leftAt ns i))) rs rs′ xs
 
-  pub imm32-done : {t : Expr} {x z : ℤ} {rs : List ℕ} {xs xs′ : List ℤ} → t ≡ imm32 x → z ≡ x → Each (pos 0) (λ _ _. z) s xs xs′ → Valued s (worth t) rs rs xs′
-  imm32-done {t = t} {z = z} p q h = imm-done t z (ap some q ∙ sym (ap value p)) h
+  abbrev Right : List ℕ → List ℕ → List ℤ → Type 0
+  Right rs rs′ xs = Valued s (worth (treeBelow ns i (rightAt ns i))) rs rs′ xs
 
-  pub other-done : {t : Expr} {rs rs′ : List ℕ} {xs : List ℤ} → t ≡ other → Each 0 (λ _ a. firstOf2 a 13) s rs rs′ → Valued s (worth t) rs rs′ xs
-  other-done {rs = rs} {xs = xs} p h = record { is = λ j l. rw (h .done j l, p) (stop-lane (getD rs j 0) 12 (getD xs j (pos 0))); rest = h .rest }
+  stop-done : {rs rs′ : List ℕ} {xs : List ℤ} → treeBelow ns b i ≡ other → Each 0 (λ _ a. firstOf2 a 13) s rs rs′ → Here rs rs′ xs
+  stop-done {rs} {xs = xs} p h = record { is = λ j l. rw (h .done j l, p) (stop-lane (getD rs j 0) 12 (getD xs j (pos 0))); rest = h .rest }
 
-  -- an Imm b as the right operand
-  pub same-done : (b : Expr) {rs : List ℕ} {ys : List ℤ} (z : ℤ) → some z ≡ value b → s ≤ mostSaves → ys ≡ replicate mostSaves z → Valued s (worth b) rs rs ys
-  same-done b {rs} z p few q = record {
-    is = λ j l. let h : j < mostSaves = omega arith in rw (q, getD-replicate mostSaves j z (pos 0) h) (ok-lane (getD rs j 0) z ∙ ap (firstStop (getD rs j 0)) (imm-worth _ _ b z p));
+  imm-done : {rs : List ℕ} {xs xs′ : List ℤ} (z : ℤ) → some z ≡ value (treeBelow ns b i) → Each (pos 0) (λ _ _. z) s xs xs′ → Here rs rs xs′
+  imm-done {rs} z p h = record { is = λ j l. rw (h .done j l) (ok-lane (getD rs j 0) z ∙ ap (firstStop (getD rs j 0)) (imm-worth _ _ (treeBelow ns b i) z p)); rest = λ j l. refl }
+
+  pub out-done : {rs rs′ : List ℕ} {xs : List ℤ} → b ≤ i → Each 0 (λ _ a. firstOf2 a 13) s rs rs′ → Here rs rs′ xs
+  out-done l h = stop-done (below-out ns b i l) h
+
+  -- an Imm as the right operand
+  pub same-done : {rs : List ℕ} {ys : List ℤ} (z : ℤ) → some z ≡ value (treeBelow ns i (rightAt ns i)) → s ≤ mostSaves → ys ≡ replicate mostSaves z → Right rs rs ys
+  same-done {rs} z p few q = record {
+    is = λ j l. let h : j < mostSaves = omega arith in rw (q, getD-replicate mostSaves j z (pos 0) h) (ok-lane (getD rs j 0) z ∙ ap (firstStop (getD rs j 0)) (imm-worth _ _ (treeBelow ns i (rightAt ns i)) z p));
     rest = λ j l. refl;
   }
 
-  pub two-done : {t a b : Expr} {o : Op2} {rs rs₁ rs₂ : List ℕ} {xs ys xs′ : List ℤ} → t ≡ two o a b → Valued s (worth a) rs rs₁ xs → Valued s (worth b) rs₁ rs₂ ys → Each (pos 0) (λ j x. apply2 o x (getD ys j (pos 0))) s xs xs′ → Valued s (worth t) rs rs₂ xs′
-  two-done {a = a} {b} {o} {rs} {rs₁} {rs₂} {xs} {ys} p va vb h = record {
-    is = λ j l. rw (h .done j l, p) (two-lane (getD rs j 0) (getD rs₁ j 0) (getD rs₂ j 0) (getD xs j (pos 0)) (getD ys j (pos 0)) (worth a j) (worth b j) (apply2 o) (va .is j l) (vb .is j l));
-    rest = λ j l. vb .rest j l ∙ va .rest j l;
-  }
+  module _ (lt : i < b) (k : Kind) (found : k ≡ kindOf (codeAt ns i)) where
+    pub two-done : {rs rs₁ rs₂ : List ℕ} {xs ys xs′ : List ℤ} (o : Op2) → k ≡ Two o → Left rs rs₁ xs → Right rs₁ rs₂ ys → Each (pos 0) (λ j x. apply2 o x (getD ys j (pos 0))) s xs xs′ → Here rs rs₂ xs′
+    two-done {rs} {rs₁} {rs₂} {xs} {ys} o e va vb h = record {
+      is = λ j l. rw (h .done j l, below-two ns b i lt k found o e)
+          (two-lane (getD rs j 0) (getD rs₁ j 0) (getD rs₂ j 0) (getD xs j (pos 0)) (getD ys j (pos 0)) (worth (treeBelow ns i (leftAt ns i)) j) (worth (treeBelow ns i (rightAt ns i)) j) (apply2 o) (va .is j l) (vb .is j l));
+      rest = λ j l. vb .rest j l ∙ va .rest j l;
+    }
 
-  pub one-done : {t a : Expr} {o : Op1} {rs rs₁ rs₂ : List ℕ} {xs xs′ : List ℤ} → t ≡ one o a → Valued s (worth a) rs rs₁ xs → Each 0 (λ j a. firstOf2 a (readStop o (getD xs j (pos 0)))) s rs₁ rs₂ → Each (pos 0) (λ j x. applyIn n m f vs o (getD ls j 0) x) s xs xs′ → Valued s (worth t) rs rs₂ xs′
-  one-done {a = a} {o} {rs} {rs₁} {xs = xs} p va g h = record {
-    is = λ j l. rw (g .done j l, h .done j l, p) (one-lane (getD rs j 0) (getD rs₁ j 0) (getD xs j (pos 0)) (worth a j) (readable o) (λ x. applyIn n m f vs o (getD ls j 0) x) (va .is j l));
-    rest = λ j l. g .rest j l ∙ va .rest j l;
-  }
+    pub one-done : {rs rs₁ rs₂ : List ℕ} {xs xs′ : List ℤ} (o : Op1) → k ≡ One o → Left rs rs₁ xs → Each 0 (λ j a. firstOf2 a (readStop o (getD xs j (pos 0)))) s rs₁ rs₂ → Each (pos 0) (λ j x. applyIn n m f vs o (getD ls j 0) x) s xs xs′ → Here rs rs₂ xs′
+    one-done {rs} {rs₁} {xs = xs} o e va g h = record {
+      is = λ j l. rw (g .done j l, h .done j l, below-one ns b i lt k found o e)
+          (one-lane (getD rs j 0) (getD rs₁ j 0) (getD xs j (pos 0)) (worth (treeBelow ns i (leftAt ns i)) j) (readable o) (λ x. applyIn n m f vs o (getD ls j 0) x) (va .is j l));
+      rest = λ j l. g .rest j l ∙ va .rest j l;
+    }
 
-  -- an Imm as the only operand
-  pub number-done : {t a : Expr} {o : Op1} {z : ℤ} {rs rs₁ : List ℕ} {xs xs′ : List ℤ} → t ≡ one o a → some z ≡ value a → Each 0 (λ _ a. firstOf2 a (readStop o z)) s rs rs₁ → Each (pos 0) (λ j _. applyIn n m f vs o (getD ls j 0) z) s xs xs′ → Valued s (worth t) rs rs₁ xs′
-  number-done {a = a} {o} {z} {rs} p q g h = record {
-    is = λ j l. rw (g .done j l, h .done j l, p) (one-lane (getD rs j 0) (getD rs j 0) z (worth a j) (readable o) (λ x. applyIn n m f vs o (getD ls j 0) x) (ok-lane (getD rs j 0) z ∙ ap (firstStop (getD rs j 0)) (imm-worth _ _ a z q)));
-    rest = g .rest;
-  }
+    -- an Imm as the only operand
+    pub number-done : {rs rs₁ : List ℕ} {xs xs′ : List ℤ} (o : Op1) (z : ℤ) → k ≡ One o → some z ≡ value (treeBelow ns i (leftAt ns i)) → Each 0 (λ _ a. firstOf2 a (readStop o z)) s rs rs₁ → Each (pos 0) (λ j _. applyIn n m f vs o (getD ls j 0) z) s xs xs′ → Here rs rs₁ xs′
+    number-done {rs} o z e q g h = record {
+      is = λ j l. rw (g .done j l, h .done j l, below-one ns b i lt k found o e)
+          (one-lane (getD rs j 0) (getD rs j 0) z (worth (treeBelow ns i (leftAt ns i)) j) (readable o) (λ x. applyIn n m f vs o (getD ls j 0) x) (ok-lane (getD rs j 0) z ∙ ap (firstStop (getD rs j 0)) (imm-worth _ _ (treeBelow ns i (leftAt ns i)) z q)));
+      rest = g .rest;
+    }
 
--- ---- the tree of a node by the kind that was found there
+    pub imm16-done : {rs : List ℕ} {xs xs′ : List ℤ} {z : ℤ} → k ≡ Imm16 → z ≡ valueAt ns i → Each (pos 0) (λ _ _. z) s xs xs′ → Here rs rs xs′
+    imm16-done {z = z} e p h = imm-done z (ap some p ∙ sym (ap value (below-imm16 ns b i lt k found e))) h
 
-module _ (ns : Nodes) (i : ℕ) (k : Kind) (found : k ≡ kindOf (codeAt ns i)) where
-  here : {e : Expr} → treeBelow ns (i + 1) i ≡ e → tree ns i ≡ e
-  here p = sym (below-root ns i) ∙ p
+    pub imm32-done : {rs : List ℕ} {xs xs′ : List ℤ} {z : ℤ} → k ≡ Imm32 → z ≡ valueAt ns i → Each (pos 0) (λ _ _. z) s xs xs′ → Here rs rs xs′
+    imm32-done {z = z} e p h = imm-done z (ap some p ∙ sym (ap value (below-imm32 ns b i lt k found e))) h
 
-  pub is-two : (o : Op2) → k ≡ Two o → tree ns i ≡ two o (treeBelow ns i (leftAt ns i)) (treeBelow ns i (rightAt ns i))
-  is-two o e = here (below-two ns (i + 1) i (omega arith) k found o e)
-
-  pub is-one : (o : Op1) → k ≡ One o → tree ns i ≡ one o (treeBelow ns i (leftAt ns i))
-  is-one o e = here (below-one ns (i + 1) i (omega arith) k found o e)
-
-  pub is-imm16 : k ≡ Imm16 → tree ns i ≡ imm16 (valueAt ns i)
-  is-imm16 e = here (below-imm16 ns (i + 1) i (omega arith) k found e)
-
-  pub is-imm32 : k ≡ Imm32 → tree ns i ≡ imm32 (valueAt ns i)
-  is-imm32 e = here (below-imm32 ns (i + 1) i (omega arith) k found e)
-
-  pub is-other : k ≡ Other → tree ns i ≡ other
-  is-other e = here (below-other ns (i + 1) i (omega arith) k found e)
+    pub other-done : {rs rs′ : List ℕ} {xs : List ℤ} → k ≡ Other → Each 0 (λ _ a. firstOf2 a 13) s rs rs′ → Here rs rs′ xs
+    other-done e h = stop-done (below-other ns b i lt k found e) h

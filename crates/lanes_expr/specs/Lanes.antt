@@ -9,16 +9,12 @@ use lib.IntN.{ℤ, pos, negsuc}
 use Rattle.model.specs.Limits.{flagCount, timeCount, variableCount, mostSaves}
 use Rattle.model.specs.Refusal.{noFlag}
 use Rattle.model.specs.Save.{Save, flagInside}
-use Rattle.model.specs.Expr.{Expr, two, one, Value, ok, stop, apply1, readable, eval}
-use Rattle.model.specs.Memory.{Nodes, tree}
+use Rattle.model.specs.Expr.{Expr, Value, ok, stop, apply1, readable, eval}
 use Rattle.model.specs.declared.Op1.{Op1}
 use Rattle.model.specs.declared.Op1.the-variants.{Not, Flag, Variable, Item, Atc, Time}
-use Rattle.expr.specs.Tree.{treeBelow}
 use Rattle.lanes_model.specs.Flat.{part, saveIn}
 use Rattle.lanes_expr.specs.declared.MaybePlace.{MaybePlace}
 use Rattle.lanes_expr.specs.declared.MaybePlace.the-variants.{At, Nothing}
-use Rattle.lanes_expr.specs.declared.Rest.{Rest}
-use Rattle.lanes_expr.specs.declared.Rest.the-variants as rest
 
 -- ---- what a lane reads: its parts of the saves f, which lie one behind another, and of their variables vs
 
@@ -90,9 +86,3 @@ readStop o x = cond (readable o x) 0 noFlag
 pub record Valued (s : ℕ) (v : ℕ → Value) (rs rs′ : List ℕ) (xs : List ℤ) : Type 0 where
   pub is : (j : ℕ) → j < s → laneValue (getD rs′ j 0) (getD xs j (pos 0)) ≡ firstStop (getD rs j 0) (v j)
   pub rest : (j : ℕ) → s ≤ j → getD rs′ j 0 ≡ getD rs j 0
-
--- what is left to do at node i: nothing, or its operator on operands that are still to be evaluated, and no lane has stopped at it so far
-abbrev pub Begun : Nodes → ℕ → ℕ → (Expr → ℕ → Value) → List ℕ → List ℕ → List ℤ → Rest → Type 0
-Begun ns i s v rs rs′ xs rest.Nothing = Valued s (v (tree ns i)) rs rs′ xs
-Begun ns i s v rs rs′ xs (rest.One o l) = (tree ns i ≡ one o (treeBelow ns i l)) × (rs′ ≡ rs)
-Begun ns i s v rs rs′ xs (rest.Two o l r) = (tree ns i ≡ two o (treeBelow ns i l) (treeBelow ns i r)) × (rs′ ≡ rs)

@@ -10,7 +10,7 @@ ghost use Rattle.model.specs.Memory.{nodesIn};
 ghost use Rattle.expr.specs.Tree.{treeBelow};
 ghost use Rattle.expr.specs.Value.{reads};
 ghost use Rattle.lanes_model.specs.Flat.{part};
-ghost use Rattle.lanes_expr.specs.Lanes.{placeIn, Lies, Parts, Stand, applyIn, evalIn, firstOf2, readsFlag, flagStop, readStop, Valued, Begun};
+ghost use Rattle.lanes_expr.specs.Lanes.{placeIn, Lies, Parts, Stand, applyIn, evalIn, firstOf2, readsFlag, flagStop, readStop, Valued};
 ghost use Rattle.lanes_expr.specs.Each.{Each};
 use expr::MaybeNumber;
 use expr::number_below;
@@ -425,52 +425,6 @@ fn apply_same_lanes(
 
 // ---- an expression
 
-// What is left to do at a node: its operator, and the operands to evaluate for it.
-enum Rest {
-    Nothing,
-    One(Op1, u16),
-    Two(Op2, u16, u16),
-}
-
-// Node i, where it needs no other node's value: an Imm, an operator on an Imm, Other. An Imm is read on the spot.
-fn evaluate_leaf(
-    ws: &NodeWords,
-    val: &Values,
-    i: u16,
-    ls: &[u8; LANES],
-    w: Widths,
-    items: &[i16],
-    atcs: &[u8],
-    flags: &[u8],
-    times: &[i16],
-    vs: &[i32],
-    xs: &mut [i32; LANES],
-    rs: &mut [u8; LANES],
-) -> Rest
-    requires { ⌜ (i < nodeLimit) × Stand (w .items) (w .atcs) (reads (now items) (now atcs) (now flags) (now times)) (now vs) (now ls) (w .lanes) ⌝ }
-    ensures { λ r. ⌜ ((k : ℕ) → Begun (nodesIn (now (ws .entry)) (now (val .entry)) k) i (w .lanes) (λ e j. evalIn (w .items) (w .atcs) (reads (now (items .entry)) (now (atcs .entry)) (now (flags .entry)) (now (times .entry))) (now (vs .entry)) e (getD (now (ls .entry)) j 0)) (now (rs .entry)) (now (rs .exit)) (now (xs .exit)) r) ⌝ }
-{
-    let at = i as usize;
-    let k = kind_of(ws[3 * at]);
-    let l = ws[3 * at + 1];
-    let r = ws[3 * at + 2];
-    match k {
-        Kind::Two(o) => return Rest::Two(o, l, r),
-        Kind::One(o) => {
-            let q = number_below(ws, val, i, l);
-            let MaybeNumber::Is(x) = q else {
-                return Rest::One(o, l);
-            };
-            stop_same(o, x, w.lanes, rs);
-            apply_same_lanes(o, x, ls, w, items, atcs, flags, times, vs, xs);
-        }
-        Kind::Imm16 => fill(val[at], w.lanes, xs),
-        Kind::Imm32 => fill(val[at], w.lanes, xs),
-        Kind::Other => stop_lanes(13, w.lanes, rs),
-    }
-    Rest::Nothing
-}
-
 // What node i is worth as an operand of node b, for each of the lanes; a lane that stops keeps its first refusal. Both
 // operands are evaluated, left first.
 pub fn evaluate_lanes(
@@ -492,25 +446,16 @@ pub fn evaluate_lanes(
     ensures { λ _. ⌜ ((k : ℕ) → Valued (w .lanes) (λ j. evalIn (w .items) (w .atcs) (reads (now (items .entry)) (now (atcs .entry)) (now (flags .entry)) (now (times .entry))) (now (vs .entry)) (treeBelow (nodesIn (now (ws .entry)) (now (val .entry)) k) b i) (getD (now (ls .entry)) j 0)) (now (rs .entry)) (now (rs .exit)) (now (xs .exit))) ⌝ }
 {
     if i >= b {
-        stop_lanes(13, w.lanes, rs);
-        return;
+        return stop_lanes(13, w.lanes, rs);
     }
-    let rest = evaluate_leaf(ws, val, i, ls, w, items, atcs, flags, times, vs, xs, rs);
-    match rest {
-        Rest::Nothing => {}
-        Rest::One(o, l) => {
+    let at = i as usize;
+    let l = ws[3 * at + 1];
+    match kind_of(ws[3 * at]) {
+        Kind::Two(o) => {
             evaluate_lanes(ws, val, i, l, ls, w, items, atcs, flags, times, vs, xs, rs);
-            stop_each(o, w.lanes, xs, rs);
-            apply_one_lanes(o, ls, w, items, atcs, flags, times, vs, xs);
-        }
-        Rest::Two(o, l, r) => {
-            evaluate_lanes(ws, val, i, l, ls, w, items, atcs, flags, times, vs, xs, rs);
-            let q = number_below(ws, val, i, r);
-            match q {
-                MaybeNumber::Is(z) => {
-                    let right = repeated(z);
-                    apply_two_lanes(o, w.lanes, &right, xs);
-                }
+            let r = ws[3 * at + 2];
+            match number_below(ws, val, i, r) {
+                MaybeNumber::Is(z) => apply_two_lanes(o, w.lanes, &repeated(z), xs),
                 MaybeNumber::Nothing => {
                     let mut right = [0; LANES];
                     let ys = &mut right;
@@ -519,5 +464,19 @@ pub fn evaluate_lanes(
                 }
             }
         }
+        Kind::One(o) => match number_below(ws, val, i, l) {
+            MaybeNumber::Is(z) => {
+                stop_same(o, z, w.lanes, rs);
+                apply_same_lanes(o, z, ls, w, items, atcs, flags, times, vs, xs);
+            }
+            MaybeNumber::Nothing => {
+                evaluate_lanes(ws, val, i, l, ls, w, items, atcs, flags, times, vs, xs, rs);
+                stop_each(o, w.lanes, xs, rs);
+                apply_one_lanes(o, ls, w, items, atcs, flags, times, vs, xs);
+            }
+        },
+        Kind::Imm16 => fill(val[at], w.lanes, xs),
+        Kind::Imm32 => fill(val[at], w.lanes, xs),
+        Kind::Other => stop_lanes(13, w.lanes, rs),
     }
 }
