@@ -1,4 +1,6 @@
 // Bills of four slots (02, A.11 and A.12): runs the cases of its standard input, one to a line, and says of each whether it answered what the line says.
+#![tactic(auto)]
+
 use bill::{Billed, bill};
 use case_lines::{
     ANSWER, Answer, Tally, WORDS, Words, letter, line_end, low8, low16, none, numbers, tell, total,

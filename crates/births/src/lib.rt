@@ -1,4 +1,6 @@
 // Where each block came from (02, A.2): its birth mark, the marks of the blocks that a compile appends, and the count of accepted compiles.
+#![tactic(auto)]
+
 ghost use Rattle.std.specs.Prelude.{◌≡◌, ◌-◌, ◌≤◌, get_or, replicate};
 ghost use Rattle.std.proofs.lemmas.List.Edits.{sets};
 ghost use Rattle.model.specs.Limits.{block_limit};

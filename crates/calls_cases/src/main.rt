@@ -1,4 +1,6 @@
 // Runs the cases of its standard input, one to a line, through the calls, and says of each whether it answered what the line says. The input's first lines say how a case is written.
+#![tactic(auto)]
+
 mod calls;
 mod changes;
 mod reclaims;

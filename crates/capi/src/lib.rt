@@ -1,4 +1,6 @@
 // The calls of the engine for programs in Rust and C: numbers, slices and references to arrays of numbers go in, structs of numbers come out.
+#![tactic(auto)]
+
 ghost use Rattle.std.specs.Prelude.{◌≡◌, replicate};
 ghost use Rattle.model.specs.Limits.{block_limit};
 ghost use Rattle.model.specs.Image.{read_image};

@@ -1,4 +1,6 @@
 // The bill for programs in Rust and C: numbers, slices and references to arrays of numbers go in, a struct of numbers comes out.
+#![tactic(auto)]
+
 ghost use Rattle.shop.specs.Shapes.{sheet_of};
 ghost use Rattle.checks.specs.Calls.{save_of};
 ghost use Rattle.bill_model.specs.Sorting.{bill_by_item};

@@ -1,4 +1,6 @@
 // The exported call of the walk for many saves (02, A.8), over plain numbers and slices.
+#![tactic(auto)]
+
 ghost use Rattle.std.specs.Prelude.{◌≡◌};
 ghost use Rattle.memory.specs.View.{memory_of};
 ghost use Rattle.shop.specs.Shapes.{sheet_of};

@@ -1,4 +1,6 @@
 // The calls of who may edit what (02, A.7) for programs in Rust and C: an edit of a shop in its arrays, and what a user is shown of it.
+#![tactic(auto)]
+
 ghost use Rattle.std.specs.Prelude.{◌≡◌};
 ghost use Rattle.shop.specs.Shapes.{sheet_of};
 ghost use Rattle.shop_arrays.specs.Arrays.{arrays_in};

@@ -1,4 +1,6 @@
 // How many settings list a slot (02, A.9), for programs in Rust and C: numbers, a slice and a reference to an array of numbers go in, a struct of numbers comes out.
+#![tactic(auto)]
+
 ghost use Rattle.std.specs.Prelude.{◌≡◌};
 ghost use Rattle.shop.specs.Shapes.{sheet_of, slot_of};
 ghost use Rattle.capi_values.specs.Values.{sheet_by};

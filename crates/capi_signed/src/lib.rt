@@ -1,4 +1,6 @@
 // What is told of a shop before it is signed, for programs in Rust and C: numbers, a slice and references to arrays of numbers go in, a struct of numbers comes out.
+#![tactic(auto)]
+
 ghost use Rattle.std.specs.Prelude.{◌≡◌};
 ghost use Rattle.shop.specs.Shapes.{sheet_of, slots_of};
 ghost use Rattle.shop_arrays.specs.Arrays.{arrays_in, shop_from};

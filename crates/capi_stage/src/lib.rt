@@ -1,4 +1,6 @@
 // The calls for the file of a stage, which is the input of slots: its sheet and setup number are read and written here, its image by the calls of capi.
+#![tactic(auto)]
+
 ghost use Rattle.std.specs.Prelude.{◌≡◌};
 ghost use Rattle.image_write.specs.Call.{wrote};
 ghost use Rattle.slots_heading.specs.Bytes.{head_by, write_head, head_length};

@@ -1,4 +1,6 @@
 // A shop's text for programs in Rust and C: any bytes read into the four arrays of a shop, and the arrays of a shop printed.
+#![tactic(auto)]
+
 ghost use Rattle.std.specs.Prelude.{◌≡◌, length};
 ghost use Rattle.model.specs.Limits.{slot_count};
 ghost use Rattle.model.specs.Sheet.{all};

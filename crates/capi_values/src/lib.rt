@@ -1,4 +1,6 @@
 // What the numbers that exported calls take stand for: the sheet of an id sheet's four numbers, and a script's counts of three.
+#![tactic(auto)]
+
 ghost use Rattle.std.specs.Prelude.{◌≡◌};
 ghost use Rattle.capi_values.specs.Values.{counts_by, sheet_by};
 

@@ -1,6 +1,8 @@
 // The lines of a test program's input: the numbers of a case, and what is said of its answer.
 //
 // A case is a letter, numbers, what must be answered, a colon and its name: `C 7 3 = 0 26:name`. A line without `=` is no case.
+#![tactic(auto)]
+
 ghost use Rattle.std.specs.Prelude.{◌<◌, ◌≤◌, length};
 
 use model::{WIDE, WIDE16};

@@ -1,4 +1,6 @@
 // The checks that several calls share: 1, 2 to 5, 6 and 7 of a record and a setup block, 12 of a save.
+#![tactic(auto)]
+
 ghost use Rattle.std.specs.Prelude.{◌≡◌, true, ◌≤◌};
 ghost use Rattle.std.specs.Int.{w16, w32};
 ghost use Rattle.model.specs.Limits.{block_limit};

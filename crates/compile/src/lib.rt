@@ -1,4 +1,6 @@
 // The call compile: its checks in the order of 01 and 02, then the shop's blocks appended and the setup block linked to them.
+#![tactic(auto)]
+
 ghost use Rattle.std.specs.Prelude.{◌≡◌};
 ghost use Rattle.memory.specs.View.{born_of};
 ghost use Rattle.shop.specs.Shapes.{sheet_of};

@@ -1,4 +1,6 @@
 // Commands and blocks appended to a script in lent arrays, each as the compiler's definitions have them.
+#![tactic(auto)]
+
 ghost use Rattle.std.specs.Prelude.{[], ◌∷◌, ◌+◌, ◌-◌, ◌≤◌, ◌<◌};
 ghost use Rattle.model.specs.Limits.{block_limit, command_limit, entry_limit, half16, node_limit, slot_count};
 ghost use Rattle.model.specs.Expr.{imm};

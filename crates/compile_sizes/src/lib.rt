@@ -1,4 +1,6 @@
 // What the blocks of a shop take of a script, counted before anything is written, and checks 9 and 19.
+#![tactic(auto)]
+
 ghost use Rattle.std.specs.Prelude.{◌≡◌, ◌+◌, ◌≤◌, ◌<◌, map, length, take};
 ghost use Rattle.model.specs.Limits.{entry_limit, slot_count, wide16};
 ghost use Rattle.model.specs.Script.{Script};

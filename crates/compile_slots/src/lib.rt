@@ -1,4 +1,6 @@
 // The compiler: a shop's slots as blocks appended to a script, the exact count for 9, and the call with its checks.
+#![tactic(auto)]
+
 ghost use Rattle.std.specs.Prelude.{◌≡◌, [], ◌∷◌, ◌+◌, ◌-◌, ◌≤◌, ◌<◌};
 ghost use Rattle.model.specs.Limits.{slot_count, block_limit};
 ghost use Rattle.model.specs.Compile.{hide_block, temp_var, slot_blocks, slots_blocks, shop_blocks};

@@ -1,4 +1,6 @@
 // Expressions in lent arrays: what they are worth, the number of an Imm, and whether an operator joins conditions.
+#![tactic(auto)]
+
 ghost use Rattle.std.specs.Prelude.{◌≡◌, ℕ, ◌≤◌, ◌<◌, pos};
 ghost use Rattle.model.specs.Limits.{node_limit};
 ghost use Rattle.model.specs.Save.{nat_at, int_at};

@@ -1,4 +1,6 @@
 // Expressions appended to the nodes of a script in lent arrays: Expr::imm, tests of requirements and their joins, acquired, and what the compiler counts with.
+#![tactic(auto)]
+
 ghost use Rattle.std.specs.Prelude.{◌+◌, ◌≤◌, ◌<◌, pos};
 ghost use Rattle.model.specs.Limits.{entry_limit, half16, node_limit};
 ghost use Rattle.model.specs.Image.{code2, code1};

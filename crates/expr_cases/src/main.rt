@@ -1,4 +1,6 @@
 // Expressions in lent arrays, what they are worth and their negations: runs the cases of its standard input, one to a line, and says of each whether it answered what the line says. The nodes go from line to line.
+#![tactic(auto)]
+
 ghost use Rattle.std.specs.Prelude.{◌≡◌, ◌+◌, ◌-◌, ◌<◌, ◌≤◌};
 ghost use Rattle.model.specs.Limits.{node_limit};
 ghost use Rattle.model.specs.Memory.{Nodes, nodes_in};

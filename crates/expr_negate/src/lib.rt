@@ -1,4 +1,6 @@
 // Expr::negate over nodes in lent arrays, in place: the nodes that stood for an expression then stand for its negation.
+#![tactic(auto)]
+
 ghost use Rattle.std.specs.Prelude.{◌≡◌, ℕ};
 ghost use Rattle.model.specs.Expr.{Expr, negate};
 ghost use Rattle.model.specs.Memory.{Nodes, nodes_in};

@@ -1,4 +1,6 @@
 // The contradiction filter on sets of the entries 0 to 3 by companions 0 to 4, of which 4 is in no set (02, A.3): runs the cases of its standard input, one to a line, and says of each whether it answered what the line says.
+#![tactic(auto)]
+
 ghost use Rattle.filter_cases.specs.Four.{Fits};
 
 use case_lines::{

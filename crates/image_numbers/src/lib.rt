@@ -1,4 +1,6 @@
 // The numbers of an image: groups of seven bits, the low one first and as few as will do. Reading one, how long one is, writing one; signed ones folded.
+#![tactic(auto)]
+
 ghost use Rattle.std.specs.Prelude.{◌≡◌, ◌≤◌, ◌<◌, length, drop};
 ghost use Rattle.model.specs.Limits.{wide};
 ghost use Rattle.model.specs.Reading.{groups, number, word_to, word, zig, zag};

@@ -1,4 +1,6 @@
 // The reader of an image: expressions, commands and blocks, and the whole script into lent arrays.
+#![tactic(auto)]
+
 ghost use Rattle.std.specs.Prelude.{◌≡◌, ◌+◌, ◌-◌, ◌≤◌, ◌<◌, length, drop};
 ghost use Rattle.model.specs.Limits.{block_limit, command_limit, node_limit, depth_limit, wide, wide16};
 ghost use Rattle.model.specs.Reading.{number};

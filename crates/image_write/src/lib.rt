@@ -1,4 +1,6 @@
 // Writing a script record as its image: judged first, then measured against the slice, then written piece by piece.
+#![tactic(auto)]
+
 ghost use Rattle.std.specs.Prelude.{◌≡◌, suc, ◌+◌, ◌≤◌, ◌<◌};
 ghost use Rattle.model.specs.Limits.{node_limit};
 ghost use Rattle.model.specs.Memory.{nodes_in};

@@ -1,4 +1,6 @@
 // Signed numbers: sums and differences that wrap, a number's bits and operations on them, cuts to 16 bits and the tests over them, and which are flags of a save.
+#![tactic(auto)]
+
 ghost use Rattle.std.specs.Prelude.{◌≡◌, ◌<◌, ◌^◌, ◌+ℤ◌, ◌-ℤ◌};
 ghost use Rattle.std.specs.Int.Signed.{mag};
 ghost use Rattle.std.specs.Int.{w16, w32};

@@ -1,4 +1,6 @@
 // Every function of `ints`: runs the cases of its standard input, one to a line, and says of each whether it answered what the line says.
+#![tactic(auto)]
+
 use case_lines::{
     ANSWER, Answer, Tally, WORDS, Words, bit, letter, line_end, none, numbers, signed16, tell,
     total,

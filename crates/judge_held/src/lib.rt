@@ -1,4 +1,6 @@
 // Whether a script record holds something at or past its kept counts. Each kept command and each block is looked at once, however blocks overlap.
+#![tactic(auto)]
+
 ghost use Rattle.std.specs.Prelude.{◌≡◌, List, ℕ, suc, ◌+◌, ◌*◌, ◌≤◌, ◌<◌, ℤ, length, get_or};
 ghost use Rattle.model.specs.Limits.{block_limit, command_limit};
 ghost use Rattle.model.specs.Memory.{coded_in};

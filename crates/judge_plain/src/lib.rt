@@ -1,5 +1,7 @@
 // Whether a script record is plainly fine: one pass over its commands that sums the nodes of their expressions out of a table, one over its blocks.
 // A command that is not plainly fine counts more nodes than a script may have. Levels are asked of large commands alone: fewer than 64 nodes have no 65 levels.
+#![tactic(auto)]
+
 ghost use Rattle.std.specs.Prelude.{◌≡◌, true, List, ◌*◌, ◌≤◌, ◌<◌, ℤ, length, get_or};
 ghost use Rattle.model.specs.Limits.{node_limit, command_limit, wide16};
 ghost use Rattle.memory.specs.View.{memory_of};

@@ -1,4 +1,6 @@
 // The judgement of a script record: block by block as its image would be read, whatever its arrays hold.
+#![tactic(auto)]
+
 ghost use Rattle.std.specs.Prelude.{◌++◌, ◌*◌, ◌≤◌, ◌<◌, length};
 ghost use Rattle.model.specs.Limits.{command_limit};
 ghost use Rattle.model.specs.Reading.{word};

@@ -1,4 +1,6 @@
 // Expressions judged: immediates, and the walk over the nodes of an expression as its image would be read.
+#![tactic(auto)]
+
 ghost use Rattle.std.specs.Prelude.{◌≡◌, ◌-◌, ◌≤◌, ◌<◌};
 ghost use Rattle.model.specs.Reading.{zig};
 ghost use Rattle.model.specs.Expr.{size};

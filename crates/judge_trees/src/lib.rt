@@ -1,4 +1,6 @@
 // The trees of nodes that lie in one piece: how many nodes each has, told by one pass from the lowest node up.
+#![tactic(auto)]
+
 ghost use Rattle.std.specs.Prelude.{◌≡◌, true, ◌≤◌, ◌<◌, pos, length, get_or};
 ghost use Rattle.model.specs.Limits.{wide, node_limit, wide16};
 ghost use Rattle.judge_trees.specs.Trees.{Number, Tree, Trees, Shallow};

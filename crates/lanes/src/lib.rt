@@ -1,4 +1,6 @@
 // One walk for many saves (02, A.8): from the setup block on in falling number, each block where some lane stands is read once for all the lanes that stand there.
+#![tactic(auto)]
+
 ghost use Rattle.std.specs.Prelude.{◌≡◌, cond, List, ℕ, ◌+◌, ◌-◌, ◌*◌, ◌≤◌, ◌<◌, eqb, ℤ, get_or, length};
 ghost use Rattle.model.specs.Limits.{lane_budget, most_saves, most_items, variable_count, wide, wide16};
 ghost use Rattle.model.specs.Run.{run};

@@ -1,4 +1,6 @@
 // One block for many lanes (02, A.8): it is decoded once, and each of its commands is applied to all the lanes that stand at it.
+#![tactic(auto)]
+
 ghost use Rattle.std.specs.Prelude.{◌≡◌, ℕ, ◌+◌, ◌*◌, ◌≤◌, ◌<◌, pos, get_or, length};
 ghost use Rattle.model.specs.Limits.{node_limit, variable_count, most_saves};
 ghost use Rattle.model.specs.Run.{execute, step};

@@ -1,1 +1,2 @@
 // A walk at a block with a last accepted shop, over the calls as they were made and answered: theorems only (specs/).
+#![tactic(auto)]

@@ -1,4 +1,6 @@
 // Walks for many saves (02, A.8 and A.10), through the exported call: runs the cases of its standard input, one to a line, and says of each whether it answered what the line says.
+#![tactic(auto)]
+
 use capi_lanes::{Walked, lk_run_all};
 use case_lines::{
     ANSWER, Answer, Tally, WORDS, Words, letter, line_end, low16, none, numbers, signed16, tell,

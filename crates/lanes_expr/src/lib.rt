@@ -1,4 +1,6 @@
 // One expression for all the lanes of a walk (02, A.8): one pass over its nodes, and at each node one loop over the lanes.
+#![tactic(auto)]
+
 ghost use Rattle.std.specs.Prelude.{◌≡◌, ℕ, ◌+◌, ◌*◌, ◌≤◌, ◌<◌, get_or, length, replicate, pos};
 ghost use Rattle.model.specs.Limits.{node_limit, most_saves};
 ghost use Rattle.model.specs.Save.{nat_at, int_at};

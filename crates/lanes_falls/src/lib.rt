@@ -1,4 +1,6 @@
 // Whether the blocks that a setup block leads to link to lower numbers only (02, A.8): one sweep from the highest block down, over an array of marks.
+#![tactic(auto)]
+
 ghost use Rattle.std.specs.Prelude.{◌≡◌, List, [], ◌∷◌, ℕ, ◌+◌, ◌≤◌, ◌<◌, ℤ, replicate, false};
 ghost use Rattle.model.specs.Limits.{block_limit, command_limit};
 ghost use Rattle.model.specs.Memory.{link_in, script_of};

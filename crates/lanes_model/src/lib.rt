@@ -1,1 +1,2 @@
 // One walk for many saves: definitions and theorems only (specs/).
+#![tactic(auto)]

@@ -1,4 +1,6 @@
 // The script in lent arrays: one node, command or block more, a block emptied and linked, and the codes of kinds.
+#![tactic(auto)]
+
 ghost use Rattle.std.specs.Prelude.{◌≡◌, ◌+◌, ◌<◌};
 ghost use Rattle.model.specs.Limits.{block_limit, command_limit, node_limit};
 ghost use Rattle.model.specs.Image.{kind_of, code2, code1};

@@ -1,4 +1,5 @@
 // The kinds of expression, the numbers and the loader that the definitions and the code share.
+#![tactic(auto)]
 
 // The numbers of 32 bits; those of 16 bits, half of them, and the least signed one.
 pub const WIDE: u64 = 4294967296;

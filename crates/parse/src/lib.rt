@@ -1,4 +1,6 @@
 // The call parse: its checks in 01's order, then the walk from the setup block and the slots that it read.
+#![tactic(auto)]
+
 ghost use Rattle.model.specs.RecordCalls.{parse_in};
 ghost use Rattle.memory.specs.View.{memory_of};
 ghost use Rattle.shop.specs.Shapes.{sheet_of};

@@ -1,4 +1,6 @@
 // The requirements of a condition, read when a block with an If is reached: a list of entries for each If, one after the other.
+#![tactic(auto)]
+
 ghost use Rattle.std.specs.Prelude.{◌≡◌, ◌≤◌, ◌<◌};
 ghost use Rattle.model.specs.Limits.{node_limit};
 ghost use Rattle.model.specs.Parse.{is_not};

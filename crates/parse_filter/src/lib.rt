@@ -1,4 +1,6 @@
 // The requirements of a condition: marks on its entries, kept between hiding blocks, and the contradiction filter over companions.
+#![tactic(auto)]
+
 ghost use Rattle.std.specs.Prelude.{◌≡◌, [], ◌∷◌, ◌+◌, ◌-◌, ◌/◌, ◌<◌, ◌≤◌, eqb, length, get_or, take};
 ghost use Rattle.model.specs.Limits.{wide};
 ghost use Rattle.parse_keys.specs.Entries.{entry_code};

@@ -1,4 +1,6 @@
 // The keys of the requirements that conditions speak of: each subject that was met has a key, and each key two entries, Have and Missing.
+#![tactic(auto)]
+
 ghost use Rattle.std.specs.Prelude.{◌≡◌, ℕ, ◌+◌, ◌*◌, ◌/◌, ◌%◌, ◌<◌, ◌≤◌, length};
 ghost use Rattle.model.specs.Memory.{nodes_in, right_at};
 ghost use Rattle.model.specs.Parse.{value, map_req, signed, parse_requirement};

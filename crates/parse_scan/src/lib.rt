@@ -1,4 +1,6 @@
 // What one block's commands do: the shop variables that they write, the current limit and the last If; and what those variables do to the slots.
+#![tactic(auto)]
+
 ghost use Rattle.std.specs.Prelude.{◌≡◌, true, cond, List, ◌+◌, ◌*◌, ◌^◌, ◌≤◌, ◌<◌, ℕ, ltb, ℤ, length, take, get_or};
 ghost use Rattle.std.proofs.Math.Option.{none, some};
 ghost use Rattle.model.specs.Limits.{slot_count, entry_limit, node_limit};

@@ -1,4 +1,6 @@
 // One block of a parse: its commands read under the condition that leads to it, the slots that it writes, the conditions of the blocks after it.
+#![tactic(auto)]
+
 ghost use Rattle.std.specs.Prelude.{◌≡◌, cond, ◌+◌, ◌*◌, ◌-◌, ◌≤◌, ◌<◌, length, get_or};
 ghost use Rattle.model.specs.Limits.{block_limit, node_limit};
 ghost use Rattle.model.specs.Refusal.{parse_too_many};

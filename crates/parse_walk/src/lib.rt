@@ -1,4 +1,6 @@
 // The parser's walk: a loop with a stack of blocks and conditions, and one array of marks; small tables first, large ones where there was no room.
+#![tactic(auto)]
+
 ghost use Rattle.std.specs.Prelude.{◌≡◌, false, ◌≤◌, ◌<◌, length, get_or, replicate};
 ghost use Rattle.model.specs.Limits.{block_limit};
 ghost use Rattle.model.specs.Sheet.{Sheet};

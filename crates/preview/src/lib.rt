@@ -1,4 +1,6 @@
 // The preview: what a shop means under a save, slot by slot, without compiling it.
+#![tactic(auto)]
+
 ghost use Rattle.std.specs.Prelude.{◌≡◌, true, not, ℕ, ◌<◌, ℤ, pos, ◌-ℤ◌, List, map, get_or};
 ghost use Rattle.std.specs.Int.Signed.{lt_z};
 ghost use Rattle.model.specs.Limits.{slot_count};

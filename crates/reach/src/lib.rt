@@ -1,4 +1,6 @@
 // A walk of blocks: marks, and a stack of blocks with a number each, next above else.
+#![tactic(auto)]
+
 ghost use Rattle.std.specs.Prelude.{◌≡◌, false, ◌+◌, ◌*◌, ◌-◌, ◌≤◌, ◌<◌, length, get_or, take};
 ghost use Rattle.model.specs.Limits.{block_limit};
 ghost use Rattle.reach.specs.Dfs.{entry, to};

@@ -1,4 +1,6 @@
 // The call reclaim: its checks in the order of 02, then the survivors in the place of all blocks, by way of their image.
+#![tactic(auto)]
+
 ghost use Rattle.std.specs.Prelude.{◌≡◌, ℕ, ◌≤◌, true, List, [], length};
 ghost use Rattle.model.specs.Limits.{block_limit, command_limit, node_limit};
 ghost use Rattle.model.specs.Script.{Block};

@@ -1,4 +1,6 @@
 // New numbers of the survivors of a reclaim, and a script's commands and blocks with their links following them.
+#![tactic(auto)]
+
 ghost use Rattle.std.specs.Prelude.{◌≡◌, ℕ, ◌≤◌, ◌<◌};
 ghost use Rattle.model.specs.Limits.{block_limit, command_limit};
 ghost use Rattle.reclaim_record.specs.Packed.{follow_code, follow_link};

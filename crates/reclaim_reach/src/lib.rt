@@ -1,4 +1,6 @@
 // Marks the blocks that the roots of a reclaim reach (02, A.4): a block that gets its mark goes into a queue, and the links of each block there are followed once.
+#![tactic(auto)]
+
 ghost use Rattle.std.specs.Prelude.{◌≡◌, false, [], ◌∷◌, ℕ, ◌+◌, ◌≤◌, ◌<◌, length, replicate};
 ghost use Rattle.model.specs.Limits.{block_limit, command_limit};
 ghost use Rattle.model.specs.Memory.{link_in};

@@ -1,4 +1,6 @@
 // Replays recorded answers of the original through the proved calls, and says how many are as recorded. rust/record/src/format.rs has the file's form.
+#![tactic(auto)]
+
 ghost use Rattle.std.specs.Prelude.{◌≡◌, ◌+◌, ◌≤◌, ◌<◌, length};
 ghost use Rattle.model.specs.Limits.{wide16};
 ghost use Rattle.replay.specs.Tally.{Fair, one};

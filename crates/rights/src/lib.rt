@@ -1,4 +1,6 @@
 // Edits of a shop by users with rights, and what a user is shown (02, A.7): of a shop as a value, and on the arrays of a shop where they stand.
+#![tactic(auto)]
+
 ghost use Rattle.std.specs.Prelude.{◌≡◌, cond, ◌<◌, ◌+◌, ◌*◌, get_or};
 ghost use Rattle.model.specs.Limits.{slot_count, user_count};
 ghost use Rattle.model.specs.Shop.{item_known};

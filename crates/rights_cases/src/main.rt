@@ -1,4 +1,6 @@
 // Edits of a shop by users with rights, and what a user is shown (02, A.7), through the calls of the library and through those on a shop as a value: runs the cases of its standard input, one to a line, and says of each whether it answered what the line says.
+#![tactic(auto)]
+
 use capi_rights::{lk_edit, lk_show};
 use capi_values::sheet_by;
 use case_lines::{

@@ -1,4 +1,6 @@
 // The runner: commands, blocks and a budget, over a script in lent arrays and a save in lent slices.
+#![tactic(auto)]
+
 ghost use Rattle.std.specs.Prelude.{◌≡◌, List, ℕ, ◌<◌, ℤ, length};
 ghost use Rattle.std.proofs.Math.Option.{Option};
 ghost use Rattle.model.specs.Limits.{node_limit, variable_count};

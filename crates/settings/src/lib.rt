@@ -1,4 +1,6 @@
 // How many settings list a slot (02, A.9): its subjects are counted on the codes of its requirements, and the closed form gives what a count over all combinations comes to.
+#![tactic(auto)]
+
 ghost use Rattle.std.specs.Prelude.{◌≡◌, true, List, [], ℕ, ◌+◌, ◌-◌, ◌^◌, ◌≤◌, take};
 ghost use Rattle.model.specs.Limits.{entry_limit};
 ghost use Rattle.model.specs.Sheet.{sheet_ok};

@@ -1,4 +1,6 @@
 // How many settings list a slot (02, A.9), through the exported call: runs the cases of its standard input, one to a line, and says of each whether it answered what the line says.
+#![tactic(auto)]
+
 use capi_settings::lk_settings;
 use case_lines::{
     ANSWER, Answer, Tally, WORDS, Words, letter, line_end, low8, low16, none, numbers, row,

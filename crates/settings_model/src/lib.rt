@@ -1,1 +1,2 @@
 // How many settings list a slot: definitions and theorems, no code of its own.
+#![tactic(auto)]

@@ -1,4 +1,6 @@
 // Requirement codes: a requirement as one number, its kind times 2^32 plus its number plus 2^31, so that the order of codes is the order of requirements.
+#![tactic(auto)]
+
 ghost use Rattle.std.specs.Prelude.{◌≡◌, ◌+◌, ◌/◌, ◌<◌};
 ghost use Rattle.model.specs.Limits.{wide};
 ghost use Rattle.model.specs.Requirement.{number};

@@ -1,4 +1,6 @@
 // Which shops read no flag outside the save (02, A.10), asked of a shop where it stands in its arrays.
+#![tactic(auto)]
+
 ghost use Rattle.std.specs.Prelude.{◌≡◌, map, ◌<◌, get_or};
 ghost use Rattle.model.specs.Limits.{slot_count};
 ghost use Rattle.model.specs.Sheet.{all};

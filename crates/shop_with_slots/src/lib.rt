@@ -1,4 +1,6 @@
 // A shop from any number of slots, as the source's with_slots: flat slices of slots go in, the four arrays of a shop's twenty come out.
+#![tactic(auto)]
+
 ghost use Rattle.std.specs.Prelude.{◌≡◌, ◌*◌, ◌≤◌, min, pos, negsuc, take};
 ghost use Rattle.model.specs.Limits.{entry_limit, slot_count};
 ghost use Rattle.shop_arrays.specs.Arrays.{arrays_in};

@@ -1,4 +1,6 @@
 // Shoppers in a shop of three slots (02, A.13): runs the cases of its standard input, one to a line, and says of each whether it answered what the line says.
+#![tactic(auto)]
+
 use case_lines::{
     ANSWER, Answer, Tally, WORDS, Words, bits16, code, letter, line_end, low8, low16, none,
     numbers, signed16, tell, total, wide8,

@@ -1,4 +1,6 @@
 // What is told of a shop before it is signed, through the exported call: runs the cases of its standard input, one to a line, and says of each whether it answered what the line says.
+#![tactic(auto)]
+
 use capi_signed::lk_check;
 use case_lines::{
     ANSWER, Answer, Tally, WORDS, Words, code, kind_in, letter, line_end, low8, low16, none,

@@ -1,4 +1,6 @@
 // What is told of a shop before it is signed: for each slot whether what is read back will run the same, if not by which entry and under which save, and what else may surprise.
+#![tactic(auto)]
+
 ghost use Rattle.std.specs.Prelude.{◌≡◌, true, not, cond, ◌&&◌, ◌+◌, ◌≤◌, ◌<◌, eqb, length, take, set, replicate};
 ghost use Rattle.model.specs.Limits.{entry_limit, slot_count};
 ghost use Rattle.model.specs.Requirement.{sorted};

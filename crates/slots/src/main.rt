@@ -1,4 +1,6 @@
 // The program slots: standard input to its twenty lines, or to a refusal. One byte past the limit is read, so that a longer input shows.
+#![tactic(auto)]
+
 use libc::{STDIN_FILENO, STDOUT_FILENO};
 use slots_text::TEXT;
 

@@ -1,4 +1,6 @@
 // The writer of what stands before an image in the input of slots: the sheet and the setup number, as slots_sheet reads them.
+#![tactic(auto)]
+
 ghost use Rattle.std.specs.Prelude.{◌≡◌, ◌+◌, ◌<◌, length};
 ghost use Rattle.model.specs.Reading.{word};
 ghost use Rattle.image_numbers.specs.Stored.{Stored, Room};

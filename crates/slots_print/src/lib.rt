@@ -1,4 +1,6 @@
 // The program slots from bytes to bytes: it reads the sheet, the setup number and the image, parses, and writes twenty lines or a refusal.
+#![tactic(auto)]
+
 ghost use Rattle.std.specs.Prelude.{◌≤◌, length, take};
 ghost use Rattle.model.specs.RecordCalls.{parse_in};
 ghost use Rattle.model.specs.Printer.{parsed_text};

@@ -1,4 +1,6 @@
 // The reader of what stands before an image in the input of slots: the sheet, each number judged as read, and the setup number.
+#![tactic(auto)]
+
 ghost use Rattle.std.specs.Prelude.{◌≡◌, ◌≤◌, ◌<◌, length};
 ghost use Rattle.model.specs.Limits.{most_items, most_atcs, wide16};
 ghost use Rattle.slots_sheet.specs.Told.{within, timer, ToldEntry, ToldAtcs, ToldTimers, ToldItems, ToldSetup, ToldHead};

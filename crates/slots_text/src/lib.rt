@@ -1,4 +1,6 @@
 // The text of the program slots, written into a lent array: decimal numbers, requirements, the line of a slot, twenty lines or a refusal.
+#![tactic(auto)]
+
 ghost use Rattle.std.specs.Prelude.{◌≡◌, [], ◌∷◌, ℤ, ◌+◌, ◌<◌, ◌≤◌};
 ghost use Rattle.model.specs.Limits.{entry_limit};
 ghost use Rattle.model.specs.Printer.{digits_to, decimal, signed_decimal, letter, requirements_text, item_text, slot_line, slot_lines, refused_text};

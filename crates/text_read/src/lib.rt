@@ -1,4 +1,6 @@
 // The reader of a shop's text, the twenty lines that the program slots prints: any bytes in, the shop or the line and the reason of the refusal out.
+#![tactic(auto)]
+
 ghost use Rattle.std.specs.Prelude.{◌≡◌, ◌+◌, ◌≤◌, ◌<◌, drop};
 ghost use Rattle.model.specs.Limits.{entry_limit, half16, wide16, half32};
 ghost use Rattle.shop_codes.specs.Codes.{unshift};

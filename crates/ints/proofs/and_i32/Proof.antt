@@ -8,5 +8,7 @@ use Rattle.ints.proofs.and_i32.Tie as tie
 returns : tie.Need-returns
 returns c = bits_own bit_and w32 c.args.x c.args.y c.ranges.x c.ranges.y
 
-pub and-i32-spec : {M : Type 1} → statement M
-and-i32-spec = tie.close (tie.spec returns)
+pub and_i32_spec : {M : Type 1} → statement M
+and_i32_spec = tie.close
+    (tie.spec
+    returns)

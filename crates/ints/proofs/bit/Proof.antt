@@ -4,11 +4,14 @@ use Rattle.model.specs.Signed.{b2z}
 use Rattle.ints.proofs.bit.Statement.{statement}
 use Rattle.ints.proofs.bit.Tie as tie
 
-returns : tie.Need-returns
-returns c = sym (ap b2z c.if1.true)
+returns : tie.Need-returns-then-b
+returns c = sym (ap b2z c.if-b.true)
 
-returns-2 : tie.Need-returns-2
-returns-2 c = sym (ap b2z c.if1.false)
+returns-2 : tie.Need-returns-else-b
+returns-2 c = sym (ap b2z c.if-b.false)
 
-pub bit-spec : {M : Type 1} → statement M
-bit-spec = tie.close (tie.spec returns returns-2)
+pub bit_spec : {M : Type 1} → statement M
+bit_spec = tie.close
+    (tie.spec
+    returns
+    returns-2)

@@ -14,10 +14,15 @@ use Rattle.ints.proofs.cut_i16.Tie as tie
 returns : tie.Need-returns
 unfolding wrap
 returns c =
-    let f = c.before.before.ranges.x in
-    let e = rw (to_z-of_z f) at c.before.to-bits.ensures in
-    to_z-of_z {w = w16} (record { sfits = c.from-bits16.type-inv }) ∙ c.from-bits16.ensures
-    ∙ ap (λ (n : ℕ). to_z w16 (n % wide16)) e ∙ ap (to_z w16) (sym (low_bits_of w16 w32 c.before.before.args.x tt f))
+    let f = c.ranges.x in
+    let e = rw (to_z-of_z f) at c.to_bits.ensures in
+    to_z-of_z {w = w16} (record { sfits = c.from_bits16.type_inv }) ∙ c.from_bits16.ensures
+    ∙ ap (λ (n : ℕ). to_z w16 (n % wide16)) e ∙ ap (to_z w16) (sym (low_bits_of w16 w32 c.args.x tt f))
 
-pub cut-i16-spec : {M : Type 1} → statement M
-cut-i16-spec = tie.close (tie.spec (λ c κs. search rules) (λ c. search rules) (λ c κs. search rules) returns)
+pub cut_i16_spec : {M : Type 1} → statement M
+cut_i16_spec = tie.close
+    (tie.spec
+    (λ c κs. search rules)
+    (λ c. search rules)
+    (λ c κs. search rules)
+    returns)

@@ -10,18 +10,25 @@ use Rattle.ints.proofs.Trip.{Narrow, narrow}
 use Rattle.ints.proofs.from_bits16.Statement.{statement}
 use Rattle.ints.proofs.from_bits16.Tie as tie
 
-upper : (c : tie.Else1) → Narrow w32 w16 (to_z w32 c.before.args.x -ℤ pos wide16) (to_z w16 c.before.args.x)
-upper c = narrow w32 w16 tt (upper_half w32 w16 c.before.args.x tt c.if1.false c.before.ranges.x.fits) (sfits_to_z c.before.ranges.x)
+upper : (c : tie.Else-x-lt-HALF16) → Narrow w32 w16 (to_z w32 c.args.x -ℤ pos wide16) (to_z w16 c.args.x)
+upper c = narrow w32 w16 tt (upper_half w32 w16 c.args.x tt c.if-x-lt-HALF16.false c.ranges.x.fits) (sfits_to_z c.ranges.x)
 
-sub-result : tie.Need-overflow-sub-result
+sub-result : tie.Need-overflow_sub-result
 sub-result c = let n = upper c in search rules
 
-cast-result-3 : tie.Need-overflow-cast-result-3
+cast-result-3 : tie.Need-overflow_cast-result-3
 cast-result-3 c = let n = upper c in search rules
 
-returns-2 : tie.Need-returns-2
+returns-2 : tie.Need-returns
 returns-2 c = let n = upper c in search rules
 
-pub from-bits16-spec : {M : Type 1} → statement M
-from-bits16-spec =
-    tie.close (tie.spec (λ c. search rules) (λ c. search rules) (λ c. search rules) sub-result cast-result-3 returns-2)
+pub from_bits16_spec : {M : Type 1} → statement M
+from_bits16_spec =
+    tie.close
+    (tie.spec
+    (λ c. search rules)
+    (λ c. search rules)
+    (λ c. search rules)
+    sub-result
+    cast-result-3
+    returns-2)

@@ -22,11 +22,15 @@ natural : (x : ℤ) → lt_z x (pos 0) ≡ false → lt_z x (pos flag_count) ≡
 natural (pos n) h = refl
 natural (negsuc n) h = absurd (subst T h tt)
 
-returns : tie.Need-returns
-returns c = negative c.before.args.x (rw (to_z-of_z c.before.ranges.x) at c.if1.true)
+returns : tie.Need-returns-then-x-lt0
+returns c = negative c.args.x (rw (to_z-of_z c.ranges.x) at c.if-x-lt0.true)
 
-returns-2 : tie.Need-returns-2
-returns-2 c = rw (to_z-of_z c.before.ranges.x) (natural c.before.args.x (rw (to_z-of_z c.before.ranges.x) at c.if1.false))
+returns-2 : tie.Need-returns
+returns-2 c = rw (to_z-of_z c.ranges.x) (natural c.args.x (rw (to_z-of_z c.ranges.x) at c.if-x-lt0.false))
 
-pub is-flag-spec : {M : Type 1} → statement M
-is-flag-spec = tie.close (tie.spec returns (λ c. search rules) returns-2)
+pub is_flag_spec : {M : Type 1} → statement M
+is_flag_spec = tie.close
+    (tie.spec
+    returns
+    (λ c. search rules)
+    returns-2)

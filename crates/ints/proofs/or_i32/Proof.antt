@@ -8,5 +8,7 @@ use Rattle.ints.proofs.or_i32.Tie as tie
 returns : tie.Need-returns
 returns c = bits_own bit_or w32 c.args.x c.args.y c.ranges.x c.ranges.y
 
-pub or-i32-spec : {M : Type 1} → statement M
-or-i32-spec = tie.close (tie.spec returns)
+pub or_i32_spec : {M : Type 1} → statement M
+or_i32_spec = tie.close
+    (tie.spec
+    returns)

@@ -10,11 +10,14 @@ use Rattle.ints.proofs.widen16.Tie as tie
 wider : {z : ℤ} → SFits w16 z → SFits w32 z
 wider f = sfits_widen tt f
 
-cast-result : tie.Need-overflow-cast-result
+cast-result : tie.Need-overflow_cast-result
 cast-result c = search (rules, wider)
 
 returns : tie.Need-returns
 returns c = search (rules, wider)
 
-pub widen16-spec : {M : Type 1} → statement M
-widen16-spec = tie.close (tie.spec cast-result returns)
+pub widen16_spec : {M : Type 1} → statement M
+widen16_spec = tie.close
+    (tie.spec
+    cast-result
+    returns)

@@ -10,25 +10,31 @@ use Rattle.ints.proofs.Trip.{widened}
 use Rattle.ints.proofs.wrapping_sub_i32.Statement.{statement}
 use Rattle.ints.proofs.wrapping_sub_i32.Tie as tie
 
-cast-wrap-once : tie.Need-overflow-cast-wrap-once
+cast-wrap-once : tie.Need-overflow_cast-a
 cast-wrap-once c = search (rules, sfits_widen)
 
-cast-wrap-once-2 : tie.Need-overflow-cast-wrap-once-2
+cast-wrap-once-2 : tie.Need-overflow_cast-b
 cast-wrap-once-2 c = search (rules, sfits_widen)
 
-sub-wrap-once : tie.Need-overflow-sub-wrap-once
+sub-wrap-once : tie.Need-overflow_sub-a
 sub-wrap-once c = search (rules, sfits_widen, diff_fits w32 w64 tt)
 
-wrap-once-requires : tie.Need-wrap-once-requires
+wrap-once-requires : tie.Need-wrap_once-requires
 wrap-once-requires c κs = search (rules, sfits_widen, diff_fits w32 w64 tt, diff_mag w32)
 
 returns : tie.Need-returns
 returns c =
-    let f = c.before.ranges.a in
-    let g = c.before.ranges.b in
-    to_z-of_z {w = w32} (record { sfits = c.wrap-once.type-inv }) ∙ c.wrap-once.ensures
-    ∙ ap (wrap w32) (widened w32 w64 ◌-ℤ◌ c.before.args.a c.before.args.b tt f g (diff_fits w32 w64 tt _ _ f g))
+    let f = c.ranges.a in
+    let g = c.ranges.b in
+    to_z-of_z {w = w32} (record { sfits = c.wrap_once.type_inv }) ∙ c.wrap_once.ensures
+    ∙ ap (wrap w32) (widened w32 w64 ◌-ℤ◌ c.args.a c.args.b tt f g (diff_fits w32 w64 tt _ _ f g))
 
-pub wrapping-sub-i32-spec : {M : Type 1} → statement M
-wrapping-sub-i32-spec =
-    tie.close (tie.spec cast-wrap-once cast-wrap-once-2 sub-wrap-once wrap-once-requires returns)
+pub wrapping_sub_i32_spec : {M : Type 1} → statement M
+wrapping_sub_i32_spec =
+    tie.close
+    (tie.spec
+    cast-wrap-once
+    cast-wrap-once-2
+    sub-wrap-once
+    wrap-once-requires
+    returns)

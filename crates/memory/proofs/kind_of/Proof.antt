@@ -1,3 +1,4 @@
+
 use mathlib.Core.Path.{◌≡◌, sym, ap}
 use native.Mathlib.Omega.{arith}
 use Rattle.model.specs.Image.{kind_of, kinds}
@@ -21,89 +22,89 @@ kind-rest n h = by (dec_le 19 n)
     by (yes q) = get_or-eq_default kinds Other q
     by (no q) = let e : n ≡ 18 = omega arith in ap (λ (k : ℕ). get_or kinds k Other) e
 
-returns : tie.Need-returns
+returns : tie.Need-returns-in-0
 unfolding kind_of kinds
-returns c = sym (ap kind_of c.match.keys1)
+returns c = sym (ap kind_of c.in-0.is)
 
-returns-2 : tie.Need-returns-2
+returns-2 : tie.Need-returns-in-1
 unfolding kind_of kinds
-returns-2 c = sym (ap kind_of c.match.keys2)
+returns-2 c = sym (ap kind_of c.in-1.is)
 
-returns-3 : tie.Need-returns-3
+returns-3 : tie.Need-returns-in-2
 unfolding kind_of kinds
-returns-3 c = sym (ap kind_of c.match.keys3)
+returns-3 c = sym (ap kind_of c.in-2.is)
 
-returns-4 : tie.Need-returns-4
+returns-4 : tie.Need-returns-in-3
 unfolding kind_of kinds
-returns-4 c = sym (ap kind_of c.match.keys4)
+returns-4 c = sym (ap kind_of c.in-3.is)
 
-returns-5 : tie.Need-returns-5
+returns-5 : tie.Need-returns-in-4
 unfolding kind_of kinds
-returns-5 c = sym (ap kind_of c.match.keys5)
+returns-5 c = sym (ap kind_of c.in-4.is)
 
-returns-6 : tie.Need-returns-6
+returns-6 : tie.Need-returns-in-5
 unfolding kind_of kinds
-returns-6 c = sym (ap kind_of c.match.keys6)
+returns-6 c = sym (ap kind_of c.in-5.is)
 
-returns-7 : tie.Need-returns-7
+returns-7 : tie.Need-returns-in-6
 unfolding kind_of kinds
-returns-7 c = sym (ap kind_of c.match.keys7)
+returns-7 c = sym (ap kind_of c.in-6.is)
 
-returns-8 : tie.Need-returns-8
+returns-8 : tie.Need-returns-in-7
 unfolding kind_of kinds
-returns-8 c = sym (ap kind_of c.match.keys8)
+returns-8 c = sym (ap kind_of c.in-7.is)
 
-returns-9 : tie.Need-returns-9
+returns-9 : tie.Need-returns-in-8
 unfolding kind_of kinds
-returns-9 c = sym (ap kind_of c.match.keys9)
+returns-9 c = sym (ap kind_of c.in-8.is)
 
-returns-10 : tie.Need-returns-10
+returns-10 : tie.Need-returns-in-9
 unfolding kind_of kinds
-returns-10 c = sym (ap kind_of c.match.keys10)
+returns-10 c = sym (ap kind_of c.in-9.is)
 
-returns-11 : tie.Need-returns-11
+returns-11 : tie.Need-returns-in-10
 unfolding kind_of kinds
-returns-11 c = sym (ap kind_of c.match.keys11)
+returns-11 c = sym (ap kind_of c.in-10.is)
 
-returns-12 : tie.Need-returns-12
+returns-12 : tie.Need-returns-in-11
 unfolding kind_of kinds
-returns-12 c = sym (ap kind_of c.match.keys12)
+returns-12 c = sym (ap kind_of c.in-11.is)
 
-returns-13 : tie.Need-returns-13
+returns-13 : tie.Need-returns-in-12
 unfolding kind_of kinds
-returns-13 c = sym (ap kind_of c.match.keys13)
+returns-13 c = sym (ap kind_of c.in-12.is)
 
-returns-14 : tie.Need-returns-14
+returns-14 : tie.Need-returns-in-13
 unfolding kind_of kinds
-returns-14 c = sym (ap kind_of c.match.keys14)
+returns-14 c = sym (ap kind_of c.in-13.is)
 
-returns-15 : tie.Need-returns-15
+returns-15 : tie.Need-returns-in-14
 unfolding kind_of kinds
-returns-15 c = sym (ap kind_of c.match.keys15)
+returns-15 c = sym (ap kind_of c.in-14.is)
 
-returns-16 : tie.Need-returns-16
+returns-16 : tie.Need-returns-in-15
 unfolding kind_of kinds
-returns-16 c = sym (ap kind_of c.match.keys16)
+returns-16 c = sym (ap kind_of c.in-15.is)
 
-returns-17 : tie.Need-returns-17
+returns-17 : tie.Need-returns-in-16
 unfolding kind_of kinds
-returns-17 c = sym (ap kind_of c.match.keys17)
+returns-17 c = sym (ap kind_of c.in-16.is)
 
-returns-18 : tie.Need-returns-18
+returns-18 : tie.Need-returns-in-17
 unfolding kind_of kinds
-returns-18 c = sym (ap kind_of c.match.keys18)
+returns-18 c = sym (ap kind_of c.in-17.is)
 
-returns-19 : tie.Need-returns-19
+returns-19 : tie.Need-returns-in_default
 unfolding kind_of kinds
-returns-19 c = sym (kind-rest c.before.args.code (up (up (up (up (up (up (up (up (up (up
-    (up (up (up (up (up (up (up (up zero-le c.match.rest.0.0.0.0.0.0.0.0.0.0.0.0.0.0.0.0.0.1) c.match.rest.0.0.0.0.0.0.0.0.0.0.0.0.0.0.0.0.1)
-    c.match.rest.0.0.0.0.0.0.0.0.0.0.0.0.0.0.0.1) c.match.rest.0.0.0.0.0.0.0.0.0.0.0.0.0.0.1) c.match.rest.0.0.0.0.0.0.0.0.0.0.0.0.0.1)
-    c.match.rest.0.0.0.0.0.0.0.0.0.0.0.0.1) c.match.rest.0.0.0.0.0.0.0.0.0.0.0.1) c.match.rest.0.0.0.0.0.0.0.0.0.0.1) c.match.rest.0.0.0.0.0.0.0.0.0.1)
-    c.match.rest.0.0.0.0.0.0.0.0.1) c.match.rest.0.0.0.0.0.0.0.1) c.match.rest.0.0.0.0.0.0.1) c.match.rest.0.0.0.0.0.1) c.match.rest.0.0.0.0.1) c.match.rest.0.0.0.1)
-    c.match.rest.0.0.1) c.match.rest.0.1) c.match.rest.1))
+returns-19 c = sym (kind-rest c.args.code (up (up (up (up (up (up (up (up (up (up
+    (up (up (up (up (up (up (up (up zero-le c.in_default.in_default-own.rest.0.0.0.0.0.0.0.0.0.0.0.0.0.0.0.0.0.1) c.in_default.in_default-own.rest.0.0.0.0.0.0.0.0.0.0.0.0.0.0.0.0.1)
+    c.in_default.in_default-own.rest.0.0.0.0.0.0.0.0.0.0.0.0.0.0.0.1) c.in_default.in_default-own.rest.0.0.0.0.0.0.0.0.0.0.0.0.0.0.1) c.in_default.in_default-own.rest.0.0.0.0.0.0.0.0.0.0.0.0.0.1)
+    c.in_default.in_default-own.rest.0.0.0.0.0.0.0.0.0.0.0.0.1) c.in_default.in_default-own.rest.0.0.0.0.0.0.0.0.0.0.0.1) c.in_default.in_default-own.rest.0.0.0.0.0.0.0.0.0.0.1) c.in_default.in_default-own.rest.0.0.0.0.0.0.0.0.0.1)
+    c.in_default.in_default-own.rest.0.0.0.0.0.0.0.0.1) c.in_default.in_default-own.rest.0.0.0.0.0.0.0.1) c.in_default.in_default-own.rest.0.0.0.0.0.0.1) c.in_default.in_default-own.rest.0.0.0.0.0.1) c.in_default.in_default-own.rest.0.0.0.0.1) c.in_default.in_default-own.rest.0.0.0.1)
+    c.in_default.in_default-own.rest.0.0.1) c.in_default.in_default-own.rest.0.1) c.in_default.in_default-own.rest.1))
 
-pub kind-of-spec : {M : Type 1} → statement M
-kind-of-spec =
+pub kind_of_spec : {M : Type 1} → statement M
+kind_of_spec =
     tie.close
     (tie.spec
     returns

@@ -93,21 +93,21 @@ module _ (s : Save) (v : List ℤ) (bits : Bits s.flags) where
 
   pub eval_test : (r : Requirement) → ComesTo s v (test r) (tested (req_inside r) (holds s r))
   unfolding test item_test atc_test flag_test holds
-  eval_test (haveItem i) j l = rw eval_imm
-  eval_test (missingItem i) j l = rw eval_imm
-  eval_test (haveAtc a) j l = rw eval_imm
-  eval_test (missingAtc a) j l = rw eval_imm
-  eval_test (haveFlag f) j l = rw eval_imm (flag_read f (flag_inside f))
-  eval_test (missingFlag f) j l = rw eval_imm (flag_not f (flag_inside f))
+  eval_test (haveItem i) j l = rw (eval_imm j s v)
+  eval_test (missingItem i) j l = rw (eval_imm j s v)
+  eval_test (haveAtc a) j l = rw (eval_imm j s v)
+  eval_test (missingAtc a) j l = rw (eval_imm j s v)
+  eval_test (haveFlag f) j l = rw (eval_imm j s v) (flag_read f (flag_inside f))
+  eval_test (missingFlag f) j l = rw (eval_imm j s v) (flag_not f (flag_inside f))
 
   eval_negate_test : (r : Requirement) → ComesTo s v (negate (test r)) (tested (req_inside r) (not (holds s r)))
   unfolding test item_test atc_test flag_test holds
-  eval_negate_test (haveItem i) j l = rw (eval_imm, not-not)
-  eval_negate_test (missingItem i) j l = rw eval_imm
-  eval_negate_test (haveAtc a) j l = rw (eval_imm, not-not)
-  eval_negate_test (missingAtc a) j l = rw eval_imm
-  eval_negate_test (haveFlag f) j l = rw (eval_imm, not-not) (flag_not f (flag_inside f))
-  eval_negate_test (missingFlag f) j l = rw eval_imm (flag_read f (flag_inside f))
+  eval_negate_test (haveItem i) j l = rw (eval_imm j s v, not-not)
+  eval_negate_test (missingItem i) j l = rw (eval_imm j s v)
+  eval_negate_test (haveAtc a) j l = rw (eval_imm j s v, not-not)
+  eval_negate_test (missingAtc a) j l = rw (eval_imm j s v)
+  eval_negate_test (haveFlag f) j l = rw (eval_imm j s v, not-not) (flag_not f (flag_inside f))
+  eval_negate_test (missingFlag f) j l = rw (eval_imm j s v) (flag_read f (flag_inside f))
 
   -- both sides are evaluated, so that either one that reads outside stops it
   eval_and : (e f : Expr) (x y a b : Bool) → ComesTo s v e (tested x a) → ComesTo s v f (tested y b) → ComesTo s v (two BitAnd e f) (tested (x && y) (a && b))

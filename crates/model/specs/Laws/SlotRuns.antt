@@ -199,4 +199,4 @@ pub record Fits (s : Save) : Type 0 where
 pub eval_remaining : (s : Save) (v : List ℤ) → Fits s → (n w : ℕ) → n ≤ most_stock → Worth s v (remaining_expr n w) (pos n -ℤ held s w)
 eval_remaining s v f n w h j l =
     let c = f.counts w in
-    rw (eval_imm, c.is) (ap ok (wrap_id w32 (pos n -ℤ pos c.size) (small n c.size h c.few)))
+    rw (eval_imm j s v, c.is) (ap ok (wrap_id w32 (pos n -ℤ pos c.size) (small n c.size h c.few)))
