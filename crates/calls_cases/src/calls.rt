@@ -18,7 +18,7 @@ use shop::{
 // ---- counts
 
 // The counts of the script and of its accepted compiles.
-#[derive(Drop)]
+#[derive(Clone, Copy)]
 pub struct Kept {
     pub counts: Counts,
     pub compiles: u32,

@@ -16,7 +16,7 @@ use model::INPUT;
 use reclaims::reclaimed;
 
 // What goes from a line to the next: the counts of the script and of its accepted compiles, the length of the image, and the tally.
-#[derive(Drop)]
+#[derive(Clone, Copy)]
 struct Held {
     kept: Kept,
     image: usize,

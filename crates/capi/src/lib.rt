@@ -38,7 +38,7 @@ use shop_with_slots::with_slots;
 
 // The refusal or 0, the kept counts of the script and the count of its accepted compiles; all counts are 0 where a read is refused.
 #[repr(C)]
-#[derive(Drop)]
+#[derive(Clone, Copy)]
 pub struct Kept {
     pub refusal: u8,
     pub nodes: u16,
@@ -49,7 +49,7 @@ pub struct Kept {
 
 // The refusal or 0, and the length of the image in bytes.
 #[repr(C)]
-#[derive(Drop)]
+#[derive(Clone, Copy)]
 pub struct Written {
     pub refusal: u8,
     pub len: usize,
@@ -57,7 +57,7 @@ pub struct Written {
 
 // The refusal or 0, the pair of each slot, and what variable 0 ends as.
 #[repr(C)]
-#[derive(Drop)]
+#[derive(Clone, Copy)]
 pub struct Previewed {
     pub refusal: u8,
     pub items: [i32; SLOTS],
@@ -67,7 +67,7 @@ pub struct Previewed {
 
 // The refusal or 0, and the count of blocks entered.
 #[repr(C)]
-#[derive(Drop)]
+#[derive(Clone, Copy)]
 pub struct Ran {
     pub refusal: u8,
     pub entered: u32,

@@ -17,7 +17,7 @@ use model::BlockNo;
 
 // The refusal or 0, and how many blocks were read.
 #[repr(C)]
-#[derive(Drop)]
+#[derive(Clone, Copy)]
 pub struct Walked {
     pub refusal: u8,
     pub read: u32,

@@ -15,7 +15,7 @@ use slots_sheet::{Heading, read_heading};
 
 // The refusal or 0, how many items and atcs there are, the three timers' items, the setup number, and where the image begins; all else is 0 on a refusal.
 #[repr(C)]
-#[derive(Drop)]
+#[derive(Clone, Copy)]
 pub struct Headed {
     pub refusal: u8,
     pub items: u16,
@@ -29,7 +29,7 @@ pub struct Headed {
 
 // The refusal or 0, and the length of the heading in bytes.
 #[repr(C)]
-#[derive(Drop)]
+#[derive(Clone, Copy)]
 pub struct Written {
     pub refusal: u8,
     pub len: usize,

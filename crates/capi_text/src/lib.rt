@@ -17,7 +17,7 @@ const MOST_ENTRIES: u8 = ENTRIES as u8;
 
 // Reason 0, or why the text is no shop and its line, counted from 1.
 #[repr(C)]
-#[derive(Drop)]
+#[derive(Clone, Copy)]
 pub struct TextRead {
     pub reason: u8,
     pub line: u8,

@@ -22,14 +22,14 @@ pub type Answer = [u32; ANSWER];
 pub type Words = [u32; WORDS];
 
 // How many cases there were, and how many answered as said.
-#[derive(Drop)]
+#[derive(Clone, Copy)]
 pub struct Tally {
     pub cases: u32,
     pub good: u32,
 }
 
 // The number that a byte belongs to, and whether it is below 0.
-#[derive(Drop)]
+#[derive(Clone, Copy)]
 pub struct Place {
     pub n: usize,
     pub minus: bool,

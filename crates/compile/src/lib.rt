@@ -17,7 +17,7 @@ use shop::{CODES, Codes, SLOTS, Sheet, Shop};
 use shop_arrays::{arrays_of, check_arrays};
 
 // The refusal or 0, the counts of the script after the call, and the count of its accepted compiles.
-#[derive(Drop)]
+#[derive(Clone, Copy)]
 pub struct Compiled {
     pub refusal: u8,
     pub counts: Counts,

@@ -26,7 +26,7 @@ const ITEM_WORD: u16 = ITEM_FIRST as u16;
 const COUNT_WORD: u16 = COUNT_FIRST as u16;
 
 // The counts of nodes and commands while a block is built.
-#[derive(Drop)]
+#[derive(Clone, Copy)]
 pub struct Held {
     pub nodes: u16,
     pub commands: u16,

@@ -39,7 +39,7 @@ const MOST_COMMANDS: u32 = 281;
 const MOST_NODES: u32 = (SLOTS * (43 + 5 * ENTRIES)) as u32;
 
 // What some blocks take: how many they are, and the commands and expression nodes in them.
-#[derive(Drop)]
+#[derive(Clone, Copy)]
 pub struct Size {
     pub blocks: u32,
     pub commands: u32,
@@ -216,7 +216,7 @@ fn shop_size(
 }
 
 // What a loader loads at most.
-#[derive(Drop)]
+#[derive(Clone, Copy)]
 struct Limits {
     blocks: u32,
     commands: u32,

@@ -29,7 +29,7 @@ use shop_arrays::{item_at, sort_row};
 
 // What a slot with an item is compiled from: its number, the item, the coerced limit, the block to go to after the slot,
 // how the item counts as acquired, the other timers, the number of sorted requirements. Their codes stand beside it in an array.
-#[derive(Drop)]
+#[derive(Clone, Copy)]
 struct ItemContext {
     index: u16,
     item: ItemId,

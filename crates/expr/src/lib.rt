@@ -18,7 +18,7 @@ use model::{Kind, Op1, Op2, Variables};
 const REFUSED: u64 = 4294967296;
 
 // A value, or the number of the refusal.
-#[derive(Drop)]
+#[derive(Clone, Copy)]
 pub enum Value {
     Is(i32),
     Refused(u8),
@@ -116,7 +116,7 @@ pub fn apply_one(
 
 // ---- numbers
 
-#[derive(Drop)]
+#[derive(Clone, Copy)]
 pub enum MaybeNumber {
     Is(i32),
     Nothing,

@@ -21,7 +21,7 @@ use shop::{Row, capacity};
 use shop_codes::{Subject, is_missing, subject_of};
 
 // How an item counts as acquired: of is Item or Atc, id is its id there, rate that of a timer or 0.
-#[derive(Drop)]
+#[derive(Clone, Copy)]
 pub struct Acquired {
     pub of: Op1,
     pub id: u16,

@@ -10,7 +10,7 @@ use memory::index_of;
 use parse_filter::filter_alive;
 
 // The first n of four words.
-#[derive(Drop)]
+#[derive(Clone, Copy)]
 pub struct Entries {
     pub a: u16,
     pub b: u16,
@@ -20,7 +20,7 @@ pub struct Entries {
 }
 
 // The companions of 0 to 3.
-#[derive(Drop)]
+#[derive(Clone, Copy)]
 pub struct Others {
     pub p: u16,
     pub q: u16,

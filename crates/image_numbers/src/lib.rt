@@ -9,7 +9,7 @@ ghost use Rattle.image_numbers.specs.Told.{Told, ShortWord};
 ghost use Rattle.image_numbers.specs.Stored.{Stored, Room};
 
 // A number and the place after it.
-#[derive(Drop)]
+#[derive(Clone, Copy)]
 pub enum Num {
     Got(u64, usize),
     Bad,

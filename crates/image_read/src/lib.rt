@@ -26,21 +26,21 @@ const MOST_BLOCKS: u64 = BLOCKS as u64;
 const MOST_COMMANDS: u64 = COMMANDS as u64;
 
 // A number or a count and the place after what was read, or a refusal.
-#[derive(Drop)]
+#[derive(Clone, Copy)]
 enum Step {
     Got(u16, usize),
     No(u8),
 }
 
 // Two numbers or counts and the place after what was read, or a refusal.
-#[derive(Drop)]
+#[derive(Clone, Copy)]
 enum Stage {
     Got(u16, u16, usize),
     No(u8),
 }
 
 // The kept counts of the script that was read, or a refusal.
-#[derive(Drop)]
+#[derive(Clone, Copy)]
 pub enum Image {
     Read(Counts),
     No(u8),

@@ -19,7 +19,7 @@ use memory::{BlockWords, CommandWords, Counts, NodeWords, Values, index_of, kind
 use model::Kind;
 
 // The refusal's number, or 0 and the length of the image in bytes.
-#[derive(Drop)]
+#[derive(Clone, Copy)]
 pub struct Written {
     pub refusal: u8,
     pub len: usize,

@@ -101,7 +101,7 @@ fn command_nodes(sizes: &[u16], cw: &CommandWords, counts: Counts, i: usize) -> 
 }
 
 // The nodes of all commands, and a number that is at least those of each command.
-#[derive(Drop)]
+#[derive(Clone, Copy)]
 struct Sum {
     nodes: usize,
     most: usize,

@@ -20,14 +20,14 @@ use memory::{
 };
 
 // Judged fine, with the length of the image in bytes, or the refusal's number.
-#[derive(Drop)]
+#[derive(Clone, Copy)]
 pub enum Judged {
     Fine(usize),
     No(u8),
 }
 
 // The nodes and commands counted and the bytes passed after a block, or a refusal.
-#[derive(Drop)]
+#[derive(Clone, Copy)]
 pub enum Stage {
     Fine(u16, u16, usize),
     No(u8),

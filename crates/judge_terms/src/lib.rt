@@ -15,7 +15,7 @@ use memory::{Counts, NodeWords, Values, kind_of};
 use model::{Kind, WIDE16};
 
 // The nodes counted and the bytes passed after a piece of the image, or a refusal.
-#[derive(Drop)]
+#[derive(Clone, Copy)]
 pub enum Step {
     Fine(u16, usize),
     No(u8),

@@ -264,7 +264,7 @@ fn walk_all(
 // ---- the call
 
 // The refusal or 0, and how many blocks were read.
-#[derive(Drop)]
+#[derive(Clone, Copy)]
 pub struct Walked {
     pub refusal: u8,
     pub read: u32,

@@ -21,21 +21,21 @@ use memory::{BlockWords, CommandWords, Counts, NodeWords, Values};
 use model::VARIABLES;
 
 // Where a lane goes: block + 1, or 0 where it ends with that answer.
-#[derive(Drop)]
+#[derive(Clone, Copy)]
 pub struct Way {
     pub word: u32,
     pub answer: u8,
 }
 
 // The ways out of a block: `then` where the last value is not 0, `otherwise` where it is. Only an If tells the two apart.
-#[derive(Drop)]
+#[derive(Clone, Copy)]
 pub struct Exit {
     pub then: Way,
     pub otherwise: Way,
 }
 
 // Where a command leads the lanes that have not stopped: to the command after it, or out of the block.
-#[derive(Drop)]
+#[derive(Clone, Copy)]
 enum Flow {
     On,
     Out(Exit),
@@ -304,7 +304,7 @@ fn command(
 // ---- blocks
 
 // Where a block's commands stand: many of them from command first on; link is the block's next.
-#[derive(Drop)]
+#[derive(Clone, Copy)]
 struct Code {
     first: u16,
     many: u16,

@@ -21,7 +21,7 @@ use model::{FLAGS, Kind, Op1, Op2, TIMES, VARIABLES};
 pub const LANES: usize = 64;
 
 // How many lanes a list names, and how many items and ATCs each save has.
-#[derive(Drop)]
+#[derive(Clone, Copy)]
 pub struct Widths {
     pub lanes: usize,
     pub items: usize,
@@ -44,7 +44,7 @@ fn signed_of(x: u8) -> i32
     x as i32
 }
 
-#[derive(Drop)]
+#[derive(Clone, Copy)]
 enum MaybePlace {
     At(usize),
     Nothing,

@@ -42,7 +42,7 @@ pub type Values = [i32; NODES];
 pub type Births = [u32; BLOCKS];
 
 // The kept counts of a script.
-#[derive(Drop)]
+#[derive(Clone, Copy)]
 pub struct Counts {
     pub nodes: u16,
     pub commands: u16,

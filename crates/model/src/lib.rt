@@ -23,7 +23,7 @@ pub type Variables = [i32; VARIABLES];
 pub const INPUT: usize = 65536;
 
 // Kinds with two operands.
-#[derive(Drop)]
+#[derive(Clone, Copy)]
 pub enum Op2 {
     Equal,
     NotEqual,
@@ -38,7 +38,7 @@ pub enum Op2 {
 }
 
 // Kinds with one operand.
-#[derive(Drop)]
+#[derive(Clone, Copy)]
 pub enum Op1 {
     Not,
     Flag,
@@ -49,7 +49,7 @@ pub enum Op1 {
 }
 
 // Every kind, as a node of an expression has it.
-#[derive(Drop)]
+#[derive(Clone, Copy)]
 pub enum Kind {
     Two(Op2),
     One(Op1),
@@ -59,21 +59,21 @@ pub enum Kind {
 }
 
 // Numbers that must not be mixed up: a block number is never taken where an item or atc id is due.
-#[derive(Drop)]
+#[derive(Clone, Copy)]
 pub struct BlockNo(pub u32);
 
 // A block's next or else as its word in the script has it: 0 for none, k + 1 for block k.
-#[derive(Drop)]
+#[derive(Clone, Copy)]
 pub struct Link(pub u16);
 
-#[derive(Drop)]
+#[derive(Clone, Copy)]
 pub struct ItemId(pub u16);
 
-#[derive(Drop)]
+#[derive(Clone, Copy)]
 pub struct AtcId(pub u16);
 
 // What loads a compiled script: each has its limits (02, A.6).
-#[derive(Drop)]
+#[derive(Clone, Copy)]
 pub enum Loader {
     Disc,
     Demo,

@@ -17,7 +17,7 @@ use shop::{CODES, Codes, SLOTS, Sheet, Shop};
 use shop_arrays::{clear_arrays, shop_from, sizes};
 
 // The refusal or 0, and the slots; refused, every slot is empty.
-#[derive(Drop)]
+#[derive(Clone, Copy)]
 pub struct ParsedShop {
     pub refusal: u8,
     pub shop: Shop,

@@ -13,14 +13,14 @@ use shop::{ENTRIES, Row, insert_in};
 use shop_codes::missing_of;
 
 // The condition whose entries are marked, and how many of them are still looked at.
-#[derive(Drop)]
+#[derive(Clone, Copy)]
 pub struct Marked {
     pub first: u16,
     pub alive: u16,
 }
 
 // How many negated requirements there are, ENTRIES + 1 where there are more than ENTRIES, and what is marked after.
-#[derive(Drop)]
+#[derive(Clone, Copy)]
 pub struct Filtered {
     pub len: usize,
     pub marked: Marked,

@@ -17,14 +17,14 @@ use model::{Kind, Op1, Op2};
 use shop_codes::{HAVE_ATC, HAVE_FLAG, KIND, ZERO, shifted};
 
 // How many ids the sheet has.
-#[derive(Drop)]
+#[derive(Clone, Copy)]
 pub struct Known {
     pub items: u16,
     pub atcs: u16,
 }
 
 // A node's word, 0 or its entry, and how many keys there are.
-#[derive(Drop)]
+#[derive(Clone, Copy)]
 pub struct Word {
     pub word: u16,
     pub count: u16,
@@ -34,7 +34,7 @@ pub struct Word {
 pub const NO_ROOM: u16 = 65535;
 
 // Where a search ended: at a key, or at the free link where the code belongs.
-#[derive(Drop)]
+#[derive(Clone, Copy)]
 struct Found {
     at: usize,
     there: bool,

@@ -29,7 +29,7 @@ use shop_arrays::sizes;
 
 // What a block's commands leave: which slots' variables they wrote, the limit, and last_if, 0 or 1 + the root of the last If's condition.
 // The numbers written lie in two lent arrays, and mean something only where the mask has the slot's bit: the arrays are never cleared.
-#[derive(Drop)]
+#[derive(Clone, Copy)]
 pub struct Scanned {
     pub item_mask: u32,
     pub count_mask: u32,
@@ -38,14 +38,14 @@ pub struct Scanned {
 }
 
 // What a Set writes, where that can be read.
-#[derive(Drop)]
+#[derive(Clone, Copy)]
 enum Short {
     Unread,
     Wrote(i16),
 }
 
 // What a Set writes to: variable 0, nothing of a shop, or a slot's item or count.
-#[derive(Drop)]
+#[derive(Clone, Copy)]
 enum Target {
     First,
     Unused,

@@ -26,7 +26,7 @@ use reach::Condition;
 use shop::{Codes, ENTRIES, SLOTS};
 
 // What is carried from block to block beside the arrays: the current limit, how many cells of conditions there are, the refusal or 0, how many entries of Ifs and keys there are, and the condition whose entries are marked.
-#[derive(Drop)]
+#[derive(Clone, Copy)]
 pub struct Walk {
     pub limit: i16,
     pub cells: u16,
@@ -37,21 +37,21 @@ pub struct Walk {
 }
 
 // How many blocks, commands and nodes the script has, and how many ids the sheet.
-#[derive(Drop)]
+#[derive(Clone, Copy)]
 pub struct Given {
     pub counts: Counts,
     pub known: Known,
 }
 
 // A block, and the condition that leads to it.
-#[derive(Drop)]
+#[derive(Clone, Copy)]
 pub struct Reached {
     pub block: BlockNo,
     pub under: Condition,
 }
 
 // What a block leaves, its next and else, and their conditions.
-#[derive(Drop)]
+#[derive(Clone, Copy)]
 pub struct Visited {
     pub walk: Walk,
     pub next: Link,
@@ -61,7 +61,7 @@ pub struct Visited {
 }
 
 // The refusal of the slots or 0, and the condition whose entries are marked.
-#[derive(Drop)]
+#[derive(Clone, Copy)]
 struct Slotted {
     answer: u8,
     marked: Marked,

@@ -32,7 +32,7 @@ use shop_codes::{Subject, is_missing, subject_of};
 use shop_flags::{entry_at, flags_inside};
 
 // The refusal or 0, the pairs of the slots, 0 where it is refused, and variable 0 after them.
-#[derive(Drop)]
+#[derive(Clone, Copy)]
 pub struct Previewed {
     pub refusal: u8,
     pub items: [i32; SLOTS],
@@ -41,7 +41,7 @@ pub struct Previewed {
 }
 
 // The pair of a slot; one above limit 1 that is shown leaves its count in variable 0.
-#[derive(Drop)]
+#[derive(Clone, Copy)]
 struct Meaning {
     item: i32,
     count: i32,
@@ -49,7 +49,7 @@ struct Meaning {
 }
 
 // A slot but for its codes, which are read where they stand.
-#[derive(Drop)]
+#[derive(Clone, Copy)]
 struct Head {
     item: SlotItem,
     limit: i16,

@@ -10,7 +10,7 @@ use memory::{BLOCKS, BlockWords, index_of};
 use model::{BlockNo, Link};
 
 // The number of a condition, 0 for none: what an entry of the stack holds beside its block.
-#[derive(Drop)]
+#[derive(Clone, Copy)]
 pub struct Condition(pub u16);
 
 // Whether block b is one of nb blocks and marked.

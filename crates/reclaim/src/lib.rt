@@ -28,7 +28,7 @@ use reclaim_reach::{reach_roots, roots_ok};
 const IMAGE: usize = 5 + 16 * BLOCKS + 6 * COMMANDS + 6 * NODES;
 
 // The refusal or 0, and the counts of the script after the call.
-#[derive(Drop)]
+#[derive(Clone, Copy)]
 pub struct Reclaimed {
     pub refusal: u8,
     pub counts: Counts,

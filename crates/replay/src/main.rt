@@ -25,14 +25,14 @@ const MOST_ENTRIES: u64 = ENTRIES as u64;
 const MALFORMED: usize = 18446744073709551615;
 
 // A number and the place after it.
-#[derive(Drop)]
+#[derive(Clone, Copy)]
 struct Number {
     value: u64,
     at: usize,
 }
 
 // Where a run of bytes lies, and the place after it.
-#[derive(Drop)]
+#[derive(Clone, Copy)]
 struct Run {
     from: usize,
     end: usize,
@@ -40,21 +40,21 @@ struct Run {
 }
 
 // A shop and the place after it.
-#[derive(Drop)]
+#[derive(Clone, Copy)]
 struct Given {
     shop: Shop,
     at: usize,
 }
 
 // A slot and the place after it.
-#[derive(Drop)]
+#[derive(Clone, Copy)]
 struct Filled {
     slot: Slot,
     at: usize,
 }
 
 // A script that was read, with its sheet.
-#[derive(Drop)]
+#[derive(Clone, Copy)]
 struct Before {
     ok: bool,
     items: usize,
@@ -63,7 +63,7 @@ struct Before {
 }
 
 // How far a list of compiles is: the counts of the script and of its accepted compiles, and whether all answers so far are as recorded.
-#[derive(Drop)]
+#[derive(Clone, Copy)]
 struct Listed {
     counts: Counts,
     compiles: u32,
@@ -72,7 +72,7 @@ struct Listed {
 }
 
 // Whether a case is as recorded, how many compiles it has, and the place after it.
-#[derive(Drop)]
+#[derive(Clone, Copy)]
 struct Case {
     same: bool,
     compiles: u64,
@@ -80,7 +80,7 @@ struct Case {
 }
 
 // Over cases: how many, how many of them as recorded, the first that is not (0 where there is none), and all compiles.
-#[derive(Drop)]
+#[derive(Clone, Copy)]
 struct Tally {
     cases: u64,
     same: u64,

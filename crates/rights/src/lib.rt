@@ -36,7 +36,7 @@ pub const CHANGE_LIMIT: u8 = 4;
 pub const CHANGE_REQUIREMENTS: u8 = 8;
 
 // Which field of a slot an edit changes. The new content is that field of a slot that goes with it; the slot's other fields do not count.
-#[derive(Drop)]
+#[derive(Clone, Copy)]
 pub enum Field {
     Item,
     Limit,
@@ -44,7 +44,7 @@ pub enum Field {
 }
 
 // The refusal or 0, and the shop after an edit, or as a user sees it.
-#[derive(Drop)]
+#[derive(Clone, Copy)]
 pub struct Answered {
     pub refusal: u8,
     pub shop: Shop,

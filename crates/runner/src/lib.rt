@@ -22,7 +22,7 @@ use model::{BlockNo, Link, VARIABLES, Variables};
 use shop::Sheet;
 
 // Where a block leads: to a block, to Return, to a refusal.
-#[derive(Drop)]
+#[derive(Clone, Copy)]
 enum Step {
     Next(BlockNo),
     Done,
@@ -30,14 +30,14 @@ enum Step {
 }
 
 // Where a command leads: to the command after it, or out of the block.
-#[derive(Drop)]
+#[derive(Clone, Copy)]
 enum Flow {
     On,
     Out(Step),
 }
 
 // The refusal or 0, and the count of blocks entered.
-#[derive(Drop)]
+#[derive(Clone, Copy)]
 pub struct Ran {
     pub refusal: u8,
     pub entered: u32,

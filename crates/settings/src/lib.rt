@@ -25,7 +25,7 @@ use shop_codes::{HAVE_ATC, KIND, ZERO};
 
 // The refusal or 0, how many subjects the slot has, and in how many of the combinations of their answers it is listed and hidden.
 #[repr(C)]
-#[derive(Drop)]
+#[derive(Clone, Copy)]
 pub struct Settings {
     pub refusal: u8,
     pub subjects: u8,

@@ -21,7 +21,7 @@ pub const HAVE_ATC: u64 = 8589934592;
 pub const HAVE_FLAG: u64 = 17179869184;
 
 // What a requirement is about, had or missing.
-#[derive(Drop)]
+#[derive(Clone, Copy)]
 pub enum Subject {
     Item(u32),
     Atc(u32),

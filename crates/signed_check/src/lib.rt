@@ -34,7 +34,7 @@ const OWN: u8 = 2;
 const OUTSIDE: u8 = 3;
 
 // The verdict and the place of the first entry concerned.
-#[derive(Drop)]
+#[derive(Clone, Copy)]
 struct Verdict {
     verdict: u8,
     entry: u8,
@@ -42,7 +42,7 @@ struct Verdict {
 
 // What is told of a slot: the verdict, the place of the first entry concerned, the limit that will be used, how many entries were given before, how many are lost, whether it is listed sometimes (0), never (1) or always (2), and the codes of the save that shows the difference, so many of them.
 #[repr(C)]
-#[derive(Drop)]
+#[derive(Clone, Copy)]
 pub struct Finding {
     pub verdict: u8,
     pub entry: u8,
@@ -56,7 +56,7 @@ pub struct Finding {
 
 // The refusal or 0, and what is told of each slot.
 #[repr(C)]
-#[derive(Drop)]
+#[derive(Clone, Copy)]
 pub struct Checked {
     pub refusal: u8,
     pub slots: [Finding; SLOTS],

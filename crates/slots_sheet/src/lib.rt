@@ -13,14 +13,14 @@ use shop::Sheet;
 
 // In each answer: a refusal's number, or 0 with what was read and the place after it.
 
-#[derive(Drop)]
+#[derive(Clone, Copy)]
 struct Entry {
     refusal: u8,
     value: u16,
     at: usize,
 }
 
-#[derive(Drop)]
+#[derive(Clone, Copy)]
 struct Timers {
     refusal: u8,
     timer5: u16,
@@ -29,7 +29,7 @@ struct Timers {
     at: usize,
 }
 
-#[derive(Drop)]
+#[derive(Clone, Copy)]
 struct Items {
     refusal: u8,
     items: u16,
@@ -37,7 +37,7 @@ struct Items {
     at: usize,
 }
 
-#[derive(Drop)]
+#[derive(Clone, Copy)]
 struct Setup {
     refusal: u8,
     number: u32,
@@ -45,7 +45,7 @@ struct Setup {
 }
 
 // Of so many items; their atcs stand in the lent array. On a refusal all else is 0.
-#[derive(Drop)]
+#[derive(Clone, Copy)]
 pub struct Heading {
     pub refusal: u8,
     pub items: u16,

@@ -32,14 +32,14 @@ const HALF: u64 = HALF16 as u64;
 
 // In each answer: a reason, or 0 with what was read and the place after it.
 
-#[derive(Drop)]
+#[derive(Clone, Copy)]
 struct Read {
     reason: u8,
     value: u64,
     at: usize,
 }
 
-#[derive(Drop)]
+#[derive(Clone, Copy)]
 struct Requirements {
     reason: u8,
     row: Row,
@@ -47,7 +47,7 @@ struct Requirements {
     at: usize,
 }
 
-#[derive(Drop)]
+#[derive(Clone, Copy)]
 struct Line {
     reason: u8,
     slot: Slot,
@@ -55,7 +55,7 @@ struct Line {
 }
 
 // Of a text that is no shop: why, and its line, counted from 1; the shop is the empty one then.
-#[derive(Drop)]
+#[derive(Clone, Copy)]
 pub struct TextShop {
     pub reason: u8,
     pub line: u8,

@@ -1,3 +1,4 @@
+
 -- `births::birth_of` meets its contract: past the array's end there is no mark. Assumes nothing.
 use mathlib.Core.Path.{sym}
 use lib.ListN.{get_or-eq_default}
@@ -5,8 +6,13 @@ use borrow.Author.Rules.{rules}
 use Rattle.births.proofs.birth_of.Statement.{statement}
 use Rattle.births.proofs.birth_of.Tie as tie
 
-returns-2 : tie.Need-returns-2
-returns-2 c = sym (get_or-eq_default c.before.before.before.args.births.now 0 c.if1.false)
+returns-2 : tie.Need-returns
+returns-2 c = sym (get_or-eq_default c.args.births.now 0 c.if-i-marks.false)
 
-pub birth-of-spec : {M : Type 1} → statement M
-birth-of-spec = tie.close (tie.spec (λ c. search rules) (λ c. search rules) (λ c. search rules) (λ c. search rules) returns-2)
+pub birth_of_spec : {M : Type 1} → statement M
+birth_of_spec = tie.close (tie.spec
+    (λ c. search rules)
+    (λ c. search rules)
+    (λ c. search rules)
+    (λ c. search rules)
+    returns-2)

@@ -1,3 +1,4 @@
+
 -- read_groups keeps its promise; the steps are laws of specs/NumberLaws.antt.
 use Prim.Native.Nat.{◌≤◌, ◌-◌}
 use native.Mathlib.Omega.{arith}
@@ -28,42 +29,43 @@ read-groups-below t =
 abbrev read-groups-claims : ℕ → read-groups-lts.Claims
 read-groups-claims t = (wide-byte-reads.Asked, wide-byte-reads.Learnt, read-groups-below t, read-groups.Post)
 
-read-groups-returns : (t : ℕ) → read-groups-lts.Need-returns (read-groups-claims t) (read-groups-at t) read-groups.Post
-read-groups-returns t c = told_none _ c.before.before.args.at _ c.if1.true
+read-groups-returns : (t : ℕ) → read-groups-lts.Need-returns-then-f-eq0 (read-groups-claims t) (read-groups-at t) read-groups.Post
+read-groups-returns t c = told_none _ c.args.at _ c.if-f-eq0.true
 
-read-groups-returns-2 : (t : ℕ) → read-groups-lts.Need-returns-2 (read-groups-claims t) (read-groups-at t) read-groups.Post
-read-groups-returns-2 t c = told_end _ _ _ c.before.if1.false c.if2.true
+read-groups-returns-2 : (t : ℕ) → read-groups-lts.Need-returns-then-at-s (read-groups-claims t) (read-groups-at t) read-groups.Post
+read-groups-returns-2 t c = told_end _ _ _ c.if-f-eq0.false c.if-at-s.true
 
-read-groups-returns-3 : (t : ℕ) → read-groups-lts.Need-returns-3 (read-groups-claims t) (read-groups-at t) read-groups.Post
-read-groups-returns-3 t c = told_last _ _ _ c.before.before.before.before.if1.false c.before.before.before.if2.false _ c.before.wide-byte.ensures c.if3.true
+read-groups-returns-3 : (t : ℕ) → read-groups-lts.Need-returns-then-b-lt128 (read-groups-claims t) (read-groups-at t) read-groups.Post
+read-groups-returns-3 t c = told_last _ _ _ c.if-f-eq0.false c.if-at-s.false _ c.wide_byte-b.ensures c.if-b-lt128.true
 
-read-groups-returns-4 : (t : ℕ) → read-groups-lts.Need-returns-4 (read-groups-claims t) (read-groups-at t) read-groups.Post
+read-groups-returns-4 : (t : ℕ) → read-groups-lts.Need-returns-then-v-eq0 (read-groups-claims t) (read-groups-at t) read-groups.Post
 read-groups-returns-4 t c =
-    let args = c.before.before.before.before.before.before.before.before.before.before.before.args in
-    told_zero args.s.now args.at _ c.before.before.before.before.before.before.before.before.before.if1.false c.before.before.before.before.before.before.before.before.if2.false _ c.before.before.before.before.before.before.wide-byte.ensures c.before.before.before.before.before.if3.false (omega (arith, c.before.before.before.before.before.before.before.shared-slice-known2.given args.at)) _ c.before.before.before.before.read-groups.ensures _ _ c.before.before.high.given.1 c.if4.true
+    let args = c.args in
+    told_zero args.s.now args.at _ c.if-f-eq0.false c.if-at-s.false _ c.wide_byte-b.ensures c.if-b-lt128.false (omega (arith, c.shared_slice_known-2-1.given args.at)) _ c.read_groups-high.ensures _ _ c.in-Got.is c.if-v-eq0.true
 
-read-groups-mul-t15 : (t : ℕ) → read-groups-lts.Need-overflow-mul-t15 (read-groups-claims t) (read-groups-at t) read-groups.Post
+read-groups-mul-t15 : (t : ℕ) → read-groups-lts.Need-overflow_mul-result (read-groups-claims t) (read-groups-at t) read-groups.Post
 read-groups-mul-t15 t c =
-    let args = c.before.before.before.before.before.before.before.before.before.before.before.args in
-    let h : args.f ≤ 5 = c.before.before.before.before.before.before.before.before.before.before.before.requires.1 in omega (arith, told_low args.s.now (args.f - 1) _ _ _ _ c.before.before.high.given.1 (omega arith) c.before.before.before.before.read-groups.ensures)
+    let args = c.args in
+    let h : args.f ≤ 5 = c.requires.1 in omega (arith, told_low args.s.now (args.f - 1) _ _ _ _ c.in-Got.is (omega arith) c.read_groups-high.ensures)
 
-read-groups-add-t17 : (t : ℕ) → read-groups-lts.Need-overflow-add-t17 (read-groups-claims t) (read-groups-at t) read-groups.Post
+read-groups-add-t17 : (t : ℕ) → read-groups-lts.Need-overflow_add-result-in-Got (read-groups-claims t) (read-groups-at t) read-groups.Post
 read-groups-add-t17 t c =
-    let args = c.before.before.before.before.before.before.before.before.before.before.before.args in
-    let h : args.f ≤ 5 = c.before.before.before.before.before.before.before.before.before.before.before.requires.1 in omega (arith, told_low args.s.now (args.f - 1) _ _ _ _ c.before.before.high.given.1 (omega arith) c.before.before.before.before.read-groups.ensures, c.before.before.before.before.before.before.wide-byte.ensures, c.before.before.before.before.before.before.before.shared-slice-known2.given args.at)
+    let args = c.args in
+    let h : args.f ≤ 5 = c.requires.1 in omega (arith, told_low args.s.now (args.f - 1) _ _ _ _ c.in-Got.is (omega arith) c.read_groups-high.ensures, c.wide_byte-b.ensures, c.shared_slice_known-2-1.given args.at)
 
-read-groups-returns-5 : (t : ℕ) → read-groups-lts.Need-returns-5 (read-groups-claims t) (read-groups-at t) read-groups.Post
+read-groups-returns-5 : (t : ℕ) → read-groups-lts.Need-returns-else-v-eq0 (read-groups-claims t) (read-groups-at t) read-groups.Post
 read-groups-returns-5 t c =
-    let args = c.before.before.before.before.before.before.before.before.before.before.before.args in
-    told_more args.s.now args.at _ c.before.before.before.before.before.before.before.before.before.if1.false c.before.before.before.before.before.before.before.before.if2.false _ c.before.before.before.before.before.before.wide-byte.ensures c.before.before.before.before.before.if3.false (omega (arith, c.before.before.before.before.before.before.before.shared-slice-known2.given args.at)) _ c.before.before.before.before.read-groups.ensures _ _ c.before.before.high.given.1 c.if4.false
+    let args = c.args in
+    told_more args.s.now args.at _ c.if-f-eq0.false c.if-at-s.false _ c.wide_byte-b.ensures c.if-b-lt128.false (omega (arith, c.shared_slice_known-2-1.given args.at)) _ c.read_groups-high.ensures _ _ c.in-Got.is c.if-v-eq0.false
 
-read-groups-returns-6 : (t : ℕ) → read-groups-lts.Need-returns-6 (read-groups-claims t) (read-groups-at t) read-groups.Post
+read-groups-returns-6 : (t : ℕ) → read-groups-lts.Need-returns-in-Bad (read-groups-claims t) (read-groups-at t) read-groups.Post
 read-groups-returns-6 t c =
-    let args = c.before.before.before.before.before.before.before.before.before.args in
-    told_bad args.s.now args.at _ c.before.before.before.before.before.before.before.if1.false c.before.before.before.before.before.before.if2.false _ c.before.before.before.before.wide-byte.ensures c.before.before.before.if3.false (omega (arith, c.before.before.before.before.before.shared-slice-known2.given args.at)) _ c.before.before.read-groups.ensures c.enum_told.given.1
+    let args = c.args in
+    told_bad args.s.now args.at _ c.if-f-eq0.false c.if-at-s.false _ c.wide_byte-b.ensures c.if-b-lt128.false (omega (arith, c.shared_slice_known-2-1.given args.at)) _ c.read_groups-high.ensures c.in-Bad.is
 
-pub +read-groups-spec : {M : Type 1} → statement M
-+read-groups-spec = close μ-read-groups λ t. read-groups-lts.spec (read-groups-claims t)
+pub +read_groups_spec : {M : Type 1} → statement M
++read_groups_spec = close μ-read-groups λ t. read-groups-lts.spec
+    (read-groups-claims t)
     (read-groups-at t)
     read-groups.Post
     (read-groups-returns t)

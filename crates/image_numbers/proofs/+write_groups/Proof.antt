@@ -1,3 +1,4 @@
+
 -- `image_numbers::write_groups` meets its contract: the number of groups that may still come falls. Assumes nothing.
 use mathlib.Core.Path.{◌≡◌, ◌∙◌}
 use lib.ListN.{length-set}
@@ -30,33 +31,49 @@ write-groups-below t =
 abbrev write-groups-claims : ℕ → write-groups-lts.Claims
 write-groups-claims t = (low-byte-reads.Asked, low-byte-reads.Learnt, write-groups-below t, write-groups.Post)
 
-write-groups-slice-write-out : (t : ℕ) → write-groups-lts.Need-slice-write-out (write-groups-claims t) (write-groups-at t) write-groups.Post
-write-groups-slice-write-out t c = room_last c.before.before.before.args.f c.before.before.before.args.v c.before.before.before.requires.1.1 c.before.before.before.requires.1.2 c.before.if1.true
+write-groups-slice-write-out : (t : ℕ) → write-groups-lts.Need-bounds-out-at (write-groups-claims t) (write-groups-at t) write-groups.Post
+write-groups-slice-write-out t c = room_last c.args.f c.args.v c.requires.1.1 c.requires.1.2 c.if-v-lt128.true
 
-write-groups-returns : (t : ℕ) → write-groups-lts.Need-returns (write-groups-claims t) (write-groups-at t) write-groups.Post
-write-groups-returns t c = stored_last c.before.before.before.args.f c.before.before.before.args.v c.before.before.before.requires.1.1 _ _ _ c.before.if1.true c.low_byte.ensures
+write-groups-returns : (t : ℕ) → write-groups-lts.Need-returns-then-v-lt128 (write-groups-claims t) (write-groups-at t) write-groups.Post
+write-groups-returns t c = stored_last c.args.f c.args.v c.requires.1.1 _ _ _ c.if-v-lt128.true c.low_byte.ensures
 
-write-groups-slice-write-out-2 : (t : ℕ) → write-groups-lts.Need-slice-write-out-2 (write-groups-claims t) (write-groups-at t) write-groups.Post
-write-groups-slice-write-out-2 t c = room_more c.before.before.before.args.f c.before.before.before.args.v c.before.before.before.requires.1.1 c.before.before.before.requires.1.2 c.before.if1.false
+write-groups-slice-write-out-2 : (t : ℕ) → write-groups-lts.Need-bounds-out-at-2 (write-groups-claims t) (write-groups-at t) write-groups.Post
+write-groups-slice-write-out-2 t c = room_more c.args.f c.args.v c.requires.1.1 c.requires.1.2 c.if-v-lt128.false
 
-write-groups-write-groups-requires : (t : ℕ) → write-groups-lts.Need-write-groups-requires (write-groups-claims t) (write-groups-at t) write-groups.Post
+write-groups-write-groups-requires : (t : ℕ) → write-groups-lts.Need-write_groups-requires (write-groups-claims t) (write-groups-at t) write-groups.Post
 write-groups-write-groups-requires t c κs = (
-  let p : c.before.before.before.before.args.f ≡ t = c.before.before.before.before.requires.0 in omega (arith, c.before.before.before.before.requires.1.1),
+  let p : c.args.f ≡ t = c.requires.0 in omega (arith, c.requires.1.1),
   (
-    high_low c.before.before.before.before.args.f c.before.before.before.before.args.v c.before.before.before.before.requires.1.1 c.before.before.before.before.requires.1.0,
+    high_low c.args.f c.args.v c.requires.1.1 c.requires.1.0,
     high_some
-        c.before.before.before.before.args.f c.before.before.before.before.args.v c.before.before.before.before.requires.1.1 c.before.before.if1.false c.before.before.before.before.requires.1.0,
+        c.args.f c.args.v c.requires.1.1 c.if-v-lt128.false c.requires.1.0,
     room_high
-        c.before.before.before.before.args.f c.before.before.before.before.args.v c.before.before.before.before.requires.1.1 c.before.before.before.before.requires.1.2 c.before.low-byte2.result
-        c.before.before.if1.false,
+        c.args.f c.args.v c.requires.1.1 c.requires.1.2 c.low_byte-2.result
+        c.if-v-lt128.false,
   ),
 )
 
-write-groups-same-length-2 : (t : ℕ) → write-groups-lts.Need-same-length-2 (write-groups-claims t) (write-groups-at t) write-groups.Post
-write-groups-same-length-2 t c = stored_length c.before.before.write-groups.ensures ∙ simp length-set
+write-groups-same-length-2 : (t : ℕ) → write-groups-lts.Need-shape_of-out (write-groups-claims t) (write-groups-at t) write-groups.Post
+write-groups-same-length-2 t c = stored_length c.write_groups.ensures ∙ simp length-set
 
-write-groups-returns-2 : (t : ℕ) → write-groups-lts.Need-returns-2 (write-groups-claims t) (write-groups-at t) write-groups.Post
-write-groups-returns-2 t c = stored_more c.before.before.before.before.before.before.before.args.f c.before.before.before.before.before.before.before.args.v c.before.before.before.before.before.before.before.requires.1.1 _ _ _ _ _ c.before.before.before.before.before.if1.false c.before.before.before.before.low-byte2.ensures c.before.before.write-groups.ensures
+write-groups-returns-2 : (t : ℕ) → write-groups-lts.Need-returns (write-groups-claims t) (write-groups-at t) write-groups.Post
+write-groups-returns-2 t c = stored_more c.args.f c.args.v c.requires.1.1 _ _ _ _ _ c.if-v-lt128.false c.low_byte-2.ensures c.write_groups.ensures
 
-pub +write-groups-spec : {M : Type 1} → statement M
-+write-groups-spec = close μ-write-groups λ t. write-groups-lts.spec (write-groups-claims t) (write-groups-at t) write-groups.Post (λ c κs. search rules) (write-groups-slice-write-out t) (λ c. search rules) (λ c. search rules) (write-groups-returns t) (λ c. search rules) (λ c κs. search rules) (write-groups-slice-write-out-2 t) (λ c. search rules) (λ c. search rules) (write-groups-write-groups-requires t) (write-groups-same-length-2 t) (write-groups-returns-2 t)
+pub +write_groups_spec : {M : Type 1} → statement M
++write_groups_spec = close μ-write-groups λ t. write-groups-lts.spec
+    (write-groups-claims t)
+    (write-groups-at t)
+    write-groups.Post
+    (λ c κs. search rules)
+    (write-groups-slice-write-out t)
+    (λ c. search rules)
+    (λ c. search rules)
+    (write-groups-returns t)
+    (λ c. search rules)
+    (λ c κs. search rules)
+    (write-groups-slice-write-out-2 t)
+    (λ c. search rules)
+    (λ c. search rules)
+    (write-groups-write-groups-requires t)
+    (write-groups-same-length-2 t)
+    (write-groups-returns-2 t)

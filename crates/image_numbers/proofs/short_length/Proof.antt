@@ -1,3 +1,4 @@
+
 -- `image_numbers::short_length` meets its contract. Assumes nothing.
 use native.Mathlib.Omega.{arith}
 use Rattle.image_numbers.specs.Lengths.{short_word}
@@ -6,7 +7,9 @@ use Rattle.image_numbers.proofs.short_length.Statement.{statement}
 use Rattle.image_numbers.proofs.short_length.Tie as tie
 
 returns : tie.Need-returns
-returns c = short_word _ _ (omega (arith, c.before.ranges.x)) c.word-length.ensures
+returns c = short_word _ _ (omega (arith, c.ranges.x)) c.word_length.ensures
 
-pub short-length-spec : {M : Type 1} → statement M
-short-length-spec = tie.close (tie.spec (λ c κs. search rules) returns)
+pub short_length_spec : {M : Type 1} → statement M
+short_length_spec = tie.close (tie.spec
+    (λ c κs. search rules)
+    returns)

@@ -1,3 +1,4 @@
+
 -- `image_numbers::write_value` meets its contract. Assumes nothing.
 use mathlib.Core.Path.{◌≡◌, ap, sym}
 use mir.Facts.{to_z-of_z}
@@ -9,11 +10,15 @@ use borrow.Author.Rules.{rules}
 use Rattle.image_numbers.proofs.write_value.Statement.{statement}
 use Rattle.image_numbers.proofs.write_value.Tie as tie
 
-write-word-requires : tie.Need-write-word-requires
-write-word-requires c κs = let e : c.folded.result ≡ zig c.before.before.before.args.z = rw (to_z-of_z c.before.before.before.ranges.z) at c.folded.ensures in (omega (arith, zig_low c.before.before.before.args.z c.before.before.before.ranges.z), rw e c.before.before.before.requires)
+write-word-requires : tie.Need-write_word-requires
+write-word-requires c κs = let e : c.folded.result ≡ zig c.args.z = rw (to_z-of_z c.ranges.z) at c.folded.ensures in (omega (arith, zig_low c.args.z c.ranges.z), rw e c.requires)
 
 returns : tie.Need-returns
-returns c = let e : c.before.before.before.folded.result ≡ zig c.before.before.before.before.before.before.args.z = rw (to_z-of_z c.before.before.before.before.before.before.ranges.z) at c.before.before.before.folded.ensures in stored_as (ap word (sym e)) c.before.before.write_word.ensures
+returns c = let e : c.folded.result ≡ zig c.args.z = rw (to_z-of_z c.ranges.z) at c.folded.ensures in stored_as (ap word (sym e)) c.write_word.ensures
 
-pub write-value-spec : {M : Type 1} → statement M
-write-value-spec = tie.close (tie.spec (λ c κs. search rules) write-word-requires (λ c. search rules) returns)
+pub write_value_spec : {M : Type 1} → statement M
+write_value_spec = tie.close (tie.spec
+    (λ c κs. search rules)
+    write-word-requires
+    (λ c. search rules)
+    returns)

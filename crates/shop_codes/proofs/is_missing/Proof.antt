@@ -1,19 +1,25 @@
+
 use mathlib.Core.Path.{sym}
 use Rattle.shop_codes.specs.Subjects.{missing_kind, not_missing}
 use Rattle.shop_codes.proofs.is_missing.Statement.{statement}
 use Rattle.shop_codes.proofs.is_missing.Tie as tie
 
-returns : tie.Need-returns
-returns c = sym (missing_kind c.before.args.code 1 c.match.keys1)
+returns : tie.Need-returns-in-1
+returns c = sym (missing_kind c.args.code 1 c.in-1.is)
 
-returns-2 : tie.Need-returns-2
-returns-2 c = sym (missing_kind c.before.args.code 3 c.match.keys2)
+returns-2 : tie.Need-returns-in-3
+returns-2 c = sym (missing_kind c.args.code 3 c.in-3.is)
 
-returns-3 : tie.Need-returns-3
-returns-3 c = sym (missing_kind c.before.args.code 5 c.match.keys3)
+returns-3 : tie.Need-returns-in-5
+returns-3 c = sym (missing_kind c.args.code 5 c.in-5.is)
 
-returns-4 : tie.Need-returns-4
-returns-4 c = not_missing c.before.args.code c.match.rest.0.0.1 c.match.rest.0.1 c.match.rest.1
+returns-4 : tie.Need-returns-in_default
+returns-4 c = not_missing c.args.code c.in_default.in_default-own.rest.0.0.1 c.in_default.in_default-own.rest.0.1 c.in_default.in_default-own.rest.1
 
-pub is-missing-spec : {M : Type 1} → statement M
-is-missing-spec = tie.close (tie.spec returns returns-2 returns-3 returns-4)
+pub is_missing_spec : {M : Type 1} → statement M
+is_missing_spec = tie.close
+    (tie.spec
+    returns
+    returns-2
+    returns-3
+    returns-4)
