@@ -52,7 +52,7 @@ fn start(
     bw: &mut BlockWords,
     births: &mut Births,
 ) {
-    let n = io::read_full(libc::STDIN_FILENO, input);
+    let n = io::read_full(STDIN, input);
     cases(&input[..n], image, ws, val, cw, bw, births);
 }
 

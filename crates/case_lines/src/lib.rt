@@ -257,9 +257,9 @@ pub fn total(tally: Tally) {
 }
 
 fn decimal(x: u32) {
-    io::print_decimal(libc::STDOUT_FILENO, x as u64);
+    io::print_decimal(STDOUT, x as u64);
 }
 
 fn put(s: &[u8]) {
-    io::write_all(libc::STDOUT_FILENO, s);
+    io::write_all(STDOUT, s);
 }

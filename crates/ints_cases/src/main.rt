@@ -13,7 +13,7 @@ fn main() {
 
 // Large arrays are not read where they are made: the proof would go through their elements.
 fn start(input: &mut [u8]) {
-    let n = io::read_full(libc::STDIN_FILENO, input);
+    let n = io::read_full(STDIN, input);
     cases(&input[..n]);
 }
 

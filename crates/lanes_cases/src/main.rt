@@ -30,7 +30,7 @@ fn start(
     cw: &mut CommandWords,
     bw: &mut BlockWords,
 ) {
-    let n = io::read_full(libc::STDIN_FILENO, input);
+    let n = io::read_full(STDIN, input);
     cases(&input[..n], ws, val, cw, bw);
 }
 

@@ -10,7 +10,6 @@ use compile::compile;
 use image_numbers::{Num, read_number};
 use image_read::{Image, read_script};
 use image_write::write_script;
-use libc::{STDIN_FILENO, STDOUT_FILENO};
 use memory::{
     BLOCK_WORDS, BLOCKS, Births, BlockWords, COMMAND_WORDS, CommandWords, Counts, NODE_WORDS,
     NODES, NodeWords, Values,
@@ -96,7 +95,7 @@ fn main() {
 
 // An input that fills the room may be longer than it.
 fn read_input(room: &mut [u8]) {
-    let n = io::read_full(STDIN_FILENO, room);
+    let n = io::read_full(STDIN, room);
     if room.len() <= n {
         malformed();
         return;
@@ -609,7 +608,7 @@ fn agreed(t: Tally) {
     counted(t.same, b" as recorded");
     if t.first != 0 {
         put(b", the first that differs is ");
-        io::print_decimal(STDOUT_FILENO, t.first);
+        io::print_decimal(STDOUT, t.first);
     }
     put(b"\n");
 }
@@ -619,10 +618,10 @@ fn malformed() {
 }
 
 fn counted(n: u64, what: &[u8]) {
-    io::print_decimal(STDOUT_FILENO, n);
+    io::print_decimal(STDOUT, n);
     put(what);
 }
 
 fn put(s: &[u8]) {
-    io::write_all(STDOUT_FILENO, s);
+    io::write_all(STDOUT, s);
 }

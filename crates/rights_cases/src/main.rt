@@ -37,7 +37,7 @@ fn start(
     codes: &mut Codes,
     lens: &mut [u8; SLOTS],
 ) {
-    let n = io::read_full(libc::STDIN_FILENO, input);
+    let n = io::read_full(STDIN, input);
     cases(&input[..n], rights, items, limits, codes, lens);
 }
 

@@ -1,13 +1,12 @@
 // The program slots: standard input to its twenty lines, or to a refusal. One byte past the limit is read, so that a longer input shows.
 #![tactic(auto)]
 
-use libc::{STDIN_FILENO, STDOUT_FILENO};
 use slots_text::TEXT;
 
 fn main() {
     let mut input = [0u8; 65537];
     let mut out = [0u8; TEXT];
-    let n = io::read_full(STDIN_FILENO, &mut input);
+    let n = io::read_full(STDIN, &mut input);
     let m = slots_print::slots(&input[..n], &mut out);
-    io::write_all(STDOUT_FILENO, &out[..m]);
+    io::write_all(STDOUT, &out[..m]);
 }

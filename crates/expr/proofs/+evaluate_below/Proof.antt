@@ -1,6 +1,6 @@
+
 -- `evaluate_below` meets its contract: by the kind found at the node. The measure is b, the node whose operand is read. Assumes nothing.
 use mathlib.Core.Path.{◌≡◌, ap, ◌∙◌}
-use mathlib.Core.Logic.{inl, inr}
 use native.Mathlib.Omega.{arith}
 use mir.Syntax.{w32}
 use mir.Facts.{to_z-of_z}
@@ -59,28 +59,28 @@ save t s = reads s.args.items.now s.args.atcs.now s.args.flags.now s.args.times.
 abbrev nodes : (t : ℕ) → Start t → ℕ → Nodes
 nodes t s n = nodes_in s.args.ws.now s.args.val.now n
 
-evaluate-below-returns : (t : ℕ) → evaluate-below-lts.Need-returns (evaluate-below-claims t) (evaluate-below-at t) evaluate-below.Post
+evaluate-below-returns : (t : ℕ) → evaluate-below-lts.Need-returns-then-i-b (evaluate-below-claims t) (evaluate-below-at t) evaluate-below.Post
 evaluate-below-returns t c =
     let s = c.before.before.before.before in
-    (λ n. ap value_of c.packed.ensures.is ∙ out_done (save t s) s.args.vars.now (nodes t s n) s.args.b s.args.i c.before.if1.true, c.packed.ensures.low)
+    (λ n. ap value_of c.packed.ensures.is ∙ out_done (save t s) s.args.vars.now (nodes t s n) s.args.b s.args.i c.if-i-b.true, c.packed.ensures.low)
 
 evaluate-below-evaluate-below-requires :
-    (t : ℕ) → evaluate-below-lts.Need-evaluate-below-requires (evaluate-below-claims t) (evaluate-below-at t) evaluate-below.Post
+    (t : ℕ) → evaluate-below-lts.Need-evaluate_below-x-requires (evaluate-below-claims t) (evaluate-below-at t) evaluate-below.Post
 evaluate-below-evaluate-below-requires t c κs =
-    let s = c.before.before.before.before.before.before.before.before.before.before.before.before in
-    let p : s.args.b ≡ t = s.requires.0 in omega (arith, s.requires.1, c.before.before.before.before.before.before.before.before.before.if1.false)
+    let s = c.before.before.before.before.before.before.before.before.before.before.before in
+    let p : s.args.b ≡ t = s.requires.0 in omega (arith, s.requires.1, c.if-i-b.false)
 
 evaluate-below-evaluate-below-requires-2 :
-    (t : ℕ) → evaluate-below-lts.Need-evaluate-below-requires-2 (evaluate-below-claims t) (evaluate-below-at t) evaluate-below.Post
+    (t : ℕ) → evaluate-below-lts.Need-evaluate_below-y-requires (evaluate-below-claims t) (evaluate-below-at t) evaluate-below.Post
 evaluate-below-evaluate-below-requires-2 t c κs =
-    let s = c.before.before.before.before.before.before.before.before.before.before.before.before.before.before in
-    let p : s.args.b ≡ t = s.requires.0 in omega (arith, s.requires.1, c.before.before.before.before.before.before.before.before.before.before.before.if1.false)
+    let s = c.before.before.before.before.before.before.before.before.before.before.before.before.before in
+    let p : s.args.b ≡ t = s.requires.0 in omega (arith, s.requires.1, c.if-i-b.false)
 
 evaluate-below-evaluate-below-requires-3 :
-    (t : ℕ) → evaluate-below-lts.Need-evaluate-below-requires-3 (evaluate-below-claims t) (evaluate-below-at t) evaluate-below.Post
+    (t : ℕ) → evaluate-below-lts.Need-evaluate_below-x-requires-then-x-ge-REFUSED-2 (evaluate-below-claims t) (evaluate-below-at t) evaluate-below.Post
 evaluate-below-evaluate-below-requires-3 t c κs =
-    let s = c.before.before.before.before.before.before.before.before.before.before.before.before in
-    let p : s.args.b ≡ t = s.requires.0 in omega (arith, s.requires.1, c.before.before.before.before.before.before.before.before.before.if1.false)
+    let s = c.before.before.before.before.before.before.before.before.before.before.before in
+    let p : s.args.b ≡ t = s.requires.0 in omega (arith, s.requires.1, c.if-i-b.false)
 
 -- the operands: each an Imm, or by a call
 abbrev operand : (t : ℕ) → Start t → (Nodes → ℕ → ℕ) → ℕ → Expr
@@ -89,66 +89,67 @@ operand t s at n = tree_below (nodes t s n) s.args.i (at (nodes t s n) s.args.i)
 abbrev Worth : (t : ℕ) → Start t → ℕ → (Nodes → ℕ → ℕ) → Type 0
 Worth t s x at = (n : ℕ) → (value_of (unpacked_of x) ≡ eval (save t s) s.args.vars.now (operand t s at n)) × (x < 4294967552)
 
-left-worth : (t : ℕ) (c : evaluate-below-lts.Joined2 (evaluate-below-claims t) (evaluate-below-at t) evaluate-below.Post) → Worth t c.before.before.before.before.before.before.before.before.before.before.before.before c.if2.x left_at
+left-worth : (t : ℕ) (c : evaluate-below-lts.Joined-x-ge-REFUSED (evaluate-below-claims t) (evaluate-below-at t) evaluate-below.Post) → Worth t c.before.before.before.before.before.before.before.before.before.before.before c.if-x-ge-REFUSED.x left_at
 left-worth t c n =
-    let s = c.before.before.before.before.before.before.before.before.before.before.before.before in
-    elim c.if2.branch [
-      | inl w ↦ called_worth (save t s) s.args.vars.now (operand t s left_at n) w.2 (w.1.ensures.0 n, w.1.ensures.1)
-      | inr w ↦ number_worth (save t s) s.args.vars.now (operand t s left_at n) w.1 w.0.left (c.before.packed-number.ensures n)
+    let s = c.before.before.before.before.before.before.before.before.before.before.before in
+    elim c.if-x-ge-REFUSED.branch [
+      | evaluate-below-lts.then-x-ge-REFUSED w ↦ called_worth (save t s) s.args.vars.now (operand t s left_at n) w.x-is (w.evaluate_below-x.ensures.0 n, w.evaluate_below-x.ensures.1)
+      | evaluate-below-lts.else-x-ge-REFUSED w ↦ number_worth (save t s) s.args.vars.now (operand t s left_at n) w.x-is w.if-x-ge-REFUSED.false (c.packed_number-x.ensures n)
     ]
 
-right-worth : (t : ℕ) (c : evaluate-below-lts.Joined3 (evaluate-below-claims t) (evaluate-below-at t) evaluate-below.Post) → Worth t c.before.before.before.before.before.before.before.before.before.before.before.before.before.before c.if3.y right_at
+right-worth : (t : ℕ) (c : evaluate-below-lts.Joined-y-ge-REFUSED (evaluate-below-claims t) (evaluate-below-at t) evaluate-below.Post) → Worth t c.before.before.before.before.before.before.before.before.before.before.before.before.before c.if-y-ge-REFUSED.y right_at
 right-worth t c n =
-    let s = c.before.before.before.before.before.before.before.before.before.before.before.before.before.before in
-    elim c.if3.branch [
-      | inl w ↦ called_worth (save t s) s.args.vars.now (operand t s right_at n) w.2 (w.1.ensures.0 n, w.1.ensures.1)
-      | inr w ↦ number_worth (save t s) s.args.vars.now (operand t s right_at n) w.1 w.0.left (c.before.packed-number2.ensures n)
+    let s = c.before.before.before.before.before.before.before.before.before.before.before.before.before in
+    elim c.if-y-ge-REFUSED.branch [
+      | evaluate-below-lts.then-y-ge-REFUSED w ↦ called_worth (save t s) s.args.vars.now (operand t s right_at n) w.y-is (w.evaluate_below-y.ensures.0 n, w.evaluate_below-y.ensures.1)
+      | evaluate-below-lts.else-y-ge-REFUSED w ↦ number_worth (save t s) s.args.vars.now (operand t s right_at n) w.y-is w.if-y-ge-REFUSED.false (c.packed_number-y.ensures n)
     ]
 
-only-worth : (t : ℕ) (c : evaluate-below-lts.Joined4 (evaluate-below-claims t) (evaluate-below-at t) evaluate-below.Post) → Worth t c.before.before.before.before.before.before.before.before.before.before.before.before c.if4.x left_at
+only-worth : (t : ℕ) (c : evaluate-below-lts.Joined-x-ge-REFUSED-2 (evaluate-below-claims t) (evaluate-below-at t) evaluate-below.Post) → Worth t c.before.before.before.before.before.before.before.before.before.before.before c.if-x-ge-REFUSED-2.x left_at
 only-worth t c n =
-    let s = c.before.before.before.before.before.before.before.before.before.before.before.before in
-    elim c.if4.branch [
-      | inl w ↦ called_worth (save t s) s.args.vars.now (operand t s left_at n) w.2 (w.1.ensures.0 n, w.1.ensures.1)
-      | inr w ↦ number_worth (save t s) s.args.vars.now (operand t s left_at n) w.1 w.0.left (c.before.packed-number3.ensures n)
+    let s = c.before.before.before.before.before.before.before.before.before.before.before in
+    elim c.if-x-ge-REFUSED-2.branch [
+      | evaluate-below-lts.then-x-ge-REFUSED-2 w ↦ called_worth (save t s) s.args.vars.now (operand t s left_at n) w.x-is (w.evaluate_below-x-then-x-ge-REFUSED-2.ensures.0 n, w.evaluate_below-x-then-x-ge-REFUSED-2.ensures.1)
+      | evaluate-below-lts.else-x-ge-REFUSED-2 w ↦ number_worth (save t s) s.args.vars.now (operand t s left_at n) w.x-is w.if-x-ge-REFUSED-2.false (c.packed_number-x-in-One.ensures n)
     ]
 
 evaluate-below-unpacked-requires : (t : ℕ) → evaluate-below-lts.Need-unpacked-requires (evaluate-below-claims t) (evaluate-below-at t) evaluate-below.Post
 evaluate-below-unpacked-requires t c κs = omega (arith, (left-worth t c.before.before 0).1, (right-worth t c 0).1)
 
-evaluate-below-unpacked-requires-2 : (t : ℕ) → evaluate-below-lts.Need-unpacked-requires-2 (evaluate-below-claims t) (evaluate-below-at t) evaluate-below.Post
+evaluate-below-unpacked-requires-2 : (t : ℕ) → evaluate-below-lts.Need-unpacked-requires-in-Two (evaluate-below-claims t) (evaluate-below-at t) evaluate-below.Post
 evaluate-below-unpacked-requires-2 t c κs = omega (arith, (left-worth t c.before.before.before 0).1, (right-worth t c.before 0).1)
 
-evaluate-below-unpacked-requires-3 : (t : ℕ) → evaluate-below-lts.Need-unpacked-requires-3 (evaluate-below-claims t) (evaluate-below-at t) evaluate-below.Post
+evaluate-below-unpacked-requires-3 : (t : ℕ) → evaluate-below-lts.Need-unpacked-requires-in-One (evaluate-below-claims t) (evaluate-below-at t) evaluate-below.Post
 evaluate-below-unpacked-requires-3 t c κs = (only-worth t c 0).1
 
-evaluate-below-returns-2 : (t : ℕ) → evaluate-below-lts.Need-returns-2 (evaluate-below-claims t) (evaluate-below-at t) evaluate-below.Post
+evaluate-below-returns-2 : (t : ℕ) → evaluate-below-lts.Need-returns-after-y-ge-REFUSED (evaluate-below-claims t) (evaluate-below-at t) evaluate-below.Post
 evaluate-below-returns-2 t c =
-    let s = c.before.before.before.before.before.before.before.before.before.before.before.before.before.before.before.before.before.before in
-    (λ n. ap value_of c.packed2.ensures.is ∙ two_done (save t s) s.args.vars.now (nodes t s n) s.args.b s.args.i c.before.before.before.before.before.before.before.before.before.before.before.before.before.before.before.if1.false _ c.before.before.before.before.before.before.before.before.before.before.before.before.before.kind-of.ensures _ _ _ _ c.before.before.before.before.before.before.before.before.before.k.given.1 c.before.join-two.ensures (ap value_of c.before.before.before.unpacked.ensures ∙ (left-worth t c.before.before.before.before.before.before n).0) (ap value_of c.before.before.unpacked2.ensures ∙ (right-worth t c.before.before.before.before n).0), c.packed2.ensures.low)
+    let s = c.before.before.before.before.before.before.before.before.before.before.before.before.before.before.before.before.before in
+    (λ n. ap value_of c.packed-in-Two.ensures.is ∙ two_done (save t s) s.args.vars.now (nodes t s n) s.args.b s.args.i c.if-i-b.false _ c.kind_of-k.ensures _ _ _ _ c.in-Two.is c.join_two.ensures (ap value_of c.unpacked.ensures ∙ (left-worth t c.before.before.before.before.before.before n).0) (ap value_of c.unpacked-in-Two.ensures ∙ (right-worth t c.before.before.before.before n).0), c.packed-in-Two.ensures.low)
 
-evaluate-below-returns-3 : (t : ℕ) → evaluate-below-lts.Need-returns-3 (evaluate-below-claims t) (evaluate-below-at t) evaluate-below.Post
+evaluate-below-returns-3 : (t : ℕ) → evaluate-below-lts.Need-returns-after-x-ge-REFUSED-2 (evaluate-below-claims t) (evaluate-below-at t) evaluate-below.Post
 evaluate-below-returns-3 t c =
-    let s = c.before.before.before.before.before.before.before.before.before.before.before.before.before.before.before in
-    (λ n. ap value_of c.packed3.ensures.is ∙ one_done (save t s) s.args.vars.now (nodes t s n) s.args.b s.args.i c.before.before.before.before.before.before.before.before.before.before.before.before.if1.false _ c.before.before.before.before.before.before.before.before.before.before.kind-of.ensures _ _ _ _ c.before.before.before.before.before.before.k2.given.1 c.before.join_one.ensures c.before.before.unpacked3.ensures (only-worth t c.before.before.before n).0, c.packed3.ensures.low)
+    let s = c.before.before.before.before.before.before.before.before.before.before.before.before.before.before in
+    (λ n. ap value_of c.packed-in-One.ensures.is ∙ one_done (save t s) s.args.vars.now (nodes t s n) s.args.b s.args.i c.if-i-b.false _ c.kind_of-k.ensures _ _ _ _ c.in-One.is c.join_one.ensures c.unpacked-in-One.ensures (only-worth t c.before.before.before n).0, c.packed-in-One.ensures.low)
 
-evaluate-below-returns-4 : (t : ℕ) → evaluate-below-lts.Need-returns-4 (evaluate-below-claims t) (evaluate-below-at t) evaluate-below.Post
+evaluate-below-returns-4 : (t : ℕ) → evaluate-below-lts.Need-returns-in-Imm16 (evaluate-below-claims t) (evaluate-below-at t) evaluate-below.Post
 evaluate-below-returns-4 t c =
     let s = c.before.before.before.before.before.before.before.before.before.before.before in
-    (λ n. ap value_of c.packed4.ensures.is ∙ imm16_done (save t s) s.args.vars.now (nodes t s n) s.args.b s.args.i c.before.before.before.before.before.before.before.before.if1.false _ c.before.before.before.before.before.before.kind-of.ensures _ c.before.before.enum_told.given.1 (to_z-of_z {w = w32} (record { sfits = c.before.t42.given })), c.packed4.ensures.low)
+    (λ n. ap value_of c.packed-in-Imm16.ensures.is ∙ imm16_done (save t s) s.args.vars.now (nodes t s n) s.args.b s.args.i c.if-i-b.false _ c.kind_of-k.ensures _ c.in-Imm16.is (to_z-of_z {w = w32} (record { sfits = c.packed-arg-1.given })), c.packed-in-Imm16.ensures.low)
 
-evaluate-below-returns-5 : (t : ℕ) → evaluate-below-lts.Need-returns-5 (evaluate-below-claims t) (evaluate-below-at t) evaluate-below.Post
+evaluate-below-returns-5 : (t : ℕ) → evaluate-below-lts.Need-returns-in-Imm32 (evaluate-below-claims t) (evaluate-below-at t) evaluate-below.Post
 evaluate-below-returns-5 t c =
     let s = c.before.before.before.before.before.before.before.before.before.before.before in
-    (λ n. ap value_of c.packed5.ensures.is ∙ imm32_done (save t s) s.args.vars.now (nodes t s n) s.args.b s.args.i c.before.before.before.before.before.before.before.before.if1.false _ c.before.before.before.before.before.before.kind-of.ensures _ c.before.before.enum-told2.given.1 (to_z-of_z {w = w32} (record { sfits = c.before.t47.given })), c.packed5.ensures.low)
+    (λ n. ap value_of c.packed-in-Imm32.ensures.is ∙ imm32_done (save t s) s.args.vars.now (nodes t s n) s.args.b s.args.i c.if-i-b.false _ c.kind_of-k.ensures _ c.in-Imm32.is (to_z-of_z {w = w32} (record { sfits = c.packed-arg-in-Imm32-1.given })), c.packed-in-Imm32.ensures.low)
 
-evaluate-below-returns-6 : (t : ℕ) → evaluate-below-lts.Need-returns-6 (evaluate-below-claims t) (evaluate-below-at t) evaluate-below.Post
+evaluate-below-returns-6 : (t : ℕ) → evaluate-below-lts.Need-returns-in-Other (evaluate-below-claims t) (evaluate-below-at t) evaluate-below.Post
 evaluate-below-returns-6 t c =
     let s = c.before.before.before.before.before.before.before.before.before.before in
-    (λ n. ap value_of c.packed6.ensures.is ∙ other_done (save t s) s.args.vars.now (nodes t s n) s.args.b s.args.i c.before.before.before.before.before.before.before.if1.false _ c.before.before.before.before.before.kind-of.ensures c.before.enum-told3.given.1, c.packed6.ensures.low)
+    (λ n. ap value_of c.packed-in-Other.ensures.is ∙ other_done (save t s) s.args.vars.now (nodes t s n) s.args.b s.args.i c.if-i-b.false _ c.kind_of-k.ensures c.in-Other.is, c.packed-in-Other.ensures.low)
 
-pub +evaluate-below-spec : {M : Type 1} → statement M
-+evaluate-below-spec = close μ-evaluate-below λ t. evaluate-below-lts.spec (evaluate-below-claims t)
+pub +evaluate_below_spec : {M : Type 1} → statement M
++evaluate_below_spec = close μ-evaluate-below λ t. evaluate-below-lts.spec
+    (evaluate-below-claims t)
     (evaluate-below-at t)
     evaluate-below.Post
     (λ c κs. search rules)

@@ -1,3 +1,4 @@
+
 -- `packed` meets its contract: by what the value is. Assumes nothing.
 use native.Mathlib.Omega.{arith}
 use mir.Syntax.{w32}
@@ -8,16 +9,16 @@ use Rattle.expr.proofs.Packing.{packed_value, packed_refusal}
 use Rattle.expr.proofs.packed.Statement.{statement}
 use Rattle.expr.proofs.packed.Tie as tie
 
-returns : tie.Need-returns
+returns : tie.Need-returns-in-Is
 returns c =
-    let f : SFits w32 c.before.before.v.given.0.0 = record { sfits = c.before.known-told.given.0.1 } in
-    packed_value c.before.before.v.given.0.0 _ f c.before.before.v.given.1 (rw (to_z-of_z f) at c.to-bits.ensures) (omega arith)
+    let f : SFits w32 c.in-Is.z = record { sfits = c.in-Is.known_told-1-own.given.0.1 } in
+    packed_value c.in-Is.z _ f c.in-Is.is (rw (to_z-of_z f) at c.to_bits.ensures) (omega arith)
 
-returns-2 : tie.Need-returns-2
-returns-2 c = packed_refusal _ (omega arith) c.before.v2.given.1
+returns-2 : tie.Need-returns-in-Refused
+returns-2 c = packed_refusal _ (omega arith) c.in-Refused.is
 
-pub packed-spec : {M : Type 1} → statement M
-packed-spec =
+pub packed_spec : {M : Type 1} → statement M
+packed_spec =
     tie.close
     (tie.spec
     (λ c. search rules)

@@ -1,3 +1,4 @@
+
 -- `expr::read_one` meets its contract: what may be read is applied, else 23. Assumes nothing.
 use mathlib.Core.Path.{◌≡◌, sym, ap, ◌∙◌}
 use mathlib.Core.Bool.{Bool, true, false, cond}
@@ -29,15 +30,19 @@ module _ (s : Save) (v : List ℤ) (o : Op1) (x : ℤ) (r : Bool) (p : r ≡ rea
 abbrev save : tie.Start → Save
 save s = reads s.args.items.now s.args.atcs.now s.args.flags.now s.args.times.now
 
-returns : tie.Need-returns
+returns : tie.Need-returns-then-is_readable
 returns c =
     let s = c.before.before.before.before.before in
-    applied (save s) s.args.vars.now s.args.o s.args.x c.before.before.is-readable.result (rw (to_z-of_z s.ranges.x) at c.before.before.is-readable.ensures) _ c.apply-one.result (to_z-of_z {w = w32} (record { sfits = c.apply-one.type-inv })) (rw (to_z-of_z s.ranges.x) at c.apply-one.ensures) c.before.if1.true
+    applied (save s) s.args.vars.now s.args.o s.args.x c.is_readable.result (rw (to_z-of_z s.ranges.x) at c.is_readable.ensures) _ c.apply_one.result (to_z-of_z {w = w32} (record { sfits = c.apply_one.type_inv })) (rw (to_z-of_z s.ranges.x) at c.apply_one.ensures) c.if-is_readable.true
 
-returns-2 : tie.Need-returns-2
+returns-2 : tie.Need-returns
 returns-2 c =
     let s = c.before.before.before.before in
-    refused (save s) s.args.vars.now s.args.o s.args.x c.before.is-readable.result (rw (to_z-of_z s.ranges.x) at c.before.is-readable.ensures) c.if1.false
+    refused (save s) s.args.vars.now s.args.o s.args.x c.is_readable.result (rw (to_z-of_z s.ranges.x) at c.is_readable.ensures) c.if-is_readable.false
 
-pub read-one-spec : {M : Type 1} → statement M
-read-one-spec = tie.close (tie.spec (λ c κs. search rules) (λ c κs. search rules) returns returns-2)
+pub read_one_spec : {M : Type 1} → statement M
+read_one_spec = tie.close (tie.spec
+    (λ c κs. search rules)
+    (λ c κs. search rules)
+    returns
+    returns-2)

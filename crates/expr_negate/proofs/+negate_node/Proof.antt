@@ -1,3 +1,4 @@
+
 -- `expr_negate::negate_node` meets its contract: by the code found at the node. The measure is the node's number. Assumes nothing.
 use mathlib.Core.Path.{refl}
 use native.Mathlib.Omega.{arith}
@@ -32,35 +33,36 @@ negate-node-below t =
 abbrev negate-node-claims : ℕ → negate-node-lts.Claims
 negate-node-claims t = (flipped-reads.Asked, flipped-reads.Learnt, negate-node-below t, negate-node.Post)
 
-negate-node-returns : (t : ℕ) → negate-node-lts.Need-returns (negate-node-claims t) (negate-node-at t) negate-node.Post
-negate-node-returns t c = λ k e h. compare_done c.before.flipped.result c.if1.true c.before.flipped.ensures h
+negate-node-returns : (t : ℕ) → negate-node-lts.Need-returns-then-code-lt6 (negate-node-claims t) (negate-node-at t) negate-node.Post
+negate-node-returns t c = λ k e h. compare_done c.flipped.result c.if-code-lt6.true c.flipped.ensures h
 
-negate-node-negate-node-requires : (t : ℕ) → negate-node-lts.Need-negate-node-requires (negate-node-claims t) (negate-node-at t) negate-node.Post
+negate-node-negate-node-requires : (t : ℕ) → negate-node-lts.Need-negate_node-requires (negate-node-claims t) (negate-node-at t) negate-node.Post
 negate-node-negate-node-requires t c κs =
-    let a = c.before.before.before.before.before.before.args in
-    let f = c.before.before.flipped in
-    let h = c.before.before.before.before.before.before.requires.1 in
-    let g = sides (get_or a.ws.now (3 * a.i + 1) 0) (get_or a.ws.now (3 * a.i + 2) 0) f.result (omega (arith, c.before.if1.false)) refl refl f.ensures h.laid in
-    (omega (arith, g.left-low, c.before.before.before.before.before.before.requires.0), record { first = h.first; expr = g.one; laid = g.left; low = omega (arith, g.left-low, h.low) })
+    let a = c.args in
+    let f = c.flipped in
+    let h = c.requires.1 in
+    let g = sides (get_or a.ws.now (3 * a.i + 1) 0) (get_or a.ws.now (3 * a.i + 2) 0) f.result (omega (arith, c.if-code-lt6.false)) refl refl f.ensures h.laid in
+    (omega (arith, g.left-low, c.requires.0), record { first = h.first; expr = g.one; laid = g.left; low = omega (arith, g.left-low, h.low) })
 
-negate-node-negate-node-requires-2 : (t : ℕ) → negate-node-lts.Need-negate-node-requires-2 (negate-node-claims t) (negate-node-at t) negate-node.Post
+negate-node-negate-node-requires-2 : (t : ℕ) → negate-node-lts.Need-negate_node-requires-2 (negate-node-claims t) (negate-node-at t) negate-node.Post
 negate-node-negate-node-requires-2 t c κs =
-    let a = c.before.before.before.before.before.before.before.before.args in
-    let f = c.before.before.before.before.flipped in
-    let h = c.before.before.before.before.before.before.before.before.requires.1 in
-    let g = sides (get_or a.ws.now (3 * a.i + 1) 0) (get_or a.ws.now (3 * a.i + 2) 0) f.result (omega (arith, c.before.before.before.if1.false)) refl refl f.ensures h.laid in
-    (omega (arith, g.right-low, c.before.before.before.before.before.before.before.before.requires.0), record { first = get_or a.ws.now (3 * a.i + 1) 0 + 1; expr = g.other; laid = g.right c.before.negate-node.new.0 (c.before.negate-node.ensures h.first g.one g.left); low = omega (arith, g.right-low, h.low) })
+    let a = c.args in
+    let f = c.flipped in
+    let h = c.requires.1 in
+    let g = sides (get_or a.ws.now (3 * a.i + 1) 0) (get_or a.ws.now (3 * a.i + 2) 0) f.result (omega (arith, c.if-code-lt6.false)) refl refl f.ensures h.laid in
+    (omega (arith, g.right-low, c.requires.0), record { first = get_or a.ws.now (3 * a.i + 1) 0 + 1; expr = g.other; laid = g.right c.negate_node.new.0 (c.negate_node.ensures h.first g.one g.left); low = omega (arith, g.right-low, h.low) })
 
-negate-node-returns-2 : (t : ℕ) → negate-node-lts.Need-returns-2 (negate-node-claims t) (negate-node-at t) negate-node.Post
+negate-node-returns-2 : (t : ℕ) → negate-node-lts.Need-returns (negate-node-claims t) (negate-node-at t) negate-node.Post
 negate-node-returns-2 t c = λ k e h.
-    let a = c.before.before.before.before.before.before.before.before.before.args in
-    let f = c.before.before.before.before.before.flipped in
-    let g = sides (get_or a.ws.now (3 * a.i + 1) 0) (get_or a.ws.now (3 * a.i + 2) 0) f.result (omega (arith, c.before.before.before.before.if1.false)) refl refl f.ensures h in
-    let p = c.before.before.negate-node.ensures k g.one g.left in
-    g.done c.before.before.negate-node.new.0 c.negate-node2.new.0 p (c.negate-node2.ensures (get_or a.ws.now (3 * a.i + 1) 0 + 1) g.other (g.right c.before.before.negate-node.new.0 p))
+    let a = c.args in
+    let f = c.flipped in
+    let g = sides (get_or a.ws.now (3 * a.i + 1) 0) (get_or a.ws.now (3 * a.i + 2) 0) f.result (omega (arith, c.if-code-lt6.false)) refl refl f.ensures h in
+    let p = c.negate_node.ensures k g.one g.left in
+    g.done c.negate_node.new.0 c.negate_node-2.new.0 p (c.negate_node-2.ensures (get_or a.ws.now (3 * a.i + 1) 0 + 1) g.other (g.right c.negate_node.new.0 p))
 
-pub +negate-node-spec : {M : Type 1} → statement M
-+negate-node-spec = close μ-negate-node λ t. negate-node-lts.spec (negate-node-claims t)
+pub +negate_node_spec : {M : Type 1} → statement M
++negate_node_spec = close μ-negate-node λ t. negate-node-lts.spec
+    (negate-node-claims t)
     (negate-node-at t)
     negate-node.Post
     (λ c. search rules)

@@ -1,3 +1,4 @@
+
 -- read_expr keeps its promise; the steps are laws of specs/ExprLaws.antt.
 use Rattle.model.specs.Limits.{depth_limit}
 use Rattle.image_read.specs.ExprLaws.{headed, roomy, done, grown, told_no, told_other, told_imm16, told_imm32, told_one, told_two_no, told_two}
@@ -33,142 +34,143 @@ read-expr-below t =
 abbrev read-expr-claims : ℕ → read-expr-lts.Claims
 read-expr-claims t = (read-head-reads.Asked, read-head-reads.Learnt, kind-of-reads.Asked, kind-of-reads.Learnt, read-expr-below t, read-expr.Post, push-two-reads.Asked, push-two-reads.Learnt, push-one-reads.Asked, push-one-reads.Learnt, read-imm-reads.Asked, read-imm-reads.Learnt, push-node-reads.Asked, push-node-reads.Learnt)
 
-read-expr-add-read-expr : (t : ℕ) → read-expr-lts.Need-overflow-add-read-expr (read-expr-claims t) (read-expr-at t) read-expr.Post
+read-expr-add-read-expr : (t : ℕ) → read-expr-lts.Need-overflow_add-depth (read-expr-claims t) (read-expr-at t) read-expr.Post
 read-expr-add-read-expr t c =
-    let args = c.before.before.before.before.before.before.before.before.before.before.args in
-    let h = headed args.s.now args.at args.n args.depth _ c.before.before.before.before.before.before.before.before.read_head.ensures _ _ c.before.before.before.before.before.before.head.given.1 in omega arith
+    let args = c.args in
+    let h = headed args.s.now args.at args.n args.depth _ c.read_head-head.ensures _ _ c.in-Got.is in omega arith
 
-read-expr-read-expr-requires : (t : ℕ) → read-expr-lts.Need-read-expr-requires (read-expr-claims t) (read-expr-at t) read-expr.Post
+read-expr-read-expr-requires : (t : ℕ) → read-expr-lts.Need-read_expr-a-requires (read-expr-claims t) (read-expr-at t) read-expr.Post
 read-expr-read-expr-requires t c κs =
-    let args = c.before.before.before.before.before.before.before.before.before.before.args in
-    let p : depth_limit - args.depth ≡ t = c.before.before.before.before.before.before.before.before.before.before.requires.0 in let h = headed args.s.now args.at args.n args.depth _ c.before.before.before.before.before.before.before.before.read_head.ensures _ _ c.before.before.before.before.before.before.head.given.1 in omega arith
+    let args = c.args in
+    let p : depth_limit - args.depth ≡ t = c.requires.0 in let h = headed args.s.now args.at args.n args.depth _ c.read_head-head.ensures _ _ c.in-Got.is in omega arith
 
-read-expr-add-read-expr-2 : (t : ℕ) → read-expr-lts.Need-overflow-add-read-expr-2 (read-expr-claims t) (read-expr-at t) read-expr.Post
+read-expr-add-read-expr-2 : (t : ℕ) → read-expr-lts.Need-overflow_add-depth-in-Got-a (read-expr-claims t) (read-expr-at t) read-expr.Post
 read-expr-add-read-expr-2 t c =
-    let args = c.before.before.before.before.before.before.before.before.before.before.before.before.before.before.before.before.args in
-    let h = headed args.s.now args.at args.n args.depth _ c.before.before.before.before.before.before.before.before.before.before.before.before.before.before.read_head.ensures _ _ c.before.before.before.before.before.before.before.before.before.before.before.before.head.given.1 in omega arith
+    let args = c.args in
+    let h = headed args.s.now args.at args.n args.depth _ c.read_head-head.ensures _ _ c.in-Got.is in omega arith
 
-read-expr-read-expr-requires-2 : (t : ℕ) → read-expr-lts.Need-read-expr-requires-2 (read-expr-claims t) (read-expr-at t) read-expr.Post
+read-expr-read-expr-requires-2 : (t : ℕ) → read-expr-lts.Need-read_expr-b-requires (read-expr-claims t) (read-expr-at t) read-expr.Post
 read-expr-read-expr-requires-2 t c κs =
-    let args = c.before.before.before.before.before.before.before.before.before.before.before.before.before.before.before.before.args in
-    let p : depth_limit - args.depth ≡ t = c.before.before.before.before.before.before.before.before.before.before.before.before.before.before.before.before.requires.0 in let h = headed args.s.now args.at args.n
-    args.depth _ c.before.before.before.before.before.before.before.before.before.before.before.before.before.before.read_head.ensures _ _
-    c.before.before.before.before.before.before.before.before.before.before.before.before.head.given.1 in omega (
+    let args = c.args in
+    let p : depth_limit - args.depth ≡ t = c.requires.0 in let h = headed args.s.now args.at args.n
+    args.depth _ c.read_head-head.ensures _ _
+    c.in-Got.is in omega (
       arith,
-      grown args.s.now args.ws.now args.val.now c.before.before.before.before.before.before.before.before.before.before.before.before.head.given.0.1.0 _ _ _ _ _
-          c.before.before.before.before.before.read-expr.ensures _ _ c.before.before.before.a.given.1,
+      grown args.s.now args.ws.now args.val.now c.in-Got.p _ _ _ _ _
+          c.read_expr-a.ensures _ _ c.in-Got-a.is,
     )
 
-read-expr-sub-push-two : (t : ℕ) → read-expr-lts.Need-overflow-sub-push-two (read-expr-claims t) (read-expr-at t) read-expr.Post
+read-expr-sub-push-two : (t : ℕ) → read-expr-lts.Need-overflow_sub-n1 (read-expr-claims t) (read-expr-at t) read-expr.Post
 read-expr-sub-push-two t c =
-    let args = c.before.before.before.before.before.before.before.before.before.before.before.before.before.before.before.before.before.before.before.args in
-    omega (arith, grown args.s.now args.ws.now args.val.now c.before.before.before.before.before.before.before.before.before.before.before.before.before.before.before.head.given.0.1.0 _ _ _ _ _ c.before.before.before.before.before.before.before.before.read-expr.ensures _ _ c.before.before.before.before.before.before.a.given.1)
+    let args = c.args in
+    omega (arith, grown args.s.now args.ws.now args.val.now c.in-Got.p _ _ _ _ _ c.read_expr-a.ensures _ _ c.in-Got-a.is)
 
-read-expr-push-two-requires : (t : ℕ) → read-expr-lts.Need-push-two-requires (read-expr-claims t) (read-expr-at t) read-expr.Post
-read-expr-push-two-requires t c κs = roomy c.before.before.before.before.before.before.before.before.before.before.before.before.before.before.before.before.before.before.before.args.s.now _ _ c.before.before.before.before.before.before.a.given.0.1.0 _ (c.before.before.before.before.before.before.before.before.before.before.before.before.before.before.before.before.before.before.before.args.depth + 1) _ _ _ (omega arith) c.before.before.read-expr2.ensures
+read-expr-push-two-requires : (t : ℕ) → read-expr-lts.Need-push_two-requires (read-expr-claims t) (read-expr-at t) read-expr.Post
+read-expr-push-two-requires t c κs = roomy c.args.s.now _ _ c.in-Got-a.p1 _ (c.args.depth + 1) _ _ _ (omega arith) c.read_expr-b.ensures
 
-read-expr-add-read-expr-3 : (t : ℕ) → read-expr-lts.Need-overflow-add-read-expr-3 (read-expr-claims t) (read-expr-at t) read-expr.Post
+read-expr-add-read-expr-3 : (t : ℕ) → read-expr-lts.Need-overflow_add-depth-in-One (read-expr-claims t) (read-expr-at t) read-expr.Post
 read-expr-add-read-expr-3 t c =
-    let args = c.before.before.before.before.before.before.before.before.before.before.args in
-    let h = headed args.s.now args.at args.n args.depth _ c.before.before.before.before.before.before.before.before.read_head.ensures _ _ c.before.before.before.before.before.before.head.given.1 in omega arith
+    let args = c.args in
+    let h = headed args.s.now args.at args.n args.depth _ c.read_head-head.ensures _ _ c.in-Got.is in omega arith
 
-read-expr-read-expr-requires-3 : (t : ℕ) → read-expr-lts.Need-read-expr-requires-3 (read-expr-claims t) (read-expr-at t) read-expr.Post
+read-expr-read-expr-requires-3 : (t : ℕ) → read-expr-lts.Need-read_expr-a-requires-in-One (read-expr-claims t) (read-expr-at t) read-expr.Post
 read-expr-read-expr-requires-3 t c κs =
-    let args = c.before.before.before.before.before.before.before.before.before.before.args in
-    let p : depth_limit - args.depth ≡ t = c.before.before.before.before.before.before.before.before.before.before.requires.0 in let h = headed args.s.now args.at args.n args.depth _ c.before.before.before.before.before.before.before.before.read_head.ensures _ _ c.before.before.before.before.before.before.head.given.1 in omega arith
+    let args = c.args in
+    let p : depth_limit - args.depth ≡ t = c.requires.0 in let h = headed args.s.now args.at args.n args.depth _ c.read_head-head.ensures _ _ c.in-Got.is in omega arith
 
-read-expr-push-one-requires : (t : ℕ) → read-expr-lts.Need-push-one-requires (read-expr-claims t) (read-expr-at t) read-expr.Post
+read-expr-push-one-requires : (t : ℕ) → read-expr-lts.Need-push_one-requires (read-expr-claims t) (read-expr-at t) read-expr.Post
 read-expr-push-one-requires t c κs =
-    let args = c.before.before.before.before.before.before.before.before.before.before.before.before.before.args in
-    roomy args.s.now args.ws.now args.val.now c.before.before.before.before.before.before.before.before.before.head.given.0.1.0 _ (args.depth + 1) _ _ _ (omega arith) c.before.before.read-expr3.ensures
+    let args = c.args in
+    roomy args.s.now args.ws.now args.val.now c.in-Got.p _ (args.depth + 1) _ _ _ (omega arith) c.read_expr-a-in-One.ensures
 
-read-expr-read-imm-requires : (t : ℕ) → read-expr-lts.Need-read-imm-requires (read-expr-claims t) (read-expr-at t) read-expr.Post
+read-expr-read-imm-requires : (t : ℕ) → read-expr-lts.Need-read_imm-requires (read-expr-claims t) (read-expr-at t) read-expr.Post
 read-expr-read-imm-requires t c κs =
-    let args = c.before.before.before.before.before.before.before.before.before.before.args in
-    let h = headed args.s.now args.at args.n args.depth _ c.before.before.before.before.before.before.before.before.read_head.ensures _ _ c.before.before.before.before.before.before.head.given.1 in omega arith
+    let args = c.args in
+    let h = headed args.s.now args.at args.n args.depth _ c.read_head-head.ensures _ _ c.in-Got.is in omega arith
 
-read-expr-read-imm-requires-2 : (t : ℕ) → read-expr-lts.Need-read-imm-requires-2 (read-expr-claims t) (read-expr-at t) read-expr.Post
+read-expr-read-imm-requires-2 : (t : ℕ) → read-expr-lts.Need-read_imm-requires-in-Imm32 (read-expr-claims t) (read-expr-at t) read-expr.Post
 read-expr-read-imm-requires-2 t c κs =
-    let args = c.before.before.before.before.before.before.before.before.before.before.args in
-    let h = headed args.s.now args.at args.n args.depth _ c.before.before.before.before.before.before.before.before.read_head.ensures _ _ c.before.before.before.before.before.before.head.given.1 in omega arith
+    let args = c.args in
+    let h = headed args.s.now args.at args.n args.depth _ c.read_head-head.ensures _ _ c.in-Got.is in omega arith
 
-read-expr-push-node-requires : (t : ℕ) → read-expr-lts.Need-push-node-requires (read-expr-claims t) (read-expr-at t) read-expr.Post
+read-expr-push-node-requires : (t : ℕ) → read-expr-lts.Need-push_node-requires (read-expr-claims t) (read-expr-at t) read-expr.Post
 read-expr-push-node-requires t c κs =
-    let args = c.before.before.before.before.before.before.before.before.before.before.args in
-    let h = headed args.s.now args.at args.n args.depth _ c.before.before.before.before.before.before.before.before.read_head.ensures _ _ c.before.before.before.before.before.before.head.given.1 in omega arith
+    let args = c.args in
+    let h = headed args.s.now args.at args.n args.depth _ c.read_head-head.ensures _ _ c.in-Got.is in omega arith
 
-read-expr-returns : (t : ℕ) → read-expr-lts.Need-returns (read-expr-claims t) (read-expr-at t) read-expr.Post
+read-expr-returns : (t : ℕ) → read-expr-lts.Need-returns-in-Got-a (read-expr-claims t) (read-expr-at t) read-expr.Post
 read-expr-returns t c =
     let c3 = c.before.before.before in
     let c7 = c3.before.before.before.before in
-    let c9 = c7.before.before in
+    let c9 = c7.before in
     let c12 = c9.before.before.before in
-    let c14 = c12.before.before in
+    let c14 = c12.before in
     let c16 = c14.before.before in
-    let c18 = c16.before.before in
+    let c18 = c16.before in
     let c20 = c18.before.before in
     let args = c20.args in
-    told_two args.s.now args.at args.n args.depth _ c16.head.given.0.1.0 (headed args.s.now args.at args.n args.depth _ c18.read_head.ensures _ _ c16.head.given.1) _ c14.kind-of.ensures args.ws.now args.val.now _ c12.enum_told.given.1 _ _ _ _ (done args.s.now args.ws.now args.val.now c16.head.given.0.1.0 _ _ _ _ _ c9.read-expr.ensures _ _ c7.a.given.1) _ _ _ _ _ _ c3.read-expr2.ensures c.push-two.ensures
+    told_two args.s.now args.at args.n args.depth _ c16.in-Got.p (headed args.s.now args.at args.n args.depth _ c18.read_head-head.ensures _ _ c16.in-Got.is) _ c14.kind_of-k.ensures args.ws.now args.val.now _ c12.in-Two.is _ _ _ _ (done args.s.now args.ws.now args.val.now c16.in-Got.p _ _ _ _ _ c9.read_expr-a.ensures _ _ c7.in-Got-a.is) _ _ _ _ _ _ c3.read_expr-b.ensures c.push_two.ensures
 
-read-expr-returns-2 : (t : ℕ) → read-expr-lts.Need-returns-2 (read-expr-claims t) (read-expr-at t) read-expr.Post
+read-expr-returns-2 : (t : ℕ) → read-expr-lts.Need-returns-in-No-a (read-expr-claims t) (read-expr-at t) read-expr.Post
 read-expr-returns-2 t c =
-    let c3 = c.before.before.before in
+    let c3 = c.before in
     let c6 = c3.before.before.before in
-    let c8 = c6.before.before in
+    let c8 = c6.before in
     let c10 = c8.before.before in
-    let c12 = c10.before.before in
+    let c12 = c10.before in
     let c14 = c12.before.before in
     let args = c14.args in
-    told_two_no args.s.now args.at args.n args.depth _ c10.head.given.0.1.0 (headed args.s.now args.at args.n args.depth _ c12.read_head.ensures _ _ c10.head.given.1) _ c8.kind-of.ensures args.ws.now args.val.now _ c6.enum_told.given.1 _ _ _ c3.read-expr.ensures _ _ _ c.before.a2.given.1
+    told_two_no args.s.now args.at args.n args.depth _ c10.in-Got.p (headed args.s.now args.at args.n args.depth _ c12.read_head-head.ensures _ _ c10.in-Got.is) _ c8.kind_of-k.ensures args.ws.now args.val.now _ c6.in-Two.is _ _ _ c3.read_expr-a.ensures _ _ _ c.in-No-a.is
 
-read-expr-returns-3 : (t : ℕ) → read-expr-lts.Need-returns-3 (read-expr-claims t) (read-expr-at t) read-expr.Post
+read-expr-returns-3 : (t : ℕ) → read-expr-lts.Need-returns-in-One (read-expr-claims t) (read-expr-at t) read-expr.Post
 read-expr-returns-3 t c =
     let c3 = c.before.before.before in
     let c6 = c3.before.before.before in
-    let c8 = c6.before.before in
+    let c8 = c6.before in
     let c10 = c8.before.before in
-    let c12 = c10.before.before in
+    let c12 = c10.before in
     let c14 = c12.before.before in
     let args = c14.args in
-    told_one args.s.now args.at args.n args.depth _ c10.head.given.0.1.0 (headed args.s.now args.at args.n args.depth _ c12.read_head.ensures _ _ c10.head.given.1) _ c8.kind-of.ensures args.ws.now args.val.now _ c6.enum-told2.given.1 _ _ _ _ _ _ c3.read-expr3.ensures c.push-one.ensures
+    told_one args.s.now args.at args.n args.depth _ c10.in-Got.p (headed args.s.now args.at args.n args.depth _ c12.read_head-head.ensures _ _ c10.in-Got.is) _ c8.kind_of-k.ensures args.ws.now args.val.now _ c6.in-One.is _ _ _ _ _ _ c3.read_expr-a-in-One.ensures c.push_one.ensures
 
-read-expr-returns-4 : (t : ℕ) → read-expr-lts.Need-returns-4 (read-expr-claims t) (read-expr-at t) read-expr.Post
+read-expr-returns-4 : (t : ℕ) → read-expr-lts.Need-returns-in-Imm16 (read-expr-claims t) (read-expr-at t) read-expr.Post
 read-expr-returns-4 t c =
     let c3 = c.before.before.before in
-    let c5 = c3.before.before in
+    let c5 = c3.before in
     let c7 = c5.before.before in
-    let c9 = c7.before.before in
+    let c9 = c7.before in
     let c11 = c9.before.before in
     let args = c11.args in
-    told_imm16 args.s.now args.at args.n args.depth _ c7.head.given.0.1.0 (headed args.s.now args.at args.n args.depth _ c9.read_head.ensures _ _ c7.head.given.1) _ c5.kind-of.ensures args.ws.now args.val.now _ _ _ c3.enum-told3.given.1 c.read-imm.ensures
+    told_imm16 args.s.now args.at args.n args.depth _ c7.in-Got.p (headed args.s.now args.at args.n args.depth _ c9.read_head-head.ensures _ _ c7.in-Got.is) _ c5.kind_of-k.ensures args.ws.now args.val.now _ _ _ c3.in-Imm16.is c.read_imm.ensures
 
-read-expr-returns-5 : (t : ℕ) → read-expr-lts.Need-returns-5 (read-expr-claims t) (read-expr-at t) read-expr.Post
+read-expr-returns-5 : (t : ℕ) → read-expr-lts.Need-returns-in-Imm32 (read-expr-claims t) (read-expr-at t) read-expr.Post
 read-expr-returns-5 t c =
     let c3 = c.before.before.before in
-    let c5 = c3.before.before in
+    let c5 = c3.before in
     let c7 = c5.before.before in
-    let c9 = c7.before.before in
+    let c9 = c7.before in
     let c11 = c9.before.before in
     let args = c11.args in
-    told_imm32 args.s.now args.at args.n args.depth _ c7.head.given.0.1.0 (headed args.s.now args.at args.n args.depth _ c9.read_head.ensures _ _ c7.head.given.1) _ c5.kind-of.ensures args.ws.now args.val.now _ _ _ c3.enum-told4.given.1 c.read-imm2.ensures
+    told_imm32 args.s.now args.at args.n args.depth _ c7.in-Got.p (headed args.s.now args.at args.n args.depth _ c9.read_head-head.ensures _ _ c7.in-Got.is) _ c5.kind_of-k.ensures args.ws.now args.val.now _ _ _ c3.in-Imm32.is c.read_imm-in-Imm32.ensures
 
-read-expr-returns-6 : (t : ℕ) → read-expr-lts.Need-returns-6 (read-expr-claims t) (read-expr-at t) read-expr.Post
+read-expr-returns-6 : (t : ℕ) → read-expr-lts.Need-returns-in-Other (read-expr-claims t) (read-expr-at t) read-expr.Post
 read-expr-returns-6 t c =
     let c3 = c.before.before.before in
-    let c5 = c3.before.before in
+    let c5 = c3.before in
     let c7 = c5.before.before in
-    let c9 = c7.before.before in
+    let c9 = c7.before in
     let c11 = c9.before.before in
     let args = c11.args in
-    told_other args.s.now args.at args.n args.depth _ c7.head.given.0.1.0 (headed args.s.now args.at args.n args.depth _ c9.read_head.ensures _ _ c7.head.given.1) _ c5.kind-of.ensures args.ws.now args.val.now _ _ _ c3.enum-told5.given.1 c.push-node.ensures
+    told_other args.s.now args.at args.n args.depth _ c7.in-Got.p (headed args.s.now args.at args.n args.depth _ c9.read_head-head.ensures _ _ c7.in-Got.is) _ c5.kind_of-k.ensures args.ws.now args.val.now _ _ _ c3.in-Other.is c.push_node.ensures
 
-read-expr-returns-7 : (t : ℕ) → read-expr-lts.Need-returns-7 (read-expr-claims t) (read-expr-at t) read-expr.Post
+read-expr-returns-7 : (t : ℕ) → read-expr-lts.Need-returns-in-No (read-expr-claims t) (read-expr-at t) read-expr.Post
 read-expr-returns-7 t c =
-    let args = c.before.before.before.before.before.args in
-    told_no args.s.now args.at args.n args.depth _ c.before.before.before.read_head.ensures _ _ _ _ c.before.head2.given.1
+    let args = c.args in
+    told_no args.s.now args.at args.n args.depth _ c.read_head-head.ensures _ _ _ _ c.in-No.is
 
-pub +read-expr-spec : {M : Type 1} → statement M
-+read-expr-spec = close μ-read-expr λ t. read-expr-lts.spec (read-expr-claims t)
+pub +read_expr_spec : {M : Type 1} → statement M
++read_expr_spec = close μ-read-expr λ t. read-expr-lts.spec
+    (read-expr-claims t)
     (read-expr-at t)
     read-expr.Post
     (λ c κs. search rules)

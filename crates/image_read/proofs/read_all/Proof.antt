@@ -1,3 +1,4 @@
+
 -- read_all keeps its promise; the steps are laws of specs/Whole.antt.
 use Rattle.model.specs.Memory.{memory_in}
 use Rattle.image_read.specs.Whole.{image_bad, image_place, image_full, image_no, image_left, image_done}
@@ -6,56 +7,56 @@ use borrow.Author.Rules.{rules}
 use Rattle.image_read.proofs.read_all.Statement.{statement}
 use Rattle.image_read.proofs.read_all.Tie as tie
 
-returns : tie.Need-returns
+returns : tie.Need-returns-then-c-gt-MOST_BLOCKS
 returns c =
-    let args = c.before.before.before.before.before.before.args in
-    image_full args.s.now (memory_in args.ws.now args.val.now args.cw.now args.bw.now 0 0 0) args.at _ c.before.before.before.before.read_number.ensures _ _ c.before.before.count.given.1 _ _ _ _ c.if1.true
+    let args = c.args in
+    image_full args.s.now (memory_in args.ws.now args.val.now args.cw.now args.bw.now 0 0 0) args.at _ c.read_number-count.ensures _ _ c.in-Got.is _ _ _ _ c.if-c-gt-MOST_BLOCKS.true
 
-read-blocks-requires : tie.Need-read-blocks-requires
+read-blocks-requires : tie.Need-read_blocks-r-requires
 read-blocks-requires c κs =
-    let args = c.before.before.before.before.before.before.before.before.before.before.before.args in
-    (omega (arith, c.before.before.before.before.before.if1.false, c.before.before.before.before.low_word.ensures), image_place args.s.now (memory_in args.ws.now args.val.now args.cw.now args.bw.now 0 0 0) args.at _ c.before.before.before.before.before.before.before.before.before.read_number.ensures _ _ c.before.before.before.before.before.before.before.count.given.1)
+    let args = c.args in
+    (omega (arith, c.if-c-gt-MOST_BLOCKS.false, c.low_word-b.ensures), image_place args.s.now (memory_in args.ws.now args.val.now args.cw.now args.bw.now 0 0 0) args.at _ c.read_number-count.ensures _ _ c.in-Got.is)
 
-returns-2 : tie.Need-returns-2
+returns-2 : tie.Need-returns-then-e-s
 returns-2 c =
-    let c4 = c.before.before.before.before in
+    let c4 = c.before.before in
     let c9 = c4.before.before.before.before.before in
     let c10 = c9.before in
     let c12 = c10.before.before in
-    let c14 = c12.before.before in
+    let c14 = c12.before in
     let c16 = c14.before.before in
     let args = c16.args in
-    image_left args.s.now (memory_in args.ws.now args.val.now args.cw.now args.bw.now 0 0 0) args.at _ c14.read_number.ensures _ _ c12.count.given.1 c10.if1.false _ c9.low_word.ensures _ _ _ _ _ c4.read-blocks.ensures _ _ _ _ _ _ _ c.before.before.r.given.1 c.if2.true
+    image_left args.s.now (memory_in args.ws.now args.val.now args.cw.now args.bw.now 0 0 0) args.at _ c14.read_number-count.ensures _ _ c12.in-Got.is c10.if-c-gt-MOST_BLOCKS.false _ c9.low_word-b.ensures _ _ _ _ _ c4.read_blocks-r.ensures _ _ _ _ _ _ _ c.in-Got-r.is c.if-e-s.true
 
-returns-3 : tie.Need-returns-3
+returns-3 : tie.Need-returns-else-e-s
 returns-3 c =
-    let c4 = c.before.before.before.before in
+    let c4 = c.before.before in
     let c9 = c4.before.before.before.before.before in
     let c10 = c9.before in
     let c12 = c10.before.before in
-    let c14 = c12.before.before in
+    let c14 = c12.before in
     let c16 = c14.before.before in
     let args = c16.args in
-    image_done args.s.now (memory_in args.ws.now args.val.now args.cw.now args.bw.now 0 0 0) args.at _ c14.read_number.ensures _ _ c12.count.given.1 c10.if1.false _ c9.low_word.ensures _ _ _ _ _ c4.read-blocks.ensures _ _ _ c.before.before.r.given.1 c.if2.false
+    image_done args.s.now (memory_in args.ws.now args.val.now args.cw.now args.bw.now 0 0 0) args.at _ c14.read_number-count.ensures _ _ c12.in-Got.is c10.if-c-gt-MOST_BLOCKS.false _ c9.low_word-b.ensures _ _ _ _ _ c4.read_blocks-r.ensures _ _ _ c.in-Got-r.is c.if-e-s.false
 
-returns-4 : tie.Need-returns-4
+returns-4 : tie.Need-returns-in-No
 returns-4 c =
-    let c3 = c.before.before.before in
+    let c3 = c.before in
     let c8 = c3.before.before.before.before.before in
     let c9 = c8.before in
     let c11 = c9.before.before in
-    let c13 = c11.before.before in
+    let c13 = c11.before in
     let c15 = c13.before.before in
     let args = c15.args in
-    image_no args.s.now (memory_in args.ws.now args.val.now args.cw.now args.bw.now 0 0 0) args.at _ c13.read_number.ensures _ _ c11.count.given.1 c9.if1.false _ c8.low_word.ensures _ _ _ _ _ c3.read-blocks.ensures _ _ _ _ _ c.before.r2.given.1
+    image_no args.s.now (memory_in args.ws.now args.val.now args.cw.now args.bw.now 0 0 0) args.at _ c13.read_number-count.ensures _ _ c11.in-Got.is c9.if-c-gt-MOST_BLOCKS.false _ c8.low_word-b.ensures _ _ _ _ _ c3.read_blocks-r.ensures _ _ _ _ _ c.in-No.is
 
-returns-5 : tie.Need-returns-5
+returns-5 : tie.Need-returns-in-Bad
 returns-5 c =
-    let args = c.before.before.before.before.args in
-    image_bad args.s.now (memory_in args.ws.now args.val.now args.cw.now args.bw.now 0 0 0) args.at _ c.before.before.read_number.ensures _ _ _ _ c.enum_told.given.1
+    let args = c.args in
+    image_bad args.s.now (memory_in args.ws.now args.val.now args.cw.now args.bw.now 0 0 0) args.at _ c.read_number-count.ensures _ _ _ _ c.in-Bad.is
 
-pub read-all-spec : {M : Type 1} → statement M
-read-all-spec =
+pub read_all_spec : {M : Type 1} → statement M
+read_all_spec =
     tie.close
     (tie.spec
     (λ c κs. search rules)

@@ -1,3 +1,4 @@
+
 -- read_blocks keeps its promise; the steps are laws of specs/BlockLoop.antt.
 use lib.ListN.{drop}
 use Rattle.model.specs.Image.{read_blocks}
@@ -10,38 +11,38 @@ use native.Mathlib.Omega.{arith}
 use Rattle.image_read.proofs.read_blocks.Statement.{statement}
 use Rattle.image_read.proofs.read_blocks.Tie as tie
 
-abbrev invariant-loop : tie.invariant-loop
+abbrev invariant-loop : tie.invariant-loop-i
 invariant-loop s at ws₀ val₀ cw₀ bw₀ count p₀ n₀ m₀ i₀ ws val cw bw p n m i = (i ≤ count) × BlocksPart s (memory_in ws₀ val₀ cw₀ bw₀ 0 0 0) (limits_of count) (read_blocks (limits_of count) count 0 0 (drop at s)) (count - i) m n p (memory_in ws val cw bw n m i)
 
-abbrev decreases-loop : tie.decreases-loop
+abbrev decreases-loop : tie.decreases-loop-i
 decreases-loop s at ws₀ val₀ cw₀ bw₀ count p₀ n₀ m₀ i₀ ws val cw bw p n m i = count - i
 
-loop-holds : tie.Need-loop-init invariant-loop decreases-loop
+loop-holds : tie.Need-loop-i-init invariant-loop decreases-loop
 loop-holds c =
-    let args = c.before.args in
-    (omega arith, blocks_start args.s.now args.ws.now args.val.now args.cw.now args.bw.now args.count args.at c.before.requires.1)
+    let args = c.args in
+    (omega arith, blocks_start args.s.now args.ws.now args.val.now args.cw.now args.bw.now args.count args.at c.requires.1)
 
-returns : tie.Need-returns invariant-loop decreases-loop
+returns : tie.Need-returns-in-No invariant-loop decreases-loop
 returns c =
-    let c3 = c.before.before.before in
+    let c3 = c.before in
     let c8 = c3.before.before.before.before.before in
     let c9 = c8.before in
     let c11 = c9.before.before in
     let args = c11.args in
-    blocks_no args.s.now args.ws.now args.val.now args.cw.now args.bw.now args.count args.at _ _ _ _ _ _ _ _ c8.loop-test.true c9.loop.invariant.1 _ _ _ _ _ c3.read-block.ensures _ _ _ _ _ c.before.r2.given.1
+    blocks_no args.s.now args.ws.now args.val.now args.cw.now args.bw.now args.count args.at _ _ _ _ _ _ _ _ c8.loop-i-test.true c9.loop-i.invariant.1 _ _ _ _ _ c3.read_block-r.ensures _ _ _ _ _ c.in-No.is
 
-loop-again : tie.Need-loop-preserved invariant-loop decreases-loop
+loop-again : tie.Need-loop-i-preserved invariant-loop decreases-loop
 loop-again c =
-    let args = c.before.before.before.before.before.before.before.before.before.before.before.args in
-    (omega (arith, c.before.before.before.before.before.before.before.before.loop-test.true), blocks_next args.s.now args.ws.now args.val.now args.cw.now args.bw.now args.count args.at _ _ _ _ _ _ _ _ c.before.before.before.before.before.before.before.before.loop-test.true c.before.before.before.before.before.before.before.before.before.loop.invariant.1 _ _ _ _ _ c.before.before.before.read-block.ensures _ _ _ c.before.r.given.1)
+    let args = c.args in
+    (omega (arith, c.loop-i-test.true), blocks_next args.s.now args.ws.now args.val.now args.cw.now args.bw.now args.count args.at _ _ _ _ _ _ _ _ c.loop-i-test.true c.loop-i.invariant.1 _ _ _ _ _ c.read_block-r.ensures _ _ _ c.in-Got.is)
 
-returns-2 : tie.Need-returns-2 invariant-loop decreases-loop
+returns-2 : tie.Need-returns invariant-loop decreases-loop
 returns-2 c =
-    let args = c.before.before.before.args in
-    blocks_done args.s.now args.ws.now args.val.now args.cw.now args.bw.now args.count args.at _ _ _ _ _ _ _ _ c.before.loop.invariant.0 c.loop-test.false c.before.loop.invariant.1
+    let args = c.args in
+    blocks_done args.s.now args.ws.now args.val.now args.cw.now args.bw.now args.count args.at _ _ _ _ _ _ _ _ c.loop-i.invariant.0 c.loop-i-test.false c.loop-i.invariant.1
 
-pub read-blocks-spec : {M : Type 1} → statement M
-read-blocks-spec =
+pub read_blocks_spec : {M : Type 1} → statement M
+read_blocks_spec =
     tie.close
     (tie.spec
     invariant-loop

@@ -1,3 +1,4 @@
+
 -- read_commands keeps its promise; the steps are laws of specs/CommandLoop.antt.
 use lib.ListN.{drop}
 use Rattle.model.specs.Image.{read_commands}
@@ -10,38 +11,38 @@ use native.Mathlib.Omega.{arith}
 use Rattle.image_read.proofs.read_commands.Statement.{statement}
 use Rattle.image_read.proofs.read_commands.Tie as tie
 
-abbrev invariant-loop : tie.invariant-loop
+abbrev invariant-loop : tie.invariant-loop-i
 invariant-loop s at ws₀ val₀ cw₀ n m count blocks p₀ k₀ i₀ ws val cw p k i = (i ≤ count) × CommandsPart s (coded_in ws₀ val₀ cw₀ n m) (limits_of blocks) (read_commands (limits_of blocks) count n (drop at s)) (count - i) k p (coded_in ws val cw k (m + i))
 
-abbrev decreases-loop : tie.decreases-loop
+abbrev decreases-loop : tie.decreases-loop-i
 decreases-loop s at ws₀ val₀ cw₀ n m count blocks p₀ k₀ i₀ ws val cw p k i = count - i
 
-loop-holds : tie.Need-loop-init invariant-loop decreases-loop
+loop-holds : tie.Need-loop-i-init invariant-loop decreases-loop
 loop-holds c =
-    let args = c.before.args in
-    (omega arith, commands_start args.s.now args.ws.now args.val.now args.cw.now args.n args.m args.count args.blocks args.at c.before.requires.0 c.before.requires.3)
+    let args = c.args in
+    (omega arith, commands_start args.s.now args.ws.now args.val.now args.cw.now args.n args.m args.count args.blocks args.at c.requires.0 c.requires.3)
 
-returns : tie.Need-returns invariant-loop decreases-loop
+returns : tie.Need-returns-in-No invariant-loop decreases-loop
 returns c =
-    let c3 = c.before.before.before in
+    let c3 = c.before in
     let c7 = c3.before.before.before.before in
     let c8 = c7.before in
     let c10 = c8.before.before in
     let args = c10.args in
-    commands_no args.s.now args.ws.now args.val.now args.cw.now args.n args.m args.count args.blocks args.at _ _ _ _ _ _ c7.loop-test.true c8.loop.invariant.1 _ _ _ _ c3.read-command.ensures _ _ _ _ c.before.r2.given.1
+    commands_no args.s.now args.ws.now args.val.now args.cw.now args.n args.m args.count args.blocks args.at _ _ _ _ _ _ c7.loop-i-test.true c8.loop-i.invariant.1 _ _ _ _ c3.read_command-r.ensures _ _ _ _ c.in-No.is
 
-loop-again : tie.Need-loop-preserved invariant-loop decreases-loop
+loop-again : tie.Need-loop-i-preserved invariant-loop decreases-loop
 loop-again c =
-    let args = c.before.before.before.before.before.before.before.before.before.before.args in
-    (omega (arith, c.before.before.before.before.before.before.before.loop-test.true), commands_next args.s.now args.ws.now args.val.now args.cw.now args.n args.m args.count args.blocks args.at _ _ _ _ _ _ c.before.before.before.before.before.before.before.loop-test.true c.before.before.before.before.before.before.before.before.loop.invariant.1 _ _ _ _ c.before.before.before.read-command.ensures _ _ c.before.r.given.1)
+    let args = c.args in
+    (omega (arith, c.loop-i-test.true), commands_next args.s.now args.ws.now args.val.now args.cw.now args.n args.m args.count args.blocks args.at _ _ _ _ _ _ c.loop-i-test.true c.loop-i.invariant.1 _ _ _ _ c.read_command-r.ensures _ _ c.in-Got.is)
 
-returns-2 : tie.Need-returns-2 invariant-loop decreases-loop
+returns-2 : tie.Need-returns invariant-loop decreases-loop
 returns-2 c =
-    let args = c.before.before.before.args in
-    commands_done args.s.now args.ws.now args.val.now args.cw.now args.n args.m args.count args.blocks args.at _ _ _ _ _ _ c.before.loop.invariant.0 c.loop-test.false c.before.loop.invariant.1
+    let args = c.args in
+    commands_done args.s.now args.ws.now args.val.now args.cw.now args.n args.m args.count args.blocks args.at _ _ _ _ _ _ c.loop-i.invariant.0 c.loop-i-test.false c.loop-i.invariant.1
 
-pub read-commands-spec : {M : Type 1} → statement M
-read-commands-spec =
+pub read_commands_spec : {M : Type 1} → statement M
+read_commands_spec =
     tie.close
     (tie.spec
     invariant-loop

@@ -1,3 +1,4 @@
+
 -- read_imm keeps its promise; the steps are laws of specs/ExprLaws.antt.
 use mir.Facts.{to_z-of_z}
 use mir.Syntax.{w32}
@@ -9,19 +10,19 @@ use Rattle.image_read.proofs.read_imm.Statement.{statement}
 use Rattle.image_read.proofs.read_imm.Tie as tie
 
 signed-requires : tie.Need-signed-requires
-signed-requires c κs = omega (arith, imm_low _ _ _ _ c.before.before.before.before.before.read_number.ensures _ _ c.before.before.before.v.given.1, c.before.before.before.before.before.before.before.requires)
+signed-requires c κs = omega (arith, imm_low _ _ _ _ c.read_number-v.ensures _ _ c.in-Got.is, c.requires)
 
-returns : tie.Need-returns
+returns : tie.Need-returns-in-Got
 returns c =
     let c5 = c.before.before.before.before.before in
-    let c7 = c5.before.before in
-    imm_told _ _ _ _ c7.read_number.ensures _ _ _ _ _ _ _ c5.v.given.1 (to_z-of_z {w = w32} {z = c.before.signed.result} (record { sfits = c.before.signed.type-inv }) ∙ c.before.signed.ensures) c.push-node.ensures
+    let c7 = c5.before in
+    imm_told _ _ _ _ c7.read_number-v.ensures _ _ _ _ _ _ _ c5.in-Got.is (to_z-of_z {w = w32} {z = c.signed.result} (record { sfits = c.signed.type_inv }) ∙ c.signed.ensures) c.push_node-m.ensures
 
-returns-2 : tie.Need-returns-2
-returns-2 c = imm_bad _ _ _ _ c.before.before.read_number.ensures _ _ _ _ c.enum_told.given.1
+returns-2 : tie.Need-returns-in-Bad
+returns-2 c = imm_bad _ _ _ _ c.read_number-v.ensures _ _ _ _ c.in-Bad.is
 
-pub read-imm-spec : {M : Type 1} → statement M
-read-imm-spec =
+pub read_imm_spec : {M : Type 1} → statement M
+read_imm_spec =
     tie.close
     (tie.spec
     (λ c κs. search rules)

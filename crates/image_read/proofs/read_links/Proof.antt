@@ -1,34 +1,35 @@
+
 -- read_links keeps its promise; the steps are laws of specs/BlockLaws.antt.
 use Rattle.image_read.specs.BlockLaws.{links_no, links_no_2, links_done}
 use borrow.Author.Rules.{rules}
 use Rattle.image_read.proofs.read_links.Statement.{statement}
 use Rattle.image_read.proofs.read_links.Tie as tie
 
-returns : tie.Need-returns
+returns : tie.Need-returns-in-Got-y
 returns c =
-    let c3 = c.before.before.before in
+    let c3 = c.before in
     let c5 = c3.before.before in
-    let c7 = c5.before.before in
+    let c7 = c5.before in
     let c9 = c7.before.before in
     let args = c9.args in
-    links_done args.s.now args.blocks args.at _ c7.read-link.ensures _ _ c5.x.given.1 _ c3.read-link2.ensures _ _ c.before.y.given.1
+    links_done args.s.now args.blocks args.at _ c7.read_link-x.ensures _ _ c5.in-Got.is _ c3.read_link-y.ensures _ _ c.in-Got-y.is
 
-returns-2 : tie.Need-returns-2
+returns-2 : tie.Need-returns-in-No-y
 returns-2 c =
-    let c3 = c.before.before.before in
+    let c3 = c.before in
     let c5 = c3.before.before in
-    let c7 = c5.before.before in
+    let c7 = c5.before in
     let c9 = c7.before.before in
     let args = c9.args in
-    links_no_2 args.s.now args.blocks args.at _ c7.read-link.ensures _ _ c5.x.given.1 _ c3.read-link2.ensures _ c.before.y2.given.1
+    links_no_2 args.s.now args.blocks args.at _ c7.read_link-x.ensures _ _ c5.in-Got.is _ c3.read_link-y.ensures _ c.in-No-y.is
 
-returns-3 : tie.Need-returns-3
+returns-3 : tie.Need-returns-in-No
 returns-3 c =
-    let args = c.before.before.before.before.before.args in
-    links_no args.s.now args.blocks args.at _ c.before.before.before.read-link.ensures _ c.before.x2.given.1
+    let args = c.args in
+    links_no args.s.now args.blocks args.at _ c.read_link-x.ensures _ c.in-No.is
 
-pub read-links-spec : {M : Type 1} → statement M
-read-links-spec =
+pub read_links_spec : {M : Type 1} → statement M
+read_links_spec =
     tie.close
     (tie.spec
     (λ c κs. search rules)

@@ -1,3 +1,4 @@
+
 -- `judge::judge_by` meets its contract: the kept counts, the walk, and where it refuses what is held past the kept counts. Assumes nothing.
 use Rattle.judge_record.specs.Whole.{limits_over, walked_fine, walked_no, held_past}
 use Rattle.model.specs.Memory.{memory_in}
@@ -7,26 +8,26 @@ use borrow.Author.Rules.{rules}
 use Rattle.judge_record.proofs.judge_by.Statement.{statement}
 use Rattle.judge_record.proofs.judge_by.Tie as tie
 
-returns : tie.Need-returns
-returns c = let s = c.before.before.before in let me = memory_in s.args.ws.now s.args.val.now s.args.cw.now s.args.bw.now s.args.counts.nodes s.args.counts.commands s.args.counts.blocks in limits_over me (c.before.within-limits.ensures.over (not-true _ c.if1.true) s.args.ws.now s.args.val.now s.args.cw.now s.args.bw.now)
+returns : tie.Need-returns-then-not-within_limits
+returns c = let s = c.before.before.before in let me = memory_in s.args.ws.now s.args.val.now s.args.cw.now s.args.bw.now s.args.counts.nodes s.args.counts.commands s.args.counts.blocks in limits_over me (c.within_limits.ensures.over c.if-not-within_limits.true s.args.ws.now s.args.val.now s.args.cw.now s.args.bw.now)
 
-judge-blocks-requires : tie.Need-judge-blocks-requires
-judge-blocks-requires c κs = c.before.within-limits.ensures.kept (not-false _ c.if1.false)
+judge-blocks-requires : tie.Need-judge_blocks-walked-requires
+judge-blocks-requires c κs = c.within_limits.ensures.kept c.if-not-within_limits.false
 
-held-kept-requires : tie.Need-held-kept-requires
-held-kept-requires c κs = let K = c.before.before.before.before.before.before.within-limits.ensures.kept (not-false _ c.before.before.before.before.before.if1.false) in (K.blocks, K.commands, omega (arith, K.commands, c.before.before.before.before.before.before.before.before.requires))
+held-kept-requires : tie.Need-held_kept-requires
+held-kept-requires c κs = let K = c.within_limits.ensures.kept c.if-not-within_limits.false in (K.blocks, K.commands, omega (arith, K.commands, c.requires))
 
-returns-2 : tie.Need-returns-2
-returns-2 c = let s = c.before.before.before.before.before.before.before.before.before.before.before.before in let me = memory_in s.args.ws.now s.args.val.now s.args.cw.now s.args.bw.now s.args.counts.nodes s.args.counts.commands s.args.counts.blocks in walked_no me c.before.before.before.before.before.before.before.before.judge-blocks.ensures c.before.before.before.before.before.before.walked2.given.1 (c.before.before.before.held_kept.ensures s.args.ws.now s.args.val.now) c.if2.true
+returns-2 : tie.Need-returns-then-held_kept
+returns-2 c = let s = c.before.before.before.before.before.before.before.before.before.before in let me = memory_in s.args.ws.now s.args.val.now s.args.cw.now s.args.bw.now s.args.counts.nodes s.args.counts.commands s.args.counts.blocks in walked_no me c.judge_blocks-walked.ensures c.in-No.is (c.held_kept.ensures s.args.ws.now s.args.val.now) c.if-held_kept.true
 
-returns-3 : tie.Need-returns-3
-returns-3 c = let s = c.before.before.before.before.before.before.before in let me = memory_in s.args.ws.now s.args.val.now s.args.cw.now s.args.bw.now s.args.counts.nodes s.args.counts.commands s.args.counts.blocks in walked_fine me c.before.before.before.judge-blocks.ensures c.before.walked.given.1
+returns-3 : tie.Need-returns-in-Fine
+returns-3 c = let s = c.before.before.before.before.before in let me = memory_in s.args.ws.now s.args.val.now s.args.cw.now s.args.bw.now s.args.counts.nodes s.args.counts.commands s.args.counts.blocks in walked_fine me c.judge_blocks-walked.ensures c.in-Fine.is
 
-returns-4 : tie.Need-returns-4
-returns-4 c = let s = c.before.before.before.before.before.before.before.before.before.before.before.before in let me = memory_in s.args.ws.now s.args.val.now s.args.cw.now s.args.bw.now s.args.counts.nodes s.args.counts.commands s.args.counts.blocks in held_past me (c.before.before.before.held_kept.ensures s.args.ws.now s.args.val.now) c.if2.false
+returns-4 : tie.Need-returns-else-held_kept
+returns-4 c = let s = c.before.before.before.before.before.before.before.before.before.before in let me = memory_in s.args.ws.now s.args.val.now s.args.cw.now s.args.bw.now s.args.counts.nodes s.args.counts.commands s.args.counts.blocks in held_past me (c.held_kept.ensures s.args.ws.now s.args.val.now) c.if-held_kept.false
 
-pub judge-by-spec : {M : Type 1} → statement M
-judge-by-spec =
+pub judge_by_spec : {M : Type 1} → statement M
+judge_by_spec =
     tie.close
     (tie.spec
     (λ c κs. search rules)

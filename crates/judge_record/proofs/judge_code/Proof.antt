@@ -1,3 +1,4 @@
+
 -- `judge::judge_code` meets its contract: count, commands, next and else in turn. Assumes nothing.
 use Rattle.model.specs.Image.{limits}
 use Rattle.model.specs.Memory.{memory_in}
@@ -8,42 +9,42 @@ use borrow.Author.Rules.{rules}
 use Rattle.judge_record.proofs.judge_code.Statement.{statement}
 use Rattle.judge_record.proofs.judge_code.Tie as tie
 
-returns : tie.Need-returns
+returns : tie.Need-returns-then-held-room
 returns c =
-    let start = c.before.before.before.before in
-    code_over (limits start.args.counts.blocks start.args.counts.commands start.args.counts.nodes) (memory_in start.args.ws.now start.args.val.now start.args.cw.now start.args.bw.now start.args.counts.nodes start.args.counts.commands start.args.counts.blocks) start.args.i start.args.n start.args.m start.args.at _ c.before.short-length.ensures (omega (arith, c.if1.true, start.requires.room))
+    let start = c.before.before.before.before.before in
+    code_over (limits start.args.counts.blocks start.args.counts.commands start.args.counts.nodes) (memory_in start.args.ws.now start.args.val.now start.args.cw.now start.args.bw.now start.args.counts.nodes start.args.counts.commands start.args.counts.blocks) start.args.i start.args.n start.args.m start.args.at _ c.short_length-len.ensures (omega (arith, c.if-held-room.true, start.requires.room))
 
-judge-commands-requires : tie.Need-judge-commands-requires
+judge-commands-requires : tie.Need-judge_commands-a-requires
 judge-commands-requires c κs = (search rules, search rules)
 
-judge-links-requires : tie.Need-judge-links-requires
-judge-links-requires c κs = omega (arith, (good_of c.before.before.before.before.before.judge-commands.ensures c.before.before.before.a.given.1).short, (good_of c.before.before.before.before.before.judge-commands.ensures c.before.before.before.a.given.1).low, c.before.before.before.before.before.before.before.before.short-length.ensures.short, c.before.before.before.before.before.before.before.before.short-length.ensures.low, c.before.before.before.before.before.before.before.before.before.before.before.requires.soon, c.before.before.before.before.before.before.before.before.before.before.before.requires.few, c.before.before.before.before.before.before.before.before.before.before.before.requires.kept.nodes)
+judge-links-requires : tie.Need-judge_links-b-requires
+judge-links-requires c κs = omega (arith, (good_of c.judge_commands-a.ensures c.in-Fine.is).short, (good_of c.judge_commands-a.ensures c.in-Fine.is).low, c.short_length-len.ensures.short, c.short_length-len.ensures.low, c.requires.soon, c.requires.few, c.requires.kept.nodes)
 
-returns-2 : tie.Need-returns-2
+returns-2 : tie.Need-returns-in-Fine-b
 returns-2 c =
-    let start = c.before.before.before.before.before.before.before.before.before.before.before.before.before.before.before in
+    let start = c.before.before.before.before.before.before.before.before.before.before.before.before in
     code_told (limits start.args.counts.blocks start.args.counts.commands start.args.counts.nodes)
     (memory_in start.args.ws.now start.args.val.now start.args.cw.now start.args.bw.now start.args.counts.nodes start.args.counts.commands start.args.counts.blocks) start.args.i start.args.n
-    start.args.m start.args.at _ c.before.before.before.before.before.before.before.before.before.before.before.before.short-length.ensures
-    (omega (arith, c.before.before.before.before.before.before.before.before.before.before.before.if1.false, start.requires.room)) c.before.before.before.before.before.before.before.before.before.judge-commands.ensures
-    c.before.before.before.before.before.before.before.a.given.1 c.before.before.before.judge-links.ensures c.before.b.given.1
+    start.args.m start.args.at _ c.short_length-len.ensures
+    (omega (arith, c.if-held-room.false, start.requires.room)) c.judge_commands-a.ensures
+    c.in-Fine.is c.judge_links-b.ensures c.in-Fine-b.is
 
-returns-3 : tie.Need-returns-3
+returns-3 : tie.Need-returns-in-No-b
 returns-3 c =
-    let start = c.before.before.before.before.before.before.before.before.before.before.before.before.before.before.before in
+    let start = c.before.before.before.before.before.before.before.before.before.before.before.before in
     code_link_no (limits start.args.counts.blocks start.args.counts.commands start.args.counts.nodes)
     (memory_in start.args.ws.now start.args.val.now start.args.cw.now start.args.bw.now start.args.counts.nodes start.args.counts.commands start.args.counts.blocks) start.args.i start.args.n
-    start.args.m start.args.at _ c.before.before.before.before.before.before.before.before.before.before.before.before.short-length.ensures
-    (omega (arith, c.before.before.before.before.before.before.before.before.before.before.before.if1.false, start.requires.room)) c.before.before.before.before.before.before.before.before.before.judge-commands.ensures
-    c.before.before.before.before.before.before.before.a.given.1 c.before.before.before.judge-links.ensures c.before.b2.given.1
+    start.args.m start.args.at _ c.short_length-len.ensures
+    (omega (arith, c.if-held-room.false, start.requires.room)) c.judge_commands-a.ensures
+    c.in-Fine.is c.judge_links-b.ensures c.in-No-b.is
 
-returns-4 : tie.Need-returns-4
+returns-4 : tie.Need-returns-in-No
 returns-4 c =
-    let start = c.before.before.before.before.before.before.before.before.before in
-    code_no (limits start.args.counts.blocks start.args.counts.commands start.args.counts.nodes) (memory_in start.args.ws.now start.args.val.now start.args.cw.now start.args.bw.now start.args.counts.nodes start.args.counts.commands start.args.counts.blocks) start.args.i start.args.n start.args.m start.args.at _ c.before.before.before.before.before.before.short-length.ensures (omega (arith, c.before.before.before.before.before.if1.false, start.requires.room)) c.before.before.before.judge-commands.ensures c.before.a2.given.1
+    let start = c.before.before.before.before.before.before.before.before in
+    code_no (limits start.args.counts.blocks start.args.counts.commands start.args.counts.nodes) (memory_in start.args.ws.now start.args.val.now start.args.cw.now start.args.bw.now start.args.counts.nodes start.args.counts.commands start.args.counts.blocks) start.args.i start.args.n start.args.m start.args.at _ c.short_length-len.ensures (omega (arith, c.if-held-room.false, start.requires.room)) c.judge_commands-a.ensures c.in-No.is
 
-pub judge-code-spec : {M : Type 1} → statement M
-judge-code-spec =
+pub judge_code_spec : {M : Type 1} → statement M
+judge_code_spec =
     tie.close
     (tie.spec
     (λ c. search rules)

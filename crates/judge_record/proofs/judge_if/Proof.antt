@@ -1,3 +1,4 @@
+
 -- `judge::judge_if` meets its contract. Assumes nothing.
 use Rattle.model.specs.Image.{limits}
 use Rattle.model.specs.Memory.{coded_in}
@@ -8,19 +9,19 @@ use borrow.Author.Rules.{rules}
 use Rattle.judge_record.proofs.judge_if.Statement.{statement}
 use Rattle.judge_record.proofs.judge_if.Tie as tie
 
-judge-block-no-requires : tie.Need-judge-block-no-requires
-judge-block-no-requires c κs = omega (arith, c.before.before.before.before.before.before.requires.1.soon, c.before.before.before.before.before.before.requires.1.kept.nodes, (good_of c.before.before.before.before.judge-term.ensures c.before.before.a.given.1).low, (good_of c.before.before.before.before.judge-term.ensures c.before.before.a.given.1).short)
+judge-block-no-requires : tie.Need-judge_block_no-requires
+judge-block-no-requires c κs = omega (arith, c.requires.1.soon, c.requires.1.kept.nodes, (good_of c.judge_term-a.ensures c.in-Fine.is).low, (good_of c.judge_term-a.ensures c.in-Fine.is).short)
 
-returns : tie.Need-returns
+returns : tie.Need-returns-in-Fine
 returns c =
-    let start = c.before.before.before.before.before.before.before in
-    if_told (limits start.args.counts.blocks start.args.counts.commands start.args.counts.nodes) (coded_in start.args.ws.now start.args.val.now start.args.cw.now start.args.counts.nodes start.args.counts.commands) start.args.i start.args.n start.args.at c.before.before.before.before.before.judge-term.ensures c.before.before.before.a.given.1 c.judge-block-no.ensures
+    let start = c.before.before.before.before.before.before in
+    if_told (limits start.args.counts.blocks start.args.counts.commands start.args.counts.nodes) (coded_in start.args.ws.now start.args.val.now start.args.cw.now start.args.counts.nodes start.args.counts.commands) start.args.i start.args.n start.args.at c.judge_term-a.ensures c.in-Fine.is c.judge_block_no.ensures
 
-returns-2 : tie.Need-returns-2
-returns-2 c = if_no (limits c.before.before.before.before.before.args.counts.blocks c.before.before.before.before.before.args.counts.commands c.before.before.before.before.before.args.counts.nodes) (coded_in c.before.before.before.before.before.args.ws.now c.before.before.before.before.before.args.val.now c.before.before.before.before.before.args.cw.now c.before.before.before.before.before.args.counts.nodes c.before.before.before.before.before.args.counts.commands) c.before.before.before.before.before.args.i c.before.before.before.before.before.args.n c.before.before.before.before.before.args.at c.before.before.before.judge-term.ensures c.before.a2.given.1
+returns-2 : tie.Need-returns-in-No
+returns-2 c = if_no (limits c.args.counts.blocks c.args.counts.commands c.args.counts.nodes) (coded_in c.args.ws.now c.args.val.now c.args.cw.now c.args.counts.nodes c.args.counts.commands) c.args.i c.args.n c.args.at c.judge_term-a.ensures c.in-No.is
 
-pub judge-if-spec : {M : Type 1} → statement M
-judge-if-spec =
+pub judge_if_spec : {M : Type 1} → statement M
+judge_if_spec =
     tie.close
     (tie.spec
     (λ c. search rules)

@@ -1,3 +1,4 @@
+
 -- `judge::judge_pair` meets its contract. Assumes nothing.
 use Rattle.model.specs.Image.{limits}
 use Rattle.model.specs.Memory.{nodes_in}
@@ -8,17 +9,17 @@ use borrow.Author.Rules.{rules}
 use Rattle.judge_record.proofs.judge_pair.Statement.{statement}
 use Rattle.judge_record.proofs.judge_pair.Tie as tie
 
-judge-term-requires-2 : tie.Need-judge-term-requires-2
-judge-term-requires-2 c κs = record { kept = c.before.before.before.before.requires.kept; few = (good_of c.before.before.before.judge-term.ensures c.before.a.given.1).low; soon = omega (arith, c.before.before.before.before.requires.soon, (good_of c.before.before.before.judge-term.ensures c.before.a.given.1).short) }
+judge-term-requires-2 : tie.Need-judge_term-requires
+judge-term-requires-2 c κs = record { kept = c.requires.kept; few = (good_of c.judge_term-a.ensures c.in-Fine.is).low; soon = omega (arith, c.requires.soon, (good_of c.judge_term-a.ensures c.in-Fine.is).short) }
 
-returns : tie.Need-returns
-returns c = pair_told (limits c.before.before.before.before.before.args.counts.blocks c.before.before.before.before.before.args.counts.commands c.before.before.before.before.before.args.counts.nodes) (nodes_in c.before.before.before.before.before.args.ws.now c.before.before.before.before.before.args.val.now c.before.before.before.before.before.args.counts.nodes) c.before.before.before.before.before.args.i c.before.before.before.before.before.args.j c.before.before.before.before.before.args.n c.before.before.before.before.before.args.at c.before.before.before.before.judge-term.ensures c.before.before.a.given.1 c.judge-term2.ensures
+returns : tie.Need-returns-in-Fine
+returns c = pair_told (limits c.args.counts.blocks c.args.counts.commands c.args.counts.nodes) (nodes_in c.args.ws.now c.args.val.now c.args.counts.nodes) c.args.i c.args.j c.args.n c.args.at c.judge_term-a.ensures c.in-Fine.is c.judge_term.ensures
 
-returns-2 : tie.Need-returns-2
-returns-2 c = pair_no (limits c.before.before.before.before.args.counts.blocks c.before.before.before.before.args.counts.commands c.before.before.before.before.args.counts.nodes) (nodes_in c.before.before.before.before.args.ws.now c.before.before.before.before.args.val.now c.before.before.before.before.args.counts.nodes) c.before.before.before.before.args.i c.before.before.before.before.args.j c.before.before.before.before.args.n c.before.before.before.before.args.at c.before.before.before.judge-term.ensures c.before.a2.given.1
+returns-2 : tie.Need-returns-in-No
+returns-2 c = pair_no (limits c.args.counts.blocks c.args.counts.commands c.args.counts.nodes) (nodes_in c.args.ws.now c.args.val.now c.args.counts.nodes) c.args.i c.args.j c.args.n c.args.at c.judge_term-a.ensures c.in-No.is
 
-pub judge-pair-spec : {M : Type 1} → statement M
-judge-pair-spec =
+pub judge_pair_spec : {M : Type 1} → statement M
+judge_pair_spec =
     tie.close
     (tie.spec
     (λ c κs. search rules)

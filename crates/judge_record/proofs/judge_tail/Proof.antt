@@ -1,3 +1,4 @@
+
 -- `judge::judge_tail` meets its contract, by the command's code. Assumes nothing.
 use Rattle.model.specs.Image.{limits}
 use Rattle.model.specs.Memory.{coded_in}
@@ -7,32 +8,32 @@ use borrow.Author.Rules.{rules}
 use Rattle.judge_record.proofs.judge_tail.Statement.{statement}
 use Rattle.judge_record.proofs.judge_tail.Tie as tie
 
-judge-set-requires : tie.Need-judge-set-requires
+judge-set-requires : tie.Need-judge_set-requires
 judge-set-requires c κs = (search rules, search rules)
 
-judge-if-requires : tie.Need-judge-if-requires
+judge-if-requires : tie.Need-judge_if-requires
 judge-if-requires c κs = (search rules, search rules)
 
-returns : tie.Need-returns
-returns c = tail_return (limits c.before.args.counts.blocks c.before.args.counts.commands c.before.args.counts.nodes) (coded_in c.before.args.ws.now c.before.args.val.now c.before.args.cw.now c.before.args.counts.nodes c.before.args.counts.commands) c.before.args.i c.before.args.n c.before.args.at c.before.requires.1.few _ c.match.keys1
+returns : tie.Need-returns-in-0
+returns c = tail_return (limits c.args.counts.blocks c.args.counts.commands c.args.counts.nodes) (coded_in c.args.ws.now c.args.val.now c.args.cw.now c.args.counts.nodes c.args.counts.commands) c.args.i c.args.n c.args.at c.requires.1.few _ c.in-0.is
 
-returns-2 : tie.Need-returns-2
-returns-2 c = tail_goto (limits c.before.before.before.args.counts.blocks c.before.before.before.args.counts.commands c.before.before.before.args.counts.nodes) (coded_in c.before.before.before.args.ws.now c.before.before.before.args.val.now c.before.before.before.args.cw.now c.before.before.before.args.counts.nodes c.before.before.before.args.counts.commands) c.before.before.before.args.i c.before.before.before.args.n c.before.before.before.args.at c.before.before.before.requires.1.few c.judge-block-no.ensures _ c.before.before.match.keys2
+returns-2 : tie.Need-returns-in-1
+returns-2 c = tail_goto (limits c.args.counts.blocks c.args.counts.commands c.args.counts.nodes) (coded_in c.args.ws.now c.args.val.now c.args.cw.now c.args.counts.nodes c.args.counts.commands) c.args.i c.args.n c.args.at c.requires.1.few c.judge_block_no.ensures _ c.in-1.is
 
-returns-3 : tie.Need-returns-3
-returns-3 c = rw c.before.match.keys3 c.judge-set.ensures
+returns-3 : tie.Need-returns-in-2
+returns-3 c = rw c.in-2.is c.judge_set.ensures
 
-returns-4 : tie.Need-returns-4
-returns-4 c = rw c.before.match.keys4 c.judge-if.ensures
+returns-4 : tie.Need-returns-in-3
+returns-4 c = rw c.in-3.is c.judge_if.ensures
 
-returns-5 : tie.Need-returns-5
-returns-5 c = tail_end_if (limits c.before.before.before.args.counts.blocks c.before.before.before.args.counts.commands c.before.before.before.args.counts.nodes) (coded_in c.before.before.before.args.ws.now c.before.before.before.args.val.now c.before.before.before.args.cw.now c.before.before.before.args.counts.nodes c.before.before.before.args.counts.commands) c.before.before.before.args.i c.before.before.before.args.n c.before.before.before.args.at c.before.before.before.requires.1.few c.judge-block-no2.ensures _ c.before.before.match.keys5
+returns-5 : tie.Need-returns-in-4
+returns-5 c = tail_end_if (limits c.args.counts.blocks c.args.counts.commands c.args.counts.nodes) (coded_in c.args.ws.now c.args.val.now c.args.cw.now c.args.counts.nodes c.args.counts.commands) c.args.i c.args.n c.args.at c.requires.1.few c.judge_block_no-in-4.ensures _ c.in-4.is
 
-returns-6 : tie.Need-returns-6
-returns-6 c = tail_other (limits c.before.args.counts.blocks c.before.args.counts.commands c.before.args.counts.nodes) (coded_in c.before.args.ws.now c.before.args.val.now c.before.args.cw.now c.before.args.counts.nodes c.before.args.counts.commands) c.before.args.i c.before.args.n c.before.args.at c.before.requires.1.few _ (omega arith)
+returns-6 : tie.Need-returns-in_default
+returns-6 c = tail_other (limits c.args.counts.blocks c.args.counts.commands c.args.counts.nodes) (coded_in c.args.ws.now c.args.val.now c.args.cw.now c.args.counts.nodes c.args.counts.commands) c.args.i c.args.n c.args.at c.requires.1.few _ (omega arith)
 
-pub judge-tail-spec : {M : Type 1} → statement M
-judge-tail-spec =
+pub judge_tail_spec : {M : Type 1} → statement M
+judge_tail_spec =
     tie.close
     (tie.spec
     (λ c. search rules)

@@ -1,16 +1,20 @@
+
 -- `judge::within_limits` meets its contract. Assumes nothing.
 use Rattle.judge_record.specs.Whole.{limits_blocks, limits_commands, limits_nodes}
 use Rattle.judge_record.proofs.within_limits.Statement.{statement}
 use Rattle.judge_record.proofs.within_limits.Tie as tie
 
-returns : tie.Need-returns
-returns c = limits_blocks c.before.before.args.counts c.if1.true
+returns : tie.Need-returns-then-counts-gt-BLOCK_LIMIT
+returns c = limits_blocks c.args.counts c.if-counts-gt-BLOCK_LIMIT.true
 
-returns-2 : tie.Need-returns-2
-returns-2 c = limits_commands c.before.before.before.before.args.counts c.before.before.if1.false c.if2.true
+returns-2 : tie.Need-returns-then-counts-gt-COMMAND_LIMIT
+returns-2 c = limits_commands c.args.counts c.if-counts-gt-BLOCK_LIMIT.false c.if-counts-gt-COMMAND_LIMIT.true
 
-returns-3 : tie.Need-returns-3
-returns-3 c = limits_nodes c.before.before.before.before.before.args.counts c.before.before.before.if1.false c.before.if2.false
+returns-3 : tie.Need-returns
+returns-3 c = limits_nodes c.args.counts c.if-counts-gt-BLOCK_LIMIT.false c.if-counts-gt-COMMAND_LIMIT.false
 
-pub within-limits-spec : {M : Type 1} → statement M
-within-limits-spec = tie.close (tie.spec returns returns-2 returns-3)
+pub within_limits_spec : {M : Type 1} → statement M
+within_limits_spec = tie.close (tie.spec
+    returns
+    returns-2
+    returns-3)

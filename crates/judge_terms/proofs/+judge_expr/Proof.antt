@@ -1,3 +1,4 @@
+
 -- `terms::judge_expr` meets its contract: each return is one law of specs/Nodes.antt, and the number that a node has to be below falls. Assumes nothing.
 use native.Mathlib.Omega.{arith}
 use mir.Syntax.{w32}
@@ -33,146 +34,147 @@ judge-expr-below t =
 abbrev judge-expr-claims : ℕ → judge-expr-lts.Claims
 judge-expr-claims t = (kind-of-reads.Asked, kind-of-reads.Learnt, judge-expr-below t, judge-expr.Post, judge-imm-reads.Asked, judge-imm-reads.Learnt)
 
-judge-expr-returns : (t : ℕ) → judge-expr-lts.Need-returns (judge-expr-claims t) (judge-expr-at t) judge-expr.Post
-judge-expr-returns t c = node_absent (nodes_in c.before.args.ws.now c.before.args.val.now c.before.args.limit) c.before.args.b c.before.args.i c.before.args.limit c.before.args.n c.before.args.at c.before.args.depth c.if1.true
+judge-expr-returns : (t : ℕ) → judge-expr-lts.Need-returns-then-i-b (judge-expr-claims t) (judge-expr-at t) judge-expr.Post
+judge-expr-returns t c = node_absent (nodes_in c.args.ws.now c.args.val.now c.args.limit) c.args.b c.args.i c.args.limit c.args.n c.args.at c.args.depth c.if-i-b.true
 
-judge-expr-returns-2 : (t : ℕ) → judge-expr-lts.Need-returns-2 (judge-expr-claims t) (judge-expr-at t) judge-expr.Post
-judge-expr-returns-2 t c = node_unknown (nodes_in c.before.before.before.args.ws.now c.before.before.before.args.val.now c.before.before.before.args.limit) c.before.before.before.args.b c.before.before.before.args.i c.before.before.before.args.limit c.before.before.before.args.n c.before.before.before.args.at c.before.before.before.args.depth c.before.before.if1.false c.if2.true
+judge-expr-returns-2 : (t : ℕ) → judge-expr-lts.Need-returns-then-c-ge19 (judge-expr-claims t) (judge-expr-at t) judge-expr.Post
+judge-expr-returns-2 t c = node_unknown (nodes_in c.args.ws.now c.args.val.now c.args.limit) c.args.b c.args.i c.args.limit c.args.n c.args.at c.args.depth c.if-i-b.false c.if-c-ge19.true
 
-judge-expr-returns-3 : (t : ℕ) → judge-expr-lts.Need-returns-3 (judge-expr-claims t) (judge-expr-at t) judge-expr.Post
-judge-expr-returns-3 t c = node_over (nodes_in c.before.before.before.before.args.ws.now c.before.before.before.before.args.val.now c.before.before.before.before.args.limit) c.before.before.before.before.args.b c.before.before.before.before.args.i c.before.before.before.before.args.limit c.before.before.before.before.args.n c.before.before.before.before.args.at c.before.before.before.before.args.depth c.before.before.before.if1.false c.before.if2.false c.if3.true
+judge-expr-returns-3 : (t : ℕ) → judge-expr-lts.Need-returns-then-n-limit (judge-expr-claims t) (judge-expr-at t) judge-expr.Post
+judge-expr-returns-3 t c = node_over (nodes_in c.args.ws.now c.args.val.now c.args.limit) c.args.b c.args.i c.args.limit c.args.n c.args.at c.args.depth c.if-i-b.false c.if-c-ge19.false c.if-n-limit.true
 
-judge-expr-returns-4 : (t : ℕ) → judge-expr-lts.Need-returns-4 (judge-expr-claims t) (judge-expr-at t) judge-expr.Post
-judge-expr-returns-4 t c = node_deep (nodes_in c.before.before.before.before.before.args.ws.now c.before.before.before.before.before.args.val.now c.before.before.before.before.before.args.limit) c.before.before.before.before.before.args.b c.before.before.before.before.before.args.i c.before.before.before.before.before.args.limit c.before.before.before.before.before.args.n c.before.before.before.before.before.args.at c.before.before.before.before.before.args.depth c.before.before.before.before.if1.false c.before.before.if2.false c.before.if3.false c.if4.true
+judge-expr-returns-4 : (t : ℕ) → judge-expr-lts.Need-returns-then-depth-ge64 (judge-expr-claims t) (judge-expr-at t) judge-expr.Post
+judge-expr-returns-4 t c = node_deep (nodes_in c.args.ws.now c.args.val.now c.args.limit) c.args.b c.args.i c.args.limit c.args.n c.args.at c.args.depth c.if-i-b.false c.if-c-ge19.false c.if-n-limit.false c.if-depth-ge64.true
 
-judge-expr-judge-expr-requires : (t : ℕ) → judge-expr-lts.Need-judge-expr-requires (judge-expr-claims t) (judge-expr-at t) judge-expr.Post
-judge-expr-judge-expr-requires t c κs = (omega (arith, c.before.before.before.before.before.before.before.before.if1.false, c.before.before.before.before.before.before.before.before.before.requires.0), record { low = omega (arith, c.before.before.before.before.before.before.before.before.if1.false, c.before.before.before.before.before.before.before.before.before.requires.1.low); limit = c.before.before.before.before.before.before.before.before.before.requires.1.limit; levels = omega (arith, c.before.before.before.before.if4.false); few = omega (arith, c.before.before.before.before.before.if3.false); soon = omega (arith, c.before.before.before.before.before.before.before.before.before.requires.1.soon) })
+judge-expr-judge-expr-requires : (t : ℕ) → judge-expr-lts.Need-judge_expr-requires (judge-expr-claims t) (judge-expr-at t) judge-expr.Post
+judge-expr-judge-expr-requires t c κs = (omega (arith, c.if-i-b.false, c.requires.0), record { low = omega (arith, c.if-i-b.false, c.requires.1.low); limit = c.requires.1.limit; levels = omega (arith, c.if-depth-ge64.false); few = omega (arith, c.if-n-limit.false); soon = omega (arith, c.requires.1.soon) })
 
-judge-expr-judge-expr-requires-2 : (t : ℕ) → judge-expr-lts.Need-judge-expr-requires-2 (judge-expr-claims t) (judge-expr-at t) judge-expr.Post
+judge-expr-judge-expr-requires-2 : (t : ℕ) → judge-expr-lts.Need-judge_expr-requires-in-Fine (judge-expr-claims t) (judge-expr-at t) judge-expr.Post
 judge-expr-judge-expr-requires-2 t c κs = (
   omega (
     arith,
-    c.before.before.before.before.before.before.before.before.before.before.before.before.before.if1.false,
-    c.before.before.before.before.before.before.before.before.before.before.before.before.before.before.requires.0,
+    c.if-i-b.false,
+    c.requires.0,
   ),
   record {
     low = omega (
       arith,
-      c.before.before.before.before.before.before.before.before.before.before.before.before.before.if1.false,
-      c.before.before.before.before.before.before.before.before.before.before.before.before.before.before.requires.1.low,
+      c.if-i-b.false,
+      c.requires.1.low,
     );
-    limit = c.before.before.before.before.before.before.before.before.before.before.before.before.before.before.requires.1.limit;
+    limit = c.requires.1.limit;
     levels = omega
-        (arith, c.before.before.before.before.before.before.before.before.before.if4.false);
-    few = (good_of c.before.before.before.before.judge-expr.ensures c.before.before.m.given.1).low;
+        (arith, c.if-depth-ge64.false);
+    few = (good_of c.judge_expr.ensures c.in-Fine.is).low;
     soon = omega (
       arith,
-      c.before.before.before.before.before.before.before.before.before.before.before.before.before.before.requires.1.soon,
-      (good_of c.before.before.before.before.judge-expr.ensures
-          c.before.before.m.given.1).short,
+      c.requires.1.soon,
+      (good_of c.judge_expr.ensures
+          c.in-Fine.is).short,
     );
   },
 )
 
-judge-expr-judge-expr-requires-3 : (t : ℕ) → judge-expr-lts.Need-judge-expr-requires-3 (judge-expr-claims t) (judge-expr-at t) judge-expr.Post
-judge-expr-judge-expr-requires-3 t c κs = (omega (arith, c.before.before.before.before.before.before.before.before.if1.false, c.before.before.before.before.before.before.before.before.before.requires.0), record { low = omega (arith, c.before.before.before.before.before.before.before.before.if1.false, c.before.before.before.before.before.before.before.before.before.requires.1.low); limit = c.before.before.before.before.before.before.before.before.before.requires.1.limit; levels = omega (arith, c.before.before.before.before.if4.false); few = omega (arith, c.before.before.before.before.before.if3.false); soon = omega (arith, c.before.before.before.before.before.before.before.before.before.requires.1.soon) })
+judge-expr-judge-expr-requires-3 : (t : ℕ) → judge-expr-lts.Need-judge_expr-requires-in-One (judge-expr-claims t) (judge-expr-at t) judge-expr.Post
+judge-expr-judge-expr-requires-3 t c κs = (omega (arith, c.if-i-b.false, c.requires.0), record { low = omega (arith, c.if-i-b.false, c.requires.1.low); limit = c.requires.1.limit; levels = omega (arith, c.if-depth-ge64.false); few = omega (arith, c.if-n-limit.false); soon = omega (arith, c.requires.1.soon) })
 
-judge-expr-returns-5 : (t : ℕ) → judge-expr-lts.Need-returns-5 (judge-expr-claims t) (judge-expr-at t) judge-expr.Post
-judge-expr-returns-5 t c = node_two (nodes_in c.before.before.before.before.before.before.before.before.before.before.before.before.before.before.before.args.ws.now
-    c.before.before.before.before.before.before.before.before.before.before.before.before.before.before.before.args.val.now
-    c.before.before.before.before.before.before.before.before.before.before.before.before.before.before.before.args.limit)
-    c.before.before.before.before.before.before.before.before.before.before.before.before.before.before.before.args.b
-    c.before.before.before.before.before.before.before.before.before.before.before.before.before.before.before.args.i
-    c.before.before.before.before.before.before.before.before.before.before.before.before.before.before.before.args.limit
-    c.before.before.before.before.before.before.before.before.before.before.before.before.before.before.before.args.n
-    c.before.before.before.before.before.before.before.before.before.before.before.before.before.before.before.args.at
-    c.before.before.before.before.before.before.before.before.before.before.before.before.before.before.before.args.depth c.before.before.before.before.before.before.before.before.before.kind-of.result
+judge-expr-returns-5 : (t : ℕ) → judge-expr-lts.Need-returns-in-Fine (judge-expr-claims t) (judge-expr-at t) judge-expr.Post
+judge-expr-returns-5 t c = node_two (nodes_in c.args.ws.now
+    c.args.val.now
+    c.args.limit)
+    c.args.b
+    c.args.i
+    c.args.limit
+    c.args.n
+    c.args.at
+    c.args.depth c.kind_of.result
     (record {
-      below = c.before.before.before.before.before.before.before.before.before.before.before.before.before.before.if1.false;
-      known = c.before.before.before.before.before.before.before.before.before.before.before.before.if2.false;
-      room = c.before.before.before.before.before.before.before.before.before.before.before.if3.false;
-      levels = c.before.before.before.before.before.before.before.before.before.before.if4.false;
-      kind = c.before.before.before.before.before.before.before.before.before.kind-of.ensures;
-    }) _ c.before.before.before.before.before.before.before.enum_told.given.1
-    c.before.before.before.before.before.judge-expr.ensures c.before.before.before.m.given.1 c.judge-expr2.ensures
+      below = c.if-i-b.false;
+      known = c.if-c-ge19.false;
+      room = c.if-n-limit.false;
+      levels = c.if-depth-ge64.false;
+      kind = c.kind_of.ensures;
+    }) _ c.in-Two.is
+    c.judge_expr.ensures c.in-Fine.is c.judge_expr-in-Fine.ensures
 
-judge-expr-returns-6 : (t : ℕ) → judge-expr-lts.Need-returns-6 (judge-expr-claims t) (judge-expr-at t) judge-expr.Post
-judge-expr-returns-6 t c = node_two_no (nodes_in c.before.before.before.before.before.before.before.before.before.before.before.before.before.args.ws.now
-    c.before.before.before.before.before.before.before.before.before.before.before.before.before.args.val.now
-    c.before.before.before.before.before.before.before.before.before.before.before.before.before.args.limit)
-    c.before.before.before.before.before.before.before.before.before.before.before.before.before.args.b c.before.before.before.before.before.before.before.before.before.before.before.before.before.args.i
-    c.before.before.before.before.before.before.before.before.before.before.before.before.before.args.limit
-    c.before.before.before.before.before.before.before.before.before.before.before.before.before.args.n c.before.before.before.before.before.before.before.before.before.before.before.before.before.args.at
-    c.before.before.before.before.before.before.before.before.before.before.before.before.before.args.depth c.before.before.before.before.before.before.before.kind-of.result
+judge-expr-returns-6 : (t : ℕ) → judge-expr-lts.Need-returns-in-No (judge-expr-claims t) (judge-expr-at t) judge-expr.Post
+judge-expr-returns-6 t c = node_two_no (nodes_in c.args.ws.now
+    c.args.val.now
+    c.args.limit)
+    c.args.b c.args.i
+    c.args.limit
+    c.args.n c.args.at
+    c.args.depth c.kind_of.result
     (record {
-      below = c.before.before.before.before.before.before.before.before.before.before.before.before.if1.false;
-      known = c.before.before.before.before.before.before.before.before.before.before.if2.false;
+      below = c.if-i-b.false;
+      known = c.if-c-ge19.false;
       room =
-          c.before.before.before.before.before.before.before.before.before.if3.false;
-      levels = c.before.before.before.before.before.before.before.before.if4.false;
-      kind = c.before.before.before.before.before.before.before.kind-of.ensures;
-    }) _ c.before.before.before.before.before.enum_told.given.1 c.before.before.before.judge-expr.ensures c.before.e.given.1
+          c.if-n-limit.false;
+      levels = c.if-depth-ge64.false;
+      kind = c.kind_of.ensures;
+    }) _ c.in-Two.is c.judge_expr.ensures c.in-No.is
 
-judge-expr-returns-7 : (t : ℕ) → judge-expr-lts.Need-returns-7 (judge-expr-claims t) (judge-expr-at t) judge-expr.Post
-judge-expr-returns-7 t c = node_one (nodes_in c.before.before.before.before.before.before.before.before.before.before.args.ws.now
-    c.before.before.before.before.before.before.before.before.before.before.args.val.now c.before.before.before.before.before.before.before.before.before.before.args.limit)
-    c.before.before.before.before.before.before.before.before.before.before.args.b c.before.before.before.before.before.before.before.before.before.before.args.i
-    c.before.before.before.before.before.before.before.before.before.before.args.limit c.before.before.before.before.before.before.before.before.before.before.args.n
-    c.before.before.before.before.before.before.before.before.before.before.args.at c.before.before.before.before.before.before.before.before.before.before.args.depth
-    c.before.before.before.before.kind-of.result (record {
-      below = c.before.before.before.before.before.before.before.before.before.if1.false;
-      known = c.before.before.before.before.before.before.before.if2.false;
-      room = c.before.before.before.before.before.before.if3.false;
-      levels = c.before.before.before.before.before.if4.false;
-      kind = c.before.before.before.before.kind-of.ensures;
+judge-expr-returns-7 : (t : ℕ) → judge-expr-lts.Need-returns-in-One (judge-expr-claims t) (judge-expr-at t) judge-expr.Post
+judge-expr-returns-7 t c = node_one (nodes_in c.args.ws.now
+    c.args.val.now c.args.limit)
+    c.args.b c.args.i
+    c.args.limit c.args.n
+    c.args.at c.args.depth
+    c.kind_of.result (record {
+      below = c.if-i-b.false;
+      known = c.if-c-ge19.false;
+      room = c.if-n-limit.false;
+      levels = c.if-depth-ge64.false;
+      kind = c.kind_of.ensures;
     }) _
-    c.before.before.enum-told2.given.1 c.judge-expr3.ensures
+    c.in-One.is c.judge_expr-in-One.ensures
 
-judge-expr-returns-8 : (t : ℕ) → judge-expr-lts.Need-returns-8 (judge-expr-claims t) (judge-expr-at t) judge-expr.Post
-judge-expr-returns-8 t c = node_imm16 (nodes_in c.before.before.before.before.before.before.before.before.before.before.args.ws.now
-    c.before.before.before.before.before.before.before.before.before.before.args.val.now c.before.before.before.before.before.before.before.before.before.before.args.limit)
-    c.before.before.before.before.before.before.before.before.before.before.args.b c.before.before.before.before.before.before.before.before.before.before.args.i
-    c.before.before.before.before.before.before.before.before.before.before.args.limit c.before.before.before.before.before.before.before.before.before.before.args.n
-    c.before.before.before.before.before.before.before.before.before.before.args.at c.before.before.before.before.before.before.before.before.before.before.args.depth
-    c.before.before.before.before.kind-of.result (record {
-      below = c.before.before.before.before.before.before.before.before.before.if1.false;
-      known = c.before.before.before.before.before.before.before.if2.false;
-      room = c.before.before.before.before.before.before.if3.false;
-      levels = c.before.before.before.before.before.if4.false;
-      kind = c.before.before.before.before.kind-of.ensures;
+judge-expr-returns-8 : (t : ℕ) → judge-expr-lts.Need-returns-in-Imm16 (judge-expr-claims t) (judge-expr-at t) judge-expr.Post
+judge-expr-returns-8 t c = node_imm16 (nodes_in c.args.ws.now
+    c.args.val.now c.args.limit)
+    c.args.b c.args.i
+    c.args.limit c.args.n
+    c.args.at c.args.depth
+    c.kind_of.result (record {
+      below = c.if-i-b.false;
+      known = c.if-c-ge19.false;
+      room = c.if-n-limit.false;
+      levels = c.if-depth-ge64.false;
+      kind = c.kind_of.ensures;
     }) _
-    c.before.before.enum-told3.given.1 (zig_low _ (record { sfits = c.before.judge-imm-arg.given })) (rw (to_z-of_z {w = w32} (record { sfits = c.before.judge-imm-arg.given })) at c.judge-imm.ensures)
+    c.in-Imm16.is (zig_low _ (record { sfits = c.judge_imm-arg-1.given })) (rw (to_z-of_z {w = w32} (record { sfits = c.judge_imm-arg-1.given })) at c.judge_imm.ensures)
 
-judge-expr-returns-9 : (t : ℕ) → judge-expr-lts.Need-returns-9 (judge-expr-claims t) (judge-expr-at t) judge-expr.Post
-judge-expr-returns-9 t c = node_imm32 (nodes_in c.before.before.before.before.before.before.before.before.before.before.args.ws.now
-    c.before.before.before.before.before.before.before.before.before.before.args.val.now c.before.before.before.before.before.before.before.before.before.before.args.limit)
-    c.before.before.before.before.before.before.before.before.before.before.args.b c.before.before.before.before.before.before.before.before.before.before.args.i
-    c.before.before.before.before.before.before.before.before.before.before.args.limit c.before.before.before.before.before.before.before.before.before.before.args.n
-    c.before.before.before.before.before.before.before.before.before.before.args.at c.before.before.before.before.before.before.before.before.before.before.args.depth
-    c.before.before.before.before.kind-of.result (record {
-      below = c.before.before.before.before.before.before.before.before.before.if1.false;
-      known = c.before.before.before.before.before.before.before.if2.false;
-      room = c.before.before.before.before.before.before.if3.false;
-      levels = c.before.before.before.before.before.if4.false;
-      kind = c.before.before.before.before.kind-of.ensures;
+judge-expr-returns-9 : (t : ℕ) → judge-expr-lts.Need-returns-in-Imm32 (judge-expr-claims t) (judge-expr-at t) judge-expr.Post
+judge-expr-returns-9 t c = node_imm32 (nodes_in c.args.ws.now
+    c.args.val.now c.args.limit)
+    c.args.b c.args.i
+    c.args.limit c.args.n
+    c.args.at c.args.depth
+    c.kind_of.result (record {
+      below = c.if-i-b.false;
+      known = c.if-c-ge19.false;
+      room = c.if-n-limit.false;
+      levels = c.if-depth-ge64.false;
+      kind = c.kind_of.ensures;
     }) _
-    c.before.before.enum-told4.given.1 (zig_low _ (record { sfits = c.before.judge-imm-arg2.given })) (rw (to_z-of_z {w = w32} (record { sfits = c.before.judge-imm-arg2.given })) at c.judge-imm2.ensures)
+    c.in-Imm32.is (zig_low _ (record { sfits = c.judge_imm-arg-in-Imm32-1.given })) (rw (to_z-of_z {w = w32} (record { sfits = c.judge_imm-arg-in-Imm32-1.given })) at c.judge_imm-in-Imm32.ensures)
 
-judge-expr-returns-10 : (t : ℕ) → judge-expr-lts.Need-returns-10 (judge-expr-claims t) (judge-expr-at t) judge-expr.Post
-judge-expr-returns-10 t c = node_other (nodes_in c.before.before.before.before.before.before.before.before.args.ws.now c.before.before.before.before.before.before.before.before.args.val.now
-    c.before.before.before.before.before.before.before.before.args.limit) c.before.before.before.before.before.before.before.before.args.b c.before.before.before.before.before.before.before.before.args.i
-    c.before.before.before.before.before.before.before.before.args.limit c.before.before.before.before.before.before.before.before.args.n c.before.before.before.before.before.before.before.before.args.at
-    c.before.before.before.before.before.before.before.before.args.depth c.before.before.kind-of.result
+judge-expr-returns-10 : (t : ℕ) → judge-expr-lts.Need-returns-in-Other (judge-expr-claims t) (judge-expr-at t) judge-expr.Post
+judge-expr-returns-10 t c = node_other (nodes_in c.args.ws.now c.args.val.now
+    c.args.limit) c.args.b c.args.i
+    c.args.limit c.args.n c.args.at
+    c.args.depth c.kind_of.result
     (record {
-      below = c.before.before.before.before.before.before.before.if1.false;
-      known = c.before.before.before.before.before.if2.false;
-      room = c.before.before.before.before.if3.false;
-      levels = c.before.before.before.if4.false;
-      kind = c.before.before.kind-of.ensures;
-    }) c.enum-told5.given.1
+      below = c.if-i-b.false;
+      known = c.if-c-ge19.false;
+      room = c.if-n-limit.false;
+      levels = c.if-depth-ge64.false;
+      kind = c.kind_of.ensures;
+    }) c.in-Other.is
 
-pub +judge-expr-spec : {M : Type 1} → statement M
-+judge-expr-spec = close μ-judge-expr λ t. judge-expr-lts.spec (judge-expr-claims t)
+pub +judge_expr_spec : {M : Type 1} → statement M
++judge_expr_spec = close μ-judge-expr λ t. judge-expr-lts.spec
+    (judge-expr-claims t)
     (judge-expr-at t)
     judge-expr.Post
     (judge-expr-returns t)

@@ -1,3 +1,4 @@
+
 -- `trees::is_shallow` meets its contract: each return is one law of specs/Levels.antt, and the levels that are left fall. Assumes nothing.
 use native.Mathlib.Omega.{arith}
 use borrow.Author.Rules.{rules}
@@ -30,42 +31,43 @@ is-shallow-below t =
 abbrev is-shallow-claims : ℕ → is-shallow-lts.Claims
 is-shallow-claims t = (kind-of-reads.Asked, kind-of-reads.Learnt, index-of-reads.Asked, index-of-reads.Learnt, is-shallow-below t, is-shallow.Post)
 
-is-shallow-returns : (t : ℕ) → is-shallow-lts.Need-returns (is-shallow-claims t) (is-shallow-at t) is-shallow.Post
+is-shallow-returns : (t : ℕ) → is-shallow-lts.Need-returns-then-levels-eq0 (is-shallow-claims t) (is-shallow-at t) is-shallow.Post
 is-shallow-returns t c = λ e. never e
 
-is-shallow-returns-2 : (t : ℕ) → is-shallow-lts.Need-returns-2 (is-shallow-claims t) (is-shallow-at t) is-shallow.Post
+is-shallow-returns-2 : (t : ℕ) → is-shallow-lts.Need-returns-then-i-ge-NODES (is-shallow-claims t) (is-shallow-at t) is-shallow.Post
 is-shallow-returns-2 t c = λ e. never e
 
-is-shallow-returns-3 : (t : ℕ) → is-shallow-lts.Need-returns-3 (is-shallow-claims t) (is-shallow-at t) is-shallow.Post
+is-shallow-returns-3 : (t : ℕ) → is-shallow-lts.Need-returns-then-not-is_shallow (is-shallow-claims t) (is-shallow-at t) is-shallow.Post
 is-shallow-returns-3 t c = λ e. never e
 
-is-shallow-returns-4 : (t : ℕ) → is-shallow-lts.Need-returns-4 (is-shallow-claims t) (is-shallow-at t) is-shallow.Post
+is-shallow-returns-4 : (t : ℕ) → is-shallow-lts.Need-returns-else-not-is_shallow (is-shallow-claims t) (is-shallow-at t) is-shallow.Post
 is-shallow-returns-4 t c =
-    let s = c.before.before.before.before.before.before.before.before.before.before.before.before.before in
-    λ e. shallow_two s.args.ws.now s.args.levels (s.args.levels - 1) s.args.i c.before.before.before.before.before.before.before.before.before.kind-of.ensures (omega (arith, c.before.before.before.before.before.before.before.before.before.before.before.before.if1.false)) c.before.before.before.before.before.before.before.enum_told.given.1 c.before.before.before.before.before.index_of.ensures c.before.index-of2.ensures (c.before.before.before.before.is-shallow.ensures (not-false c.before.before.before.before.is-shallow.result c.before.before.before.if3.false)) (c.is-shallow2.ensures e)
+    let s = c.before.before.before.before.before.before.before.before.before.before.before.before in
+    λ e. shallow_two s.args.ws.now s.args.levels (s.args.levels - 1) s.args.i c.kind_of-kind.ensures (omega (arith, c.if-levels-eq0.false)) c.in-Two.is c.index_of.ensures c.index_of-in-Two.ensures (c.is_shallow.ensures (not-false c.is_shallow.result c.if-not-is_shallow.false)) (c.is_shallow-in-Two.ensures e)
 
-is-shallow-returns-5 : (t : ℕ) → is-shallow-lts.Need-returns-5 (is-shallow-claims t) (is-shallow-at t) is-shallow.Post
+is-shallow-returns-5 : (t : ℕ) → is-shallow-lts.Need-returns-in-One (is-shallow-claims t) (is-shallow-at t) is-shallow.Post
 is-shallow-returns-5 t c =
-    let s = c.before.before.before.before.before.before.before.before.before in
-    λ e. shallow_one s.args.ws.now s.args.levels (s.args.levels - 1) s.args.i c.before.before.before.before.before.kind-of.ensures (omega (arith, c.before.before.before.before.before.before.before.before.if1.false)) c.before.before.before.enum-told2.given.1 c.before.index-of3.ensures (c.is-shallow3.ensures e)
+    let s = c.before.before.before.before.before.before.before.before in
+    λ e. shallow_one s.args.ws.now s.args.levels (s.args.levels - 1) s.args.i c.kind_of-kind.ensures (omega (arith, c.if-levels-eq0.false)) c.in-One.is c.index_of-in-One.ensures (c.is_shallow-in-One.ensures e)
 
-is-shallow-returns-6 : (t : ℕ) → is-shallow-lts.Need-returns-6 (is-shallow-claims t) (is-shallow-at t) is-shallow.Post
+is-shallow-returns-6 : (t : ℕ) → is-shallow-lts.Need-returns-in-Imm16 (is-shallow-claims t) (is-shallow-at t) is-shallow.Post
 is-shallow-returns-6 t c =
-    let s = c.before.before.before.before.before.before in
-    λ e. shallow_imm16 s.args.ws.now s.args.levels (s.args.levels - 1) s.args.i c.before.before.kind-of.ensures (omega (arith, c.before.before.before.before.before.if1.false)) c.enum-told3.given.1
+    let s = c.before.before.before.before.before in
+    λ e. shallow_imm16 s.args.ws.now s.args.levels (s.args.levels - 1) s.args.i c.kind_of-kind.ensures (omega (arith, c.if-levels-eq0.false)) c.in-Imm16.is
 
-is-shallow-returns-7 : (t : ℕ) → is-shallow-lts.Need-returns-7 (is-shallow-claims t) (is-shallow-at t) is-shallow.Post
+is-shallow-returns-7 : (t : ℕ) → is-shallow-lts.Need-returns-in-Imm32 (is-shallow-claims t) (is-shallow-at t) is-shallow.Post
 is-shallow-returns-7 t c =
-    let s = c.before.before.before.before.before.before in
-    λ e. shallow_imm32 s.args.ws.now s.args.levels (s.args.levels - 1) s.args.i c.before.before.kind-of.ensures (omega (arith, c.before.before.before.before.before.if1.false)) c.enum-told4.given.1
+    let s = c.before.before.before.before.before in
+    λ e. shallow_imm32 s.args.ws.now s.args.levels (s.args.levels - 1) s.args.i c.kind_of-kind.ensures (omega (arith, c.if-levels-eq0.false)) c.in-Imm32.is
 
-is-shallow-returns-8 : (t : ℕ) → is-shallow-lts.Need-returns-8 (is-shallow-claims t) (is-shallow-at t) is-shallow.Post
+is-shallow-returns-8 : (t : ℕ) → is-shallow-lts.Need-returns-in-Other (is-shallow-claims t) (is-shallow-at t) is-shallow.Post
 is-shallow-returns-8 t c =
-    let s = c.before.before.before.before.before.before in
-    λ e. shallow_other s.args.ws.now s.args.levels (s.args.levels - 1) s.args.i c.before.before.kind-of.ensures (omega (arith, c.before.before.before.before.before.if1.false)) c.enum-told5.given.1
+    let s = c.before.before.before.before.before in
+    λ e. shallow_other s.args.ws.now s.args.levels (s.args.levels - 1) s.args.i c.kind_of-kind.ensures (omega (arith, c.if-levels-eq0.false)) c.in-Other.is
 
-pub +is-shallow-spec : {M : Type 1} → statement M
-+is-shallow-spec = close μ-is-shallow λ t. is-shallow-lts.spec (is-shallow-claims t)
+pub +is_shallow_spec : {M : Type 1} → statement M
++is_shallow_spec = close μ-is-shallow λ t. is-shallow-lts.spec
+    (is-shallow-claims t)
     (is-shallow-at t)
     is-shallow.Post
     (is-shallow-returns t)

@@ -1,3 +1,4 @@
+
 -- `trees::high_size` meets its contract, by the code. Assumes nothing.
 use mathlib.Core.Path.{refl}
 use mir.Facts.{to_z-of_z}
@@ -8,20 +9,20 @@ use borrow.Author.Rules.{rules}
 use Rattle.judge_trees.proofs.high_size.Statement.{statement}
 use Rattle.judge_trees.proofs.high_size.Tie as tie
 
-returns : tie.Need-returns
-returns c = λ q. leaf c.if2.true refl
+returns : tie.Need-returns-then-code-eq18
+returns c = λ q. leaf c.if-code-eq18.true refl
 
-returns-2 : tie.Need-returns-2
+returns-2 : tie.Need-returns-then-code-gt17
 returns-2 c = λ q. absurd (omega arith)
 
-returns-3 : tie.Need-returns-3
-returns-3 c = λ q. number c.before.before.if3.true (rw (to_z-of_z {w = w32} (record { sfits = c.before.imm32-size-arg.given })) at c.imm32-size.ensures)
+returns-3 : tie.Need-returns-then-code-eq12
+returns-3 c = λ q. number c.if-code-eq12.true (rw (to_z-of_z {w = w32} (record { sfits = c.imm32_size-arg-1.given })) at c.imm32_size.ensures)
 
-returns-4 : tie.Need-returns-4
-returns-4 c = λ q. above (omega arith) (omega arith) (c.above-one.ensures q)
+returns-4 : tie.Need-returns
+returns-4 c = λ q. above (omega arith) (omega arith) (c.above_one.ensures q)
 
-pub high-size-spec : {M : Type 1} → statement M
-high-size-spec =
+pub high_size_spec : {M : Type 1} → statement M
+high_size_spec =
     tie.close
     (tie.spec
     returns

@@ -1,3 +1,4 @@
+
 -- `trees::imm32_size` meets its contract: any number of 32 bits is below the limit. Assumes nothing.
 use Rattle.judge_trees.specs.Codes.{number_32}
 use Rattle.judge_trees.proofs.imm32_size.Statement.{statement}
@@ -6,8 +7,8 @@ use Rattle.judge_trees.proofs.imm32_size.Tie as tie
 returns : tie.Need-returns
 returns c = number_32 _ (c).ranges.z
 
-pub imm32-size-spec : {M : Type 1} → statement M
-imm32-size-spec =
+pub imm32_size_spec : {M : Type 1} → statement M
+imm32_size_spec =
     tie.close
     (tie.spec
     returns)

@@ -1,3 +1,4 @@
+
 -- `trees::measure_trees` meets its contract: the trees below i are told, and what is left falls. Assumes nothing.
 use Rattle.judge_trees.specs.Grown.{Growing, growing_start, growing_before, growing_more, growing_done}
 use Rattle.judge_trees.specs.Trees.{never}
@@ -7,32 +8,32 @@ use borrow.Author.Rules.{rules}
 use Rattle.judge_trees.proofs.measure_trees.Statement.{statement}
 use Rattle.judge_trees.proofs.measure_trees.Tie as tie
 
-abbrev invariant-loop : tie.invariant-loop
+abbrev invariant-loop : tie.invariant-loop-i
 invariant-loop ws val sizes₀ n s₀ i₀ sizes s i = Growing ws val sizes₀ n sizes i s
 
-abbrev decreases-loop : tie.decreases-loop
+abbrev decreases-loop : tie.decreases-loop-i
 decreases-loop ws val sizes₀ n s₀ i₀ sizes s i = n - i
 
-loop-holds : tie.Need-loop-init invariant-loop decreases-loop
-loop-holds c = growing_start c.before.args.ws.now c.before.args.val.now
+loop-holds : tie.Need-loop-i-init invariant-loop decreases-loop
+loop-holds c = growing_start c.args.ws.now c.args.val.now
 
-size-of-requires : tie.Need-size-of-requires invariant-loop decreases-loop
+size-of-requires : tie.Need-size_of-s-requires invariant-loop decreases-loop
 size-of-requires c κs = (omega (arith, c.before.before.before.before.requires.0), growing_before c.before.before.before.before.args.ws.now c.before.before.before.before.args.val.now c.before.before.loop.invariant)
 
-returns : tie.Need-returns invariant-loop decreases-loop
+returns : tie.Need-returns-then-s-ge-NO invariant-loop decreases-loop
 returns c = λ e. never e
 
-cast-sizes : tie.Need-overflow-cast-sizes invariant-loop decreases-loop
-cast-sizes c = omega (arith, (c.before.type_size.ensures (omega (arith, c.if1.false))).few, c.before.before.before.before.before.before.requires.0, c.before.before.before.loop-test.true)
+cast-sizes : tie.Need-overflow_cast-sizes invariant-loop decreases-loop
+cast-sizes c = omega (arith, (c.before.type_size.ensures (omega (arith, c.if-s-ge-NO.false))).few, c.before.before.before.before.before.before.requires.0, c.before.before.before.loop-test.true)
 
-loop-again : tie.Need-loop-preserved invariant-loop decreases-loop
-loop-again c = growing_more c.before.before.before.before.before.before.args.ws.now c.before.before.before.before.before.before.args.val.now c.before.before.before.before.loop.invariant c.before.type_size.result c.before.before.before.before.before.before.requires.1 c.before.before.before.loop-test.true (c.before.type_size.ensures (omega (arith, c.if1.false)))
+loop-again : tie.Need-loop-i-preserved invariant-loop decreases-loop
+loop-again c = growing_more c.before.before.before.before.before.before.args.ws.now c.before.before.before.before.before.before.args.val.now c.before.before.before.before.loop.invariant c.before.type_size.result c.before.before.before.before.before.before.requires.1 c.before.before.before.loop-test.true (c.before.type_size.ensures (omega (arith, c.if-s-ge-NO.false)))
 
-returns-2 : tie.Need-returns-2 invariant-loop decreases-loop
-returns-2 c = λ e. growing_done c.before.before.before.args.ws.now c.before.before.before.args.val.now c.before.loop.invariant c.loop-test.false
+returns-2 : tie.Need-returns invariant-loop decreases-loop
+returns-2 c = λ e. growing_done c.args.ws.now c.args.val.now c.loop-i.invariant c.loop-i-test.false
 
-pub measure-trees-spec : {M : Type 1} → statement M
-measure-trees-spec =
+pub measure_trees_spec : {M : Type 1} → statement M
+measure_trees_spec =
     tie.close
     (tie.spec
     invariant-loop

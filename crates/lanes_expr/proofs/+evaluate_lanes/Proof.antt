@@ -1,3 +1,4 @@
+
 -- `evaluate_lanes` meets its contract: by the kind found at the node, lane by lane. The measure is b, the node whose operand is read. Assumes nothing.
 use Rattle.model.specs.Save.{Save}
 use Rattle.model.specs.Memory.{Nodes, nodes_in, left_at, right_at}
@@ -61,85 +62,86 @@ save t s = reads s.args.items.now s.args.atcs.now s.args.flags.now s.args.times.
 abbrev nodes : (t : ℕ) → Start t → ℕ → Nodes
 nodes t s k = nodes_in s.args.ws.now s.args.val.now k
 
-evaluate-lanes-returns : (t : ℕ) → evaluate-lanes-lts.Need-returns (evaluate-lanes-claims t) (evaluate-lanes-at t) evaluate-lanes.Post
-evaluate-lanes-returns t c = let s = c.before.before.before.before.before in λ k. out_done s.args.w.items s.args.w.atcs (save t s) s.args.vs.now s.args.ls.now s.args.w.lanes (nodes t s k) s.args.b s.args.i c.before.before.if1.true c.stop-lanes.ensures
+evaluate-lanes-returns : (t : ℕ) → evaluate-lanes-lts.Need-returns-then-i-b (evaluate-lanes-claims t) (evaluate-lanes-at t) evaluate-lanes.Post
+evaluate-lanes-returns t c = let s = c.before.before.before.before.before in λ k. out_done s.args.w.items s.args.w.atcs (save t s) s.args.vs.now s.args.ls.now s.args.w.lanes (nodes t s k) s.args.b s.args.i c.if-i-b.true c.stop_lanes.ensures
 
-evaluate-lanes-evaluate-lanes-requires : (t : ℕ) → evaluate-lanes-lts.Need-evaluate-lanes-requires (evaluate-lanes-claims t) (evaluate-lanes-at t) evaluate-lanes.Post
-evaluate-lanes-evaluate-lanes-requires t c κs = let s = c.before.before.before.before.before.before.before.before.before.before.before in
+evaluate-lanes-evaluate-lanes-requires : (t : ℕ) → evaluate-lanes-lts.Need-evaluate_lanes-requires (evaluate-lanes-claims t) (evaluate-lanes-at t) evaluate-lanes.Post
+evaluate-lanes-evaluate-lanes-requires t c κs = let s = c.before.before.before.before.before.before.before.before.before.before in
     let p : s.args.b ≡ t = s.requires.0 in
-    let l = c.before.before.before.before.before.before.before.before.if1.false in (omega (arith, l), (omega (arith, s.requires.1.0, l), s.requires.1.1))
+    let l = c.if-i-b.false in (omega (arith, l), (omega (arith, s.requires.1.0, l), s.requires.1.1))
 
 evaluate-lanes-apply-two-lanes-requires :
-    (t : ℕ) → evaluate-lanes-lts.Need-apply-two-lanes-requires (evaluate-lanes-claims t) (evaluate-lanes-at t) evaluate-lanes.Post
-evaluate-lanes-apply-two-lanes-requires t c κs = c.before.before.before.before.before.before.before.before.before.before.before.before.before.before.before.before.before.before.before.before.requires.1.1.few
+    (t : ℕ) → evaluate-lanes-lts.Need-apply_two_lanes-requires (evaluate-lanes-claims t) (evaluate-lanes-at t) evaluate-lanes.Post
+evaluate-lanes-apply-two-lanes-requires t c κs = c.requires.1.1.few
 
 evaluate-lanes-evaluate-lanes-requires-2 :
-    (t : ℕ) → evaluate-lanes-lts.Need-evaluate-lanes-requires-2 (evaluate-lanes-claims t) (evaluate-lanes-at t) evaluate-lanes.Post
-evaluate-lanes-evaluate-lanes-requires-2 t c κs = let s = c.before.before.before.before.before.before.before.before.before.before.before.before.before.before.before.before.before.before in
+    (t : ℕ) → evaluate-lanes-lts.Need-evaluate_lanes-requires-in-Nothing (evaluate-lanes-claims t) (evaluate-lanes-at t) evaluate-lanes.Post
+evaluate-lanes-evaluate-lanes-requires-2 t c κs = let s = c.before.before.before.before.before.before.before.before.before.before.before.before.before.before.before.before in
     let p : s.args.b ≡ t = s.requires.0 in
-    let l = c.before.before.before.before.before.before.before.before.before.before.before.before.before.before.before.if1.false in (omega (arith, l), (omega (arith, s.requires.1.0, l), s.requires.1.1))
+    let l = c.if-i-b.false in (omega (arith, l), (omega (arith, s.requires.1.0, l), s.requires.1.1))
 
 evaluate-lanes-apply-two-lanes-requires-2 :
-    (t : ℕ) → evaluate-lanes-lts.Need-apply-two-lanes-requires-2 (evaluate-lanes-claims t) (evaluate-lanes-at t) evaluate-lanes.Post
-evaluate-lanes-apply-two-lanes-requires-2 t c κs = c.before.before.before.before.before.before.before.before.before.before.before.before.before.before.before.before.before.before.before.before.before.requires.1.1.few
+    (t : ℕ) → evaluate-lanes-lts.Need-apply_two_lanes-requires-in-Nothing (evaluate-lanes-claims t) (evaluate-lanes-at t) evaluate-lanes.Post
+evaluate-lanes-apply-two-lanes-requires-2 t c κs = c.requires.1.1.few
 
 evaluate-lanes-evaluate-lanes-requires-3 :
-    (t : ℕ) → evaluate-lanes-lts.Need-evaluate-lanes-requires-3 (evaluate-lanes-claims t) (evaluate-lanes-at t) evaluate-lanes.Post
-evaluate-lanes-evaluate-lanes-requires-3 t c κs = let s = c.before.before.before.before.before.before.before.before.before.before.before.before.before.before in
+    (t : ℕ) → evaluate-lanes-lts.Need-evaluate_lanes-requires-in-Nothing-number_below (evaluate-lanes-claims t) (evaluate-lanes-at t) evaluate-lanes.Post
+evaluate-lanes-evaluate-lanes-requires-3 t c κs = let s = c.before.before.before.before.before.before.before.before.before.before.before.before in
     let p : s.args.b ≡ t = s.requires.0 in
-    let l = c.before.before.before.before.before.before.before.before.before.before.before.if1.false in (omega (arith, l), (omega (arith, s.requires.1.0, l), s.requires.1.1))
+    let l = c.if-i-b.false in (omega (arith, l), (omega (arith, s.requires.1.0, l), s.requires.1.1))
 
-evaluate-lanes-stop-each-requires : (t : ℕ) → evaluate-lanes-lts.Need-stop-each-requires (evaluate-lanes-claims t) (evaluate-lanes-at t) evaluate-lanes.Post
-evaluate-lanes-stop-each-requires t c κs = c.before.before.before.before.before.before.before.before.before.before.before.before.before.before.before.before.before.requires.1.1.few
+evaluate-lanes-stop-each-requires : (t : ℕ) → evaluate-lanes-lts.Need-stop_each-requires (evaluate-lanes-claims t) (evaluate-lanes-at t) evaluate-lanes.Post
+evaluate-lanes-stop-each-requires t c κs = c.requires.1.1.few
 
 evaluate-lanes-apply-one-lanes-requires :
-    (t : ℕ) → evaluate-lanes-lts.Need-apply-one-lanes-requires (evaluate-lanes-claims t) (evaluate-lanes-at t) evaluate-lanes.Post
-evaluate-lanes-apply-one-lanes-requires t c κs = c.before.before.before.before.before.before.before.before.before.before.before.before.before.before.before.before.before.before.before.requires.1.1
+    (t : ℕ) → evaluate-lanes-lts.Need-apply_one_lanes-requires (evaluate-lanes-claims t) (evaluate-lanes-at t) evaluate-lanes.Post
+evaluate-lanes-apply-one-lanes-requires t c κs = c.requires.1.1
 
 -- here and below l' and r' are the values and the refusals that the calls left
-evaluate-lanes-returns-2 : (t : ℕ) → evaluate-lanes-lts.Need-returns-2 (evaluate-lanes-claims t) (evaluate-lanes-at t) evaluate-lanes.Post
-evaluate-lanes-returns-2 t c = let s = c.before.before.before.before.before.before.before.before.before.before.before.before.before.before.before.before.before.before.before.before.before in
-    let l = c.before.before.before.before.before.before.before.before.before.evaluate-lanes in
+evaluate-lanes-returns-2 : (t : ℕ) → evaluate-lanes-lts.Need-returns-in-Is (evaluate-lanes-claims t) (evaluate-lanes-at t) evaluate-lanes.Post
+evaluate-lanes-returns-2 t c = let s = c.before.before.before.before.before.before.before.before.before.before.before.before.before.before.before.before.before.before in
+    let l = c.evaluate_lanes in
     let l' = l.new.1.1.1.1.1.1.1.1.1.1.1 in
     λ k. two_done s.args.w.items s.args.w.atcs (save t s) s.args.vs.now s.args.ls.now s.args.w.lanes (nodes t s k) s.args.b s.args.i
-    c.before.before.before.before.before.before.before.before.before.before.before.before.before.before.before.before.before.before.if1.false _ c.before.before.before.before.before.before.before.before.before.before.before.before.before.before.before.kind-of.ensures {rs = s.args.rs.now} {rs₁ = l'.1.0} {rs₂ = l'.1.0} {xs = l'.0} _ c.before.before.before.before.before.before.before.before.before.before.before.before.before.o.given.1 (l.ensures k)
-    (same_done s.args.w.items s.args.w.atcs (save t s) s.args.vs.now s.args.ls.now s.args.w.lanes (nodes t s k) s.args.b s.args.i {rs = l'.1.0} _ (imm_found (tree_below (nodes t s k) s.args.i (right_at (nodes t s k) s.args.i)) (to_z-of_z {w = w32} (record { sfits = c.before.before.before.before.known-told2.given.0.1 })) c.before.before.before.before.before.z.given.1 (c.before.before.before.before.before.before.before.number-below.ensures k)) s.requires.1.1.few c.before.before.before.repeated.ensures)
-    c.apply-two-lanes.ensures
+    c.if-i-b.false _ c.kind_of.ensures {rs = s.args.rs.now} {rs₁ = l'.1.0} {rs₂ = l'.1.0} {xs = l'.0} _ c.in-Two.is (l.ensures k)
+    (same_done s.args.w.items s.args.w.atcs (save t s) s.args.vs.now s.args.ls.now s.args.w.lanes (nodes t s k) s.args.b s.args.i {rs = l'.1.0} _ (imm_found (tree_below (nodes t s k) s.args.i (right_at (nodes t s k) s.args.i)) (to_z-of_z {w = w32} (record { sfits = c.in-Is.known_told-in-Is-1-own.given.0.1 })) c.in-Is.is (c.number_below.ensures k)) s.requires.1.1.few c.repeated.ensures)
+    c.apply_two_lanes.ensures
 
-evaluate-lanes-returns-3 : (t : ℕ) → evaluate-lanes-lts.Need-returns-3 (evaluate-lanes-claims t) (evaluate-lanes-at t) evaluate-lanes.Post
-evaluate-lanes-returns-3 t c = let s = c.before.before.before.before.before.before.before.before.before.before.before.before.before.before.before.before.before.before.before.before.before.before in
-    let l = c.before.before.before.before.before.before.before.before.before.before.evaluate-lanes in
+evaluate-lanes-returns-3 : (t : ℕ) → evaluate-lanes-lts.Need-returns-in-Nothing (evaluate-lanes-claims t) (evaluate-lanes-at t) evaluate-lanes.Post
+evaluate-lanes-returns-3 t c = let s = c.before.before.before.before.before.before.before.before.before.before.before.before.before.before.before.before.before.before.before.before in
+    let l = c.evaluate_lanes in
     let l' = l.new.1.1.1.1.1.1.1.1.1.1.1 in
-    let r = c.before.before.before.evaluate-lanes2 in
+    let r = c.evaluate_lanes-in-Nothing in
     let r' = r.new.1.1.1.1.1.1.1.1.1.1.1 in
     λ k. two_done s.args.w.items s.args.w.atcs (save t s) s.args.vs.now s.args.ls.now s.args.w.lanes (nodes t s k) s.args.b s.args.i
-    c.before.before.before.before.before.before.before.before.before.before.before.before.before.before.before.before.before.before.before.if1.false _ c.before.before.before.before.before.before.before.before.before.before.before.before.before.before.before.before.kind-of.ensures {rs = s.args.rs.now} {rs₁ = l'.1.0} {rs₂ = r'.1.0} {xs = l'.0} {ys = r'.0} _ c.before.before.before.before.before.before.before.before.before.before.before.before.before.before.o.given.1 (l.ensures k) (r.ensures k) c.apply-two-lanes2.ensures
+    c.if-i-b.false _ c.kind_of.ensures {rs = s.args.rs.now} {rs₁ = l'.1.0} {rs₂ = r'.1.0} {xs = l'.0} {ys = r'.0} _ c.in-Two.is (l.ensures k) (r.ensures k) c.apply_two_lanes-in-Nothing.ensures
 
-evaluate-lanes-returns-4 : (t : ℕ) → evaluate-lanes-lts.Need-returns-4 (evaluate-lanes-claims t) (evaluate-lanes-at t) evaluate-lanes.Post
-evaluate-lanes-returns-4 t c = let s = c.before.before.before.before.before.before.before.before.before.before.before.before.before.before.before.before.before in
+evaluate-lanes-returns-4 : (t : ℕ) → evaluate-lanes-lts.Need-returns-in-Is-number_below (evaluate-lanes-claims t) (evaluate-lanes-at t) evaluate-lanes.Post
+evaluate-lanes-returns-4 t c = let s = c.before.before.before.before.before.before.before.before.before.before.before.before.before.before in
     λ k. number_done s.args.w.items s.args.w.atcs (save t s) s.args.vs.now s.args.ls.now s.args.w.lanes (nodes t s k) s.args.b s.args.i
-    c.before.before.before.before.before.before.before.before.before.before.before.before.before.before.if1.false _ c.before.before.before.before.before.before.before.before.before.before.before.kind-of.ensures _ _ c.before.before.before.before.before.before.before.before.before.o2.given.1 (imm_found (tree_below (nodes t s k) s.args.i (left_at (nodes t s k) s.args.i)) (to_z-of_z {w = w32} (record { sfits = c.before.before.before.before.known-told4.given.0.1 })) c.before.before.before.before.before.z2.given.1 (c.before.before.before.before.before.before.before.number-below2.ensures k)) c.before.before.stop-same.ensures c.apply-same-lanes.ensures
+    c.if-i-b.false _ c.kind_of.ensures _ _ c.in-One.is (imm_found (tree_below (nodes t s k) s.args.i (left_at (nodes t s k) s.args.i)) (to_z-of_z {w = w32} (record { sfits = c.in-Is-number_below.known_told-in-Is-number_below-2-1-own.given.0.1 })) c.in-Is-number_below.is (c.number_below-in-One.ensures k)) c.stop_same.ensures c.apply_same_lanes.ensures
 
-evaluate-lanes-returns-5 : (t : ℕ) → evaluate-lanes-lts.Need-returns-5 (evaluate-lanes-claims t) (evaluate-lanes-at t) evaluate-lanes.Post
-evaluate-lanes-returns-5 t c = let s = c.before.before.before.before.before.before.before.before.before.before.before.before.before.before.before.before.before.before.before.before in
-    let l = c.before.before.before.before.before.evaluate-lanes3 in
+evaluate-lanes-returns-5 : (t : ℕ) → evaluate-lanes-lts.Need-returns-in-Nothing-number_below (evaluate-lanes-claims t) (evaluate-lanes-at t) evaluate-lanes.Post
+evaluate-lanes-returns-5 t c = let s = c.before.before.before.before.before.before.before.before.before.before.before.before.before.before.before.before.before in
+    let l = c.evaluate_lanes-in-Nothing-number_below in
     let l' = l.new.1.1.1.1.1.1.1.1.1.1.1 in
     λ k. one_done s.args.w.items s.args.w.atcs (save t s) s.args.vs.now s.args.ls.now s.args.w.lanes (nodes t s k) s.args.b s.args.i
-    c.before.before.before.before.before.before.before.before.before.before.before.before.before.before.before.before.before.if1.false _ c.before.before.before.before.before.before.before.before.before.before.before.before.before.before.kind-of.ensures {rs = s.args.rs.now} {rs₁ = l'.1.0} {xs = l'.0} _ c.before.before.before.before.before.before.before.before.before.before.before.before.o2.given.1 (l.ensures k) c.before.before.stop-each.ensures c.apply-one-lanes.ensures
+    c.if-i-b.false _ c.kind_of.ensures {rs = s.args.rs.now} {rs₁ = l'.1.0} {xs = l'.0} _ c.in-One.is (l.ensures k) c.stop_each.ensures c.apply_one_lanes.ensures
 
-evaluate-lanes-returns-6 : (t : ℕ) → evaluate-lanes-lts.Need-returns-6 (evaluate-lanes-claims t) (evaluate-lanes-at t) evaluate-lanes.Post
+evaluate-lanes-returns-6 : (t : ℕ) → evaluate-lanes-lts.Need-returns-in-Imm16 (evaluate-lanes-claims t) (evaluate-lanes-at t) evaluate-lanes.Post
 evaluate-lanes-returns-6 t c = let s = c.before.before.before.before.before.before.before.before.before.before.before in λ k. imm16_done s.args.w.items s.args.w.atcs (save t s) s.args.vs.now s.args.ls.now s.args.w.lanes (nodes t s k) s.args.b s.args.i
-    c.before.before.before.before.before.before.before.before.if1.false _ c.before.before.before.before.before.kind-of.ensures c.before.before.before.enum-told3.given.1 (to_z-of_z {w = w32} (record { sfits = c.before.before.fill-arg.given })) c.fill.ensures
+    c.if-i-b.false _ c.kind_of.ensures c.in-Imm16.is (to_z-of_z {w = w32} (record { sfits = c.fill-arg-1.given })) c.fill.ensures
 
-evaluate-lanes-returns-7 : (t : ℕ) → evaluate-lanes-lts.Need-returns-7 (evaluate-lanes-claims t) (evaluate-lanes-at t) evaluate-lanes.Post
+evaluate-lanes-returns-7 : (t : ℕ) → evaluate-lanes-lts.Need-returns-in-Imm32 (evaluate-lanes-claims t) (evaluate-lanes-at t) evaluate-lanes.Post
 evaluate-lanes-returns-7 t c = let s = c.before.before.before.before.before.before.before.before.before.before.before in λ k. imm32_done s.args.w.items s.args.w.atcs (save t s) s.args.vs.now s.args.ls.now s.args.w.lanes (nodes t s k) s.args.b s.args.i
-    c.before.before.before.before.before.before.before.before.if1.false _ c.before.before.before.before.before.kind-of.ensures c.before.before.before.enum-told4.given.1 (to_z-of_z {w = w32} (record { sfits = c.before.before.fill-arg3.given })) c.fill2.ensures
+    c.if-i-b.false _ c.kind_of.ensures c.in-Imm32.is (to_z-of_z {w = w32} (record { sfits = c.fill-arg-in-Imm32-1.given })) c.fill-in-Imm32.ensures
 
-evaluate-lanes-returns-8 : (t : ℕ) → evaluate-lanes-lts.Need-returns-8 (evaluate-lanes-claims t) (evaluate-lanes-at t) evaluate-lanes.Post
-evaluate-lanes-returns-8 t c = let s = c.before.before.before.before.before.before.before.before.before.before in λ k. other_done s.args.w.items s.args.w.atcs (save t s) s.args.vs.now s.args.ls.now s.args.w.lanes (nodes t s k) s.args.b s.args.i c.before.before.before.before.before.before.before.if1.false _ c.before.before.before.before.kind-of.ensures c.before.before.enum-told5.given.1 c.stop-lanes2.ensures
+evaluate-lanes-returns-8 : (t : ℕ) → evaluate-lanes-lts.Need-returns-in-Other (evaluate-lanes-claims t) (evaluate-lanes-at t) evaluate-lanes.Post
+evaluate-lanes-returns-8 t c = let s = c.before.before.before.before.before.before.before.before.before.before in λ k. other_done s.args.w.items s.args.w.atcs (save t s) s.args.vs.now s.args.ls.now s.args.w.lanes (nodes t s k) s.args.b s.args.i c.if-i-b.false _ c.kind_of.ensures c.in-Other.is c.stop_lanes-in-Other.ensures
 
-pub +evaluate-lanes-spec : {M : Type 1} → statement M
-+evaluate-lanes-spec = close μ-evaluate-lanes λ t. evaluate-lanes-lts.spec (evaluate-lanes-claims t)
+pub +evaluate_lanes_spec : {M : Type 1} → statement M
++evaluate_lanes_spec = close μ-evaluate-lanes λ t. evaluate-lanes-lts.spec
+    (evaluate-lanes-claims t)
     (evaluate-lanes-at t)
     evaluate-lanes.Post
     (λ c κs. search rules)

@@ -1,3 +1,4 @@
+
 -- `apply_in` meets its contract: each arm is its operator. Assumes nothing.
 use mathlib.Core.Path.{◌≡◌, ◌∙◌}
 use lib.IntN.{ℤ}
@@ -16,26 +17,26 @@ arm : (c : tie.Start) (r : ℤ) (p : Op1) → SFits w32 r → c.args.o ≡ p →
     → to_z w32 (of_z w32 r) ≡ apply_in c.args.w.items c.args.w.atcs (value.reads c.args.items.now c.args.atcs.now c.args.flags.now c.args.times.now) c.args.vs.now c.args.o c.args.l c.args.x
 arm c r p f e q = to_z-of_z f ∙ q ∙ rw e
 
-returns : tie.Need-returns
-returns c = arm c.before.before.before.before.before _ _ (record { sfits = c.apply-two.type-inv }) c.before.enum_told.given.1 (rw (to_z-of_z c.before.before.before.before.before.ranges.x) at c.apply-two.ensures)
+returns : tie.Need-returns-in-Not
+returns c = arm c.before.before.before.before _ _ (record { sfits = c.apply_two.type_inv }) c.in-Not.is (rw (to_z-of_z c.ranges.x) at c.apply_two.ensures)
 
-returns-2 : tie.Need-returns-2
-returns-2 c = arm c.before.before.before.before.before _ _ (record { sfits = c.byte-in.type-inv }) c.before.enum-told2.given.1 (rw (to_z-of_z c.before.before.before.before.before.ranges.x) at c.byte-in.ensures)
+returns-2 : tie.Need-returns-in-Flag
+returns-2 c = arm c.before.before.before.before _ _ (record { sfits = c.byte_in.type_inv }) c.in-Flag.is (rw (to_z-of_z c.ranges.x) at c.byte_in.ensures)
 
-returns-3 : tie.Need-returns-3
-returns-3 c = arm c.before.before.before.before.before _ _ (record { sfits = c.number_in.type-inv }) c.before.enum-told3.given.1 (rw (to_z-of_z c.before.before.before.before.before.ranges.x) at c.number_in.ensures)
+returns-3 : tie.Need-returns-in-Variable
+returns-3 c = arm c.before.before.before.before _ _ (record { sfits = c.number_in.type_inv }) c.in-Variable.is (rw (to_z-of_z c.ranges.x) at c.number_in.ensures)
 
-returns-4 : tie.Need-returns-4
-returns-4 c = arm c.before.before.before.before.before _ _ (record { sfits = c.short-in.type-inv }) c.before.enum-told4.given.1 (rw (to_z-of_z c.before.before.before.before.before.ranges.x) at c.short-in.ensures)
+returns-4 : tie.Need-returns-in-Item
+returns-4 c = arm c.before.before.before.before _ _ (record { sfits = c.short_in.type_inv }) c.in-Item.is (rw (to_z-of_z c.ranges.x) at c.short_in.ensures)
 
-returns-5 : tie.Need-returns-5
-returns-5 c = arm c.before.before.before.before.before _ _ (record { sfits = c.byte-in2.type-inv }) c.before.enum-told5.given.1 (rw (to_z-of_z c.before.before.before.before.before.ranges.x) at c.byte-in2.ensures)
+returns-5 : tie.Need-returns-in-Atc
+returns-5 c = arm c.before.before.before.before _ _ (record { sfits = c.byte_in-in-Atc.type_inv }) c.in-Atc.is (rw (to_z-of_z c.ranges.x) at c.byte_in-in-Atc.ensures)
 
-returns-6 : tie.Need-returns-6
-returns-6 c = arm c.before.before.before.before.before _ _ (record { sfits = c.short-in2.type-inv }) c.before.enum-told6.given.1 (rw (to_z-of_z c.before.before.before.before.before.ranges.x) at c.short-in2.ensures)
+returns-6 : tie.Need-returns-in-Time
+returns-6 c = arm c.before.before.before.before _ _ (record { sfits = c.short_in-in-Time.type_inv }) c.in-Time.is (rw (to_z-of_z c.ranges.x) at c.short_in-in-Time.ensures)
 
-pub apply-in-spec : {M : Type 1} → statement M
-apply-in-spec =
+pub apply_in_spec : {M : Type 1} → statement M
+apply_in_spec =
     tie.close
     (tie.spec
     (λ c. search rules)

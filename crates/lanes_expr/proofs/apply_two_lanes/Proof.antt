@@ -1,3 +1,4 @@
+
 -- `apply_two_lanes` meets its contract: each arm's loop has the operator of the arm. Assumes nothing.
 use mathlib.Core.Path.{◌≡◌}
 use mathlib.Core.List.{List}
@@ -15,38 +16,38 @@ use Rattle.lanes_expr.proofs.apply_two_lanes.Tie as tie
 arm : {o p : Op2} {s : ℕ} {xs xs' : List ℤ} (ys : List ℤ) → o ≡ p → Each (pos 0) (λ j x. apply2 p x (get_or ys j (pos 0))) s xs xs' → Each (pos 0) (λ j x. apply2 o x (get_or ys j (pos 0))) s xs xs'
 arm ys e h = rw e h
 
-returns : tie.Need-returns
-returns c = arm c.before.before.before.before.args.right.now c.before.before.enum_told.given.1 c.two-each.ensures
+returns : tie.Need-returns-in-Equal
+returns c = arm c.args.right.now c.in-Equal.is c.two_each.ensures
 
-returns-2 : tie.Need-returns-2
-returns-2 c = arm c.before.before.before.before.args.right.now c.before.before.enum-told2.given.1 c.two-each2.ensures
+returns-2 : tie.Need-returns-in-NotEqual
+returns-2 c = arm c.args.right.now c.in-NotEqual.is c.two_each-in-NotEqual.ensures
 
-returns-3 : tie.Need-returns-3
-returns-3 c = arm c.before.before.before.before.args.right.now c.before.before.enum-told3.given.1 c.two-each3.ensures
+returns-3 : tie.Need-returns-in-Less
+returns-3 c = arm c.args.right.now c.in-Less.is c.two_each-in-Less.ensures
 
-returns-4 : tie.Need-returns-4
-returns-4 c = arm c.before.before.before.before.args.right.now c.before.before.enum-told4.given.1 c.two-each4.ensures
+returns-4 : tie.Need-returns-in-LessEqual
+returns-4 c = arm c.args.right.now c.in-LessEqual.is c.two_each-in-LessEqual.ensures
 
-returns-5 : tie.Need-returns-5
-returns-5 c = arm c.before.before.before.before.args.right.now c.before.before.enum-told5.given.1 c.two-each5.ensures
+returns-5 : tie.Need-returns-in-Greater
+returns-5 c = arm c.args.right.now c.in-Greater.is c.two_each-in-Greater.ensures
 
-returns-6 : tie.Need-returns-6
-returns-6 c = arm c.before.before.before.before.args.right.now c.before.before.enum-told6.given.1 c.two-each6.ensures
+returns-6 : tie.Need-returns-in-GreaterEqual
+returns-6 c = arm c.args.right.now c.in-GreaterEqual.is c.two_each-in-GreaterEqual.ensures
 
-returns-7 : tie.Need-returns-7
-returns-7 c = arm c.before.before.before.before.args.right.now c.before.before.enum-told7.given.1 c.two-each7.ensures
+returns-7 : tie.Need-returns-in-Add
+returns-7 c = arm c.args.right.now c.in-Add.is c.two_each-in-Add.ensures
 
-returns-8 : tie.Need-returns-8
-returns-8 c = arm c.before.before.before.before.args.right.now c.before.before.enum-told8.given.1 c.two-each8.ensures
+returns-8 : tie.Need-returns-in-Subtract
+returns-8 c = arm c.args.right.now c.in-Subtract.is c.two_each-in-Subtract.ensures
 
-returns-9 : tie.Need-returns-9
-returns-9 c = arm c.before.before.before.before.args.right.now c.before.before.enum-told9.given.1 c.two-each9.ensures
+returns-9 : tie.Need-returns-in-BitAnd
+returns-9 c = arm c.args.right.now c.in-BitAnd.is c.two_each-in-BitAnd.ensures
 
-returns-10 : tie.Need-returns-10
-returns-10 c = arm c.before.before.before.before.args.right.now c.before.before.enum-told10.given.1 c.two-each10.ensures
+returns-10 : tie.Need-returns-in-BitOr
+returns-10 c = arm c.args.right.now c.in-BitOr.is c.two_each-in-BitOr.ensures
 
-pub apply-two-lanes-spec : {M : Type 1} → statement M
-apply-two-lanes-spec =
+pub apply_two_lanes_spec : {M : Type 1} → statement M
+apply_two_lanes_spec =
     tie.close
     (tie.spec
     (λ c. search rules)

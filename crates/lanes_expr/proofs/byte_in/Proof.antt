@@ -1,3 +1,4 @@
+
 -- `byte_in` meets its contract: the place read is that of the element in the lane's part. Assumes nothing.
 use mathlib.Core.Path.{sym, ◌∙◌}
 use mir.Syntax.{w32}
@@ -8,17 +9,17 @@ use borrow.Author.Rules.{rules}
 use Rattle.lanes_expr.proofs.byte_in.Statement.{statement}
 use Rattle.lanes_expr.proofs.byte_in.Tie as tie
 
-shared-slice-read-signed-of : tie.Need-shared-slice-read-signed-of
-shared-slice-read-signed-of c = let p = placed _ _ c.before.before.before.before.before.before.args.x c.before.before.p.given.0.0 (sym c.before.before.p.given.1 ∙ (rw (to_z-of_z c.before.before.before.before.before.before.ranges.x) at c.before.before.before.before.IsPlace-in.ensures)) in omega (arith, c.before.before.before.before.before.before.requires)
+shared-slice-read-signed-of : tie.Need-bounds-list-i
+shared-slice-read-signed-of c = let p = placed _ _ c.args.x c.in-At.i (sym c.in-At.is ∙ (rw (to_z-of_z c.ranges.x) at c.before.before.before.before.IsPlace-in.ensures)) in omega (arith, c.requires)
 
-returns : tie.Need-returns
-returns c = to_z-of_z {w = w32} (record { sfits = c.Signed-of.type-inv }) ∙ c.Signed-of.ensures ∙ nat_placed c.before.before.before.before.before.before.before.args.list.now (placed _ _ c.before.before.before.before.before.before.before.args.x c.before.before.before.p.given.0.0 (sym c.before.before.before.p.given.1 ∙ (rw (to_z-of_z c.before.before.before.before.before.before.before.ranges.x) at c.before.before.before.before.before.IsPlace-in.ensures)))
+returns : tie.Need-returns-in-At
+returns c = to_z-of_z {w = w32} (record { sfits = c.signed_of.type_inv }) ∙ c.signed_of.ensures ∙ nat_placed c.args.list.now (placed _ _ c.args.x c.in-At.i (sym c.in-At.is ∙ (rw (to_z-of_z c.ranges.x) at c.before.before.before.before.before.IsPlace-in.ensures)))
 
-returns-2 : tie.Need-returns-2
-returns-2 c = nat_past _ _ c.before.before.before.before.args.x c.before.before.before.before.args.list.now (sym c.enum_told.given.1 ∙ (rw (to_z-of_z c.before.before.before.before.ranges.x) at c.before.before.IsPlace-in.ensures))
+returns-2 : tie.Need-returns-in-Nothing
+returns-2 c = nat_past _ _ c.args.x c.args.list.now (sym c.in-Nothing.is ∙ (rw (to_z-of_z c.ranges.x) at c.before.before.IsPlace-in.ensures))
 
-pub byte-in-spec : {M : Type 1} → statement M
-byte-in-spec =
+pub byte_in_spec : {M : Type 1} → statement M
+byte_in_spec =
     tie.close
     (tie.spec
     (λ c κs. search rules)

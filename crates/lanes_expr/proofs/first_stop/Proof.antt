@@ -1,3 +1,4 @@
+
 -- `first_stop` meets its contract: a refusal that is not 0 stands. Assumes nothing.
 use mathlib.Core.Path.{◌≡◌, refl}
 use Prim.Native.Nat.{ℕ, zero, suc}
@@ -10,8 +11,10 @@ stands : (a r : ℕ) → (a ≡ 0 → ⊥) → a ≡ first_of2 a r
 stands zero r d = absurd (d refl)
 stands (suc a) r d = refl
 
-returns-2 : tie.Need-returns-2
-returns-2 c = stands _ _ c.if1.false
+returns-2 : tie.Need-returns
+returns-2 c = stands _ _ c.if-a-eq0.false
 
-pub first-stop-spec : {M : Type 1} → statement M
-first-stop-spec = tie.close (tie.spec (λ c. search rules) returns-2)
+pub first_stop_spec : {M : Type 1} → statement M
+first_stop_spec = tie.close (tie.spec
+    (λ c. search rules)
+    returns-2)

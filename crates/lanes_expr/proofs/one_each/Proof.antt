@@ -1,3 +1,4 @@
+
 -- `one_each` meets its contract. The loop's invariant: the operator was applied at the first j places. Assumes nothing.
 use lib.IntN.{pos}
 use mir.Syntax.{w32}
@@ -13,26 +14,26 @@ use borrow.Author.Rules.{rules}
 use Rattle.lanes_expr.proofs.one_each.Statement.{statement}
 use Rattle.lanes_expr.proofs.one_each.Tie as tie
 
-abbrev invariant-loop : tie.invariant-loop
+abbrev invariant-loop : tie.invariant-loop-j
 invariant-loop o ls w items atcs flags times vs xs₀ -all j₀ xs j = (j ≤ w.lanes) × Each (pos 0) (λ j x. apply_in w.items w.atcs (value.reads items atcs flags times) vs o (get_or ls j 0) x) j xs₀ xs
 
-abbrev decreases-loop : tie.decreases-loop
+abbrev decreases-loop : tie.decreases-loop-j
 decreases-loop o ls w items atcs flags times vs xs₀ -all j₀ xs j = w.lanes - j
 
-loop-holds : tie.Need-loop-init invariant-loop decreases-loop
+loop-holds : tie.Need-loop-j-init invariant-loop decreases-loop
 loop-holds c = (omega arith, each_none _ _ _)
 
-apply-in-requires : tie.Need-apply-in-requires invariant-loop decreases-loop
-apply-in-requires c κs = rw c.before.lane_of.ensures (c.before.before.before.before.before.before.before.before.before.before.requires.lie c.before.before.before.before.before.loop.j c.before.before.before.if1.true)
+apply-in-requires : tie.Need-apply_in-z-requires invariant-loop decreases-loop
+apply-in-requires c κs = rw c.lane_of-l.ensures (c.requires.lie c.loop-j.j c.loop-j-test.true)
 
-loop-again : tie.Need-loop-preserved invariant-loop decreases-loop
-loop-again c = (omega arith, each_more c.before.before.before.before.before.before.loop.invariant.1 (omega (arith, c.before.before.before.before.before.before.before.known.ensures, c.before.before.before.before.before.before.before.before.before.before.before.requires.few)) (to_z-of_z {w = w32} (record { sfits = c.apply-in.type-inv }) ∙ (rw (to_z-of_z {w = w32} (record { sfits = c.before.x.given }), c.before.before.lane_of.ensures) at c.apply-in.ensures)))
+loop-again : tie.Need-loop-j-preserved invariant-loop decreases-loop
+loop-again c = (omega arith, each_more c.loop-j.invariant.1 (omega (arith, c.known-all.ensures, c.requires.few)) (to_z-of_z {w = w32} (record { sfits = c.apply_in-z.type_inv }) ∙ (rw (to_z-of_z {w = w32} (record { sfits = c.x-1.given }), c.lane_of-l.ensures) at c.apply_in-z.ensures)))
 
 returns : tie.Need-returns invariant-loop decreases-loop
-returns c = each_all c.before.before.loop.invariant.1 c.before.before.loop.invariant.0 c.if1.false
+returns c = each_all c.loop-j.invariant.1 c.loop-j.invariant.0 c.loop-j-test.false
 
-pub one-each-spec : {M : Type 1} → statement M
-one-each-spec =
+pub one_each_spec : {M : Type 1} → statement M
+one_each_spec =
     tie.close
     (tie.spec
     invariant-loop

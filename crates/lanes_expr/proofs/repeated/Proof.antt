@@ -1,3 +1,4 @@
+
 -- `repeated` meets its contract. Assumes nothing.
 use lib.IntN.{ℤ}
 use lib.ListN.{replicate}
@@ -9,5 +10,6 @@ use Rattle.lanes_expr.proofs.repeated.Tie as tie
 returns : tie.Need-returns
 returns c = ap (λ (x : ℤ). replicate 64 x) (to_z-of_z c.ranges.z)
 
-pub repeated-spec : {M : Type 1} → statement M
-repeated-spec = tie.close (tie.spec returns)
+pub repeated_spec : {M : Type 1} → statement M
+repeated_spec = tie.close (tie.spec
+    returns)

@@ -1,3 +1,4 @@
+
 -- `same_bytes` meets its contract. The loop's invariant: the first j lanes were read. Assumes nothing.
 use lib.IntN.{pos}
 use mir.Syntax.{w32}
@@ -14,26 +15,26 @@ use borrow.Author.Rules.{rules}
 use Rattle.lanes_expr.proofs.same_bytes.Statement.{statement}
 use Rattle.lanes_expr.proofs.same_bytes.Tie as tie
 
-abbrev invariant-loop : tie.invariant-loop
+abbrev invariant-loop : tie.invariant-loop-j
 invariant-loop list width lanes s x out₀ -all j₀ out j = (j ≤ s) × Each (pos 0) (λ j _. nat_at (part width (get_or lanes j 0) list) (to_z w32 x)) j out₀ out
 
-abbrev decreases-loop : tie.decreases-loop
+abbrev decreases-loop : tie.decreases-loop-j
 decreases-loop list width lanes s x out₀ -all j₀ out j = s - j
 
-loop-holds : tie.Need-loop-init invariant-loop decreases-loop
+loop-holds : tie.Need-loop-j-init invariant-loop decreases-loop
 loop-holds c = (omega arith, each_none _ _ _)
 
-byte-in-requires : tie.Need-byte-in-requires invariant-loop decreases-loop
-byte-in-requires c κs = rw c.lane_of.ensures (c.before.before.before.before.before.before.before.requires.lie c.before.before.before.loop.j c.before.before.loop-test.true)
+byte-in-requires : tie.Need-byte_in-z-requires invariant-loop decreases-loop
+byte-in-requires c κs = rw c.lane_of.ensures (c.requires.lie c.loop-j.j c.loop-j-test.true)
 
-loop-again : tie.Need-loop-preserved invariant-loop decreases-loop
-loop-again c = (omega arith, each_more c.before.before.before.before.loop.invariant.1 (omega (arith, c.before.before.before.before.before.known.ensures, c.before.before.before.before.before.before.before.before.requires.few)) (to_z-of_z {w = w32} (record { sfits = c.byte-in.type-inv }) ∙ (rw c.before.lane_of.ensures at c.byte-in.ensures)))
+loop-again : tie.Need-loop-j-preserved invariant-loop decreases-loop
+loop-again c = (omega arith, each_more c.loop-j.invariant.1 (omega (arith, c.known-all.ensures, c.requires.few)) (to_z-of_z {w = w32} (record { sfits = c.byte_in-z.type_inv }) ∙ (rw c.lane_of.ensures at c.byte_in-z.ensures)))
 
 returns : tie.Need-returns invariant-loop decreases-loop
-returns c = each_as (each_all c.before.loop.invariant.1 c.before.loop.invariant.0 c.loop-test.false) (λ j _. ap (nat_at (part c.before.before.before.before.before.args.width (get_or c.before.before.before.before.before.args.lanes.now j 0) c.before.before.before.before.before.args.list.now)) (to_z-of_z c.before.before.before.before.before.ranges.x))
+returns c = each_as (each_all c.loop-j.invariant.1 c.loop-j.invariant.0 c.loop-j-test.false) (λ j _. ap (nat_at (part c.args.width (get_or c.args.lanes.now j 0) c.args.list.now)) (to_z-of_z c.ranges.x))
 
-pub same-bytes-spec : {M : Type 1} → statement M
-same-bytes-spec =
+pub same_bytes_spec : {M : Type 1} → statement M
+same_bytes_spec =
     tie.close
     (tie.spec
     invariant-loop

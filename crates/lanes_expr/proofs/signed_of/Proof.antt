@@ -1,3 +1,4 @@
+
 -- `lanes_expr::signed_of` meets its contract: a byte is below 2 ^ 31. Assumes nothing.
 use Prim.Native.Nat.{◌<◌}
 use native.Mathlib.Omega.{arith}
@@ -13,5 +14,7 @@ small c = omega arith
 returns : tie.Need-returns
 returns c = to_z_pos w32 (small c)
 
-pub signed-of-spec : {M : Type 1} → statement M
-signed-of-spec = tie.close (tie.spec (λ c. search rules) returns)
+pub signed_of_spec : {M : Type 1} → statement M
+signed_of_spec = tie.close (tie.spec
+    (λ c. search rules)
+    returns)

@@ -1,3 +1,4 @@
+
 -- `stop_outside` meets its contract. The loop's invariant: of the first j lanes, those whose number is no flag have stopped. Assumes nothing.
 use mathlib.Core.Path.{ap, ◌∙◌}
 use lib.ListN.{get_or}
@@ -12,23 +13,23 @@ use borrow.Author.Rules.{rules}
 use Rattle.lanes_expr.proofs.stop_outside.Statement.{statement}
 use Rattle.lanes_expr.proofs.stop_outside.Tie as tie
 
-abbrev invariant-loop : tie.invariant-loop
+abbrev invariant-loop : tie.invariant-loop-j
 invariant-loop s at stops₀ -all j₀ stops j = (j ≤ s) × Each 0 (λ j a. first_of2 a (flag_stop (get_or at j (pos 0)))) j stops₀ stops
 
-abbrev decreases-loop : tie.decreases-loop
+abbrev decreases-loop : tie.decreases-loop-j
 decreases-loop s at stops₀ -all j₀ stops j = s - j
 
-loop-holds : tie.Need-loop-init invariant-loop decreases-loop
+loop-holds : tie.Need-loop-j-init invariant-loop decreases-loop
 loop-holds c = (omega arith, each_none _ _ _)
 
-loop-again : tie.Need-loop-preserved invariant-loop decreases-loop
-loop-again c = (omega arith, each_more c.before.before.before.before.before.loop.invariant.1 (omega (arith, c.before.before.before.before.before.before.known-stops.ensures)) (c.first-stop.ensures ∙ ap (first_of2 (get_or c.before.before.before.before.before.loop.stops c.before.before.before.before.before.loop.j 0)) (rw (to_z-of_z {w = w32} (record { sfits = c.before.before.before.flag-stop-arg.given })) at c.before.before.flag-stop.ensures)))
+loop-again : tie.Need-loop-j-preserved invariant-loop decreases-loop
+loop-again c = (omega arith, each_more c.loop-j.invariant.1 (omega (arith, c.known_stops-all.ensures)) (c.first_stop.ensures ∙ ap (first_of2 (get_or c.loop-j.stops c.loop-j.j 0)) (rw (to_z-of_z {w = w32} (record { sfits = c.flag_stop-arg-1.given })) at c.flag_stop-r.ensures)))
 
 returns : tie.Need-returns invariant-loop decreases-loop
-returns c = each_all c.before.loop.invariant.1 c.before.loop.invariant.0 c.loop-test.false
+returns c = each_all c.loop-j.invariant.1 c.loop-j.invariant.0 c.loop-j-test.false
 
-pub stop-outside-spec : {M : Type 1} → statement M
-stop-outside-spec =
+pub stop_outside_spec : {M : Type 1} → statement M
+stop_outside_spec =
     tie.close
     (tie.spec
     invariant-loop

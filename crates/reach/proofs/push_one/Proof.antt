@@ -1,3 +1,4 @@
+
 -- Two words for an entry. Assumes nothing.
 use lib.ListN.{length-set}
 use native.Mathlib.Omega.{arith}
@@ -6,14 +7,14 @@ use borrow.Author.Rules.{rules}
 use Rattle.reach.proofs.push_one.Statement.{statement}
 use Rattle.reach.proofs.push_one.Tie as tie
 
-slice-write-stack-2 : tie.Need-slice-write-stack-2
-slice-write-stack-2 c = simp length-set (omega (arith, c.before.requires))
+slice-write-stack-2 : tie.Need-bounds-stack-depth-2
+slice-write-stack-2 c = simp length-set (omega (arith, c.requires))
 
 returns : tie.Need-returns
-returns c = push_entry _ _ _ _ c.before.requires.0
+returns c = push_entry _ _ _ _ c.requires.0
 
-pub push-one-spec : {M : Type 1} → statement M
-push-one-spec =
+pub push_one_spec : {M : Type 1} → statement M
+push_one_spec =
     tie.close
     (tie.spec
     (λ c. search rules)

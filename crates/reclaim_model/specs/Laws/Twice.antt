@@ -69,9 +69,13 @@ pub in_map : (f : ℕ → ℕ) (k : ℕ) (ks : List ℕ) → Memᴰ k ks → Mem
 in_map f k ks (Memᴰ.head e) = Memᴰ.head (ap f e)
 in_map f k ks (Memᴰ.tail {x} {xs} p) = Memᴰ.tail (in_map f k xs p)
 
+-- the number first, since where it stands goes by it
+in_all_of : (n r : ℕ) (rs : List ℕ) → all (λ r. ltb r n) rs ≡ true → Memᴰ r rs → r < n
+in_all_of n r rs a (Memᴰ.head {x} {xs} e) = rw e (ltb-true x n (and_left (ltb x n) _ a))
+in_all_of n r rs a (Memᴰ.tail {x} {xs} p) = in_all_of n r xs (and_right (ltb x n) _ a) p
+
 pub all_in : (n : ℕ) (rs : List ℕ) → all (λ r. ltb r n) rs ≡ true → (r : ℕ) → Memᴰ r rs → r < n
-all_in n rs a r (Memᴰ.head {x} {xs} e) = rw e (ltb-true x n (and_left (ltb x n) _ a))
-all_in n rs a r (Memᴰ.tail {x} {xs} p) = all_in n xs (and_right (ltb x n) _ a) r p
+all_in n rs a r = in_all_of n r rs a
 
 in_all : (f : ℕ → ℕ) (n : ℕ) (rs : List ℕ) → ((r : ℕ) → Memᴰ r rs → f r < n) → all (λ r. ltb r n) (map f rs) ≡ true
 in_all f n [] h = refl

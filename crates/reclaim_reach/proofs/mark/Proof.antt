@@ -1,17 +1,18 @@
+
 -- `mark` meets its contract. A block with a mark is left, one without goes behind the queue, which has room for it. Assumes nothing.
 use Rattle.reclaim_reach.specs.Pieces.{marked_before, marked_now, room_now}
 use borrow.Author.Rules.{rules}
 use Rattle.reclaim_reach.proofs.mark.Statement.{statement}
 use Rattle.reclaim_reach.proofs.mark.Tie as tie
 
-returns : tie.Need-returns
-returns c = marked_before _ _ _ c.before.before.before.requires.0 c.before.before.index_of.ensures c.if1.true
+returns : tie.Need-returns-then-live-i
+returns c = marked_before _ _ _ c.requires.0 c.index_of-i.ensures c.if-live-i.true
 
-element-write-todo : tie.Need-element-write-todo
-element-write-todo c = room_now _ _ _ c.before.before.before.requires.0 c.before.before.index_of.ensures c.before.before.before.requires.1 c.if1.false
+element-write-todo : tie.Need-bounds-todo-n
+element-write-todo c = room_now _ _ _ c.requires.0 c.index_of-i.ensures c.requires.1 c.if-live-i.false
 
-returns-2 : tie.Need-returns-2
-returns-2 c = marked_now _ _ _ c.before.before.before.requires.0 c.before.before.index_of.ensures c.before.before.before.requires.1 c.if1.false
+returns-2 : tie.Need-returns
+returns-2 c = marked_now _ _ _ c.requires.0 c.index_of-i.ensures c.requires.1 c.if-live-i.false
 
 pub mark_spec : {M : Type 1} → statement M
 mark_spec =

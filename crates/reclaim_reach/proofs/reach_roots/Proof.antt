@@ -1,3 +1,4 @@
+
 -- `reach_roots` meets its contract. The invariant says what the followed part of the queue has done, the measure is how much of its array is left. Assumes nothing.
 use Prim.Native.Nat.{◌-◌}
 use Rattle.model.specs.Limits.{block_limit}
@@ -10,42 +11,42 @@ use borrow.Author.Rules.{rules}
 use Rattle.reclaim_reach.proofs.reach_roots.Statement.{statement}
 use Rattle.reclaim_reach.proofs.reach_roots.Tie as tie
 
-abbrev invariant-loop : tie.invariant-loop
+abbrev invariant-loop : tie.invariant-loop-done
 invariant-loop cw bw blocks roots live₀ todo₀ -all end₀ done₀ live todo end done = Followed (links_at cw bw) (LedTo cw bw blocks roots) roots done (queue_in live todo end)
 
-abbrev decreases-loop : tie.decreases-loop
+abbrev decreases-loop : tie.decreases-loop-done
 decreases-loop cw bw blocks roots live₀ todo₀ -all end₀ done₀ live todo end done = block_limit - done
 
-mark-roots-requires : tie.Need-mark-roots-requires invariant-loop decreases-loop
+mark-roots-requires : tie.Need-mark_roots-end-requires invariant-loop decreases-loop
 mark-roots-requires c κs =
-    let s = c.before.before.before.before.before in
-    (queued_none _ s.requires.2 _ c.before.before.known.ensures, below_low _ s.requires.0.few s.args.roots.now s.requires.1)
+    let s = c.before.before.before.before in
+    (queued_none _ s.requires.2 _ c.known-all.ensures, below_low _ s.requires.0.few s.args.roots.now s.requires.1)
 
-loop-holds : tie.Need-loop-init invariant-loop decreases-loop
+loop-holds : tie.Need-loop-done-init invariant-loop decreases-loop
 loop-holds c =
-    let s = c.before.before.before.before.before.before in
-    reach_start _ _ _ s.requires.0 _ _ _ _ s.requires.1 s.requires.2 c.before.before.before.known.ensures c.mark-roots.ensures
+    let s = c.before.before.before.before.before in
+    reach_start _ _ _ s.requires.0 _ _ _ _ s.requires.1 s.requires.2 c.known-all.ensures c.mark_roots-end.ensures
 
-element-copy-out-index-of : tie.Need-element-copy-out-index-of invariant-loop decreases-loop
-element-copy-out-index-of c = omega (arith, c.before.loop.invariant.queued.room, c.loop-test.true)
+element-copy-out-index-of : tie.Need-bounds-todo-done invariant-loop decreases-loop
+element-copy-out-index-of c = omega (arith, c.loop-done.invariant.queued.room, c.loop-done-test.true)
 
-mark-links-requires : tie.Need-mark-links-requires invariant-loop decreases-loop
-mark-links-requires c κs = reach_asks _ _ _ c.before.before.before.before.before.before.before.before.before.before.before.before.requires.0 _ _ _ c.before.before.before.before.before.loop.invariant c.before.before.before.before.loop-test.true _ c.before.before.index_of.ensures
+mark-links-requires : tie.Need-mark_links-end-requires invariant-loop decreases-loop
+mark-links-requires c κs = reach_asks _ _ _ c.requires.0 _ _ _ c.loop-done.invariant c.loop-done-test.true _ c.index_of-b.ensures
 
-add_done : tie.Need-overflow-add-done invariant-loop decreases-loop
-add_done c = omega (arith, c.before.before.before.before.before.before.loop.invariant.queued.room, c.before.before.before.before.before.loop-test.true)
+add_done : tie.Need-overflow_add-done invariant-loop decreases-loop
+add_done c = omega (arith, c.loop-done.invariant.queued.room, c.loop-done-test.true)
 
-loop-less : tie.Need-loop-smaller invariant-loop decreases-loop
-loop-less c = omega (arith, c.before.before.before.before.before.before.loop.invariant.queued.room, c.before.before.before.before.before.loop-test.true)
+loop-less : tie.Need-loop-done-smaller invariant-loop decreases-loop
+loop-less c = omega (arith, c.loop-done.invariant.queued.room, c.loop-done-test.true)
 
-loop-again : tie.Need-loop-preserved invariant-loop decreases-loop
-loop-again c = reach_next _ _ _ c.before.before.before.before.before.before.before.before.before.before.before.before.before.requires.0 _ _ _ c.before.before.before.before.before.before.loop.invariant c.before.before.before.before.before.loop-test.true _ c.before.before.before.index_of.ensures _ c.mark-links.ensures
+loop-again : tie.Need-loop-done-preserved invariant-loop decreases-loop
+loop-again c = reach_next _ _ _ c.requires.0 _ _ _ c.loop-done.invariant c.loop-done-test.true _ c.index_of-b.ensures _ c.mark_links-end.ensures
 
 returns : tie.Need-returns invariant-loop decreases-loop
-returns c = reaching _ _ _ c.before.before.before.before.before.before.before.before.requires.0 _ _ _ c.before.loop.invariant c.loop-test.false
+returns c = reaching _ _ _ c.requires.0 _ _ _ c.loop-done.invariant c.loop-done-test.false
 
-pub reach-roots-spec : {M : Type 1} → statement M
-reach-roots-spec =
+pub reach_roots_spec : {M : Type 1} → statement M
+reach_roots_spec =
     tie.close
     (tie.spec
     invariant-loop
