@@ -12,8 +12,8 @@ use Rattle.model.specs.Shop.{Slot, slot_ok}
 use Rattle.model.specs.Memory.{script_of}
 use Rattle.model.specs.RecordCalls.{Born, born_at, compile_refusal_in, record_refusal, run_in}
 use Rattle.model.specs.Lists.{Along, accepted_at, after_all, last_at, latest, now_at}
-use Rattle.model.specs.Laws.Checks.{and_left, and_right, compile_passed}
-use Rattle.model.specs.Laws.Lists.{kept_all, none≢some}
+use Rattle.model.proofs.Laws.Checks.{and_left, and_right, compile_passed}
+use Rattle.model.proofs.Laws.Lists.{kept_all, none≢some}
 use Rattle.shop_arrays.specs.Arrays.{shop_from}
 use Rattle.compile.specs.Answer.{call_of, CompiledAs}
 use Rattle.preview.specs.Accepted.{with_all}

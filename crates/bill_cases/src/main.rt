@@ -9,6 +9,9 @@ use case_lines::{
 use model::{FLAGS, ItemId, TIMES, VARIABLES, Variables};
 use shop::{COUNT_FIRST, ITEM_FIRST, SLOTS, Sheet};
 
+// The standard input.
+const STDIN: i32 = 0;
+
 // The slots that a case gives, and the lines that are told of its bill.
 const TOLD: usize = 4;
 

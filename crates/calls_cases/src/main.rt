@@ -15,6 +15,9 @@ use memory::{
 use model::INPUT;
 use reclaims::reclaimed;
 
+// The standard input.
+const STDIN: i32 = 0;
+
 // What goes from a line to the next: the counts of the script and of its accepted compiles, the length of the image, and the tally.
 #[derive(Clone, Copy)]
 struct Held {

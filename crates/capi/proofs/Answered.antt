@@ -9,7 +9,7 @@ use Rattle.model.specs.Reading.{Answer, got, refused}
 use Rattle.model.specs.Script.{Block}
 use Rattle.model.specs.Image.{read_image}
 use Rattle.model.specs.Memory.{Memory}
-use Rattle.model.specs.Laws.Refused.{Proper, proper_within}
+use Rattle.model.proofs.Laws.Refused.{Proper, proper_within}
 use Rattle.memory.specs.declared.Counts.{Counts}
 use Rattle.image_read.specs.Outcome.{Outcome, outcome, read_into}
 use Rattle.image_read.specs.declared.Image.{Image}

@@ -11,10 +11,10 @@ use Rattle.std.proofs.lemmas.List.{length-map}
 use Rattle.model.specs.Limits.{fewest_items, most_items, most_atcs, wide, input_limit}
 use Rattle.model.specs.Refusal.{check, first_of, over_limit, slice_short}
 use Rattle.model.specs.Reading.{Answer, got, refused, onward, refusal_of, number}
-use Rattle.model.specs.Laws.Reading.{passed}
-use Rattle.model.specs.Laws.Checks.{first_passed}
-use Rattle.model.specs.Laws.Checks as Checks
-use Rattle.model.specs.Laws.Refused.{Proper, accepts, proper_onward, proper_cond, proper_number}
+use Rattle.model.proofs.Laws.Reading.{passed}
+use Rattle.model.proofs.Laws.Checks.{first_passed}
+use Rattle.model.proofs.Laws.Checks as Checks
+use Rattle.model.proofs.Laws.Refused.{Proper, accepts, proper_onward, proper_cond, proper_number}
 use Rattle.model.specs.Sheet
 use Rattle.model.specs.Sheet.{item_count, sheet_ok, sheet_refusal}
 use Rattle.model.specs.Files.{Wrote, wrote_of, over}

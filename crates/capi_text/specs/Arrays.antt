@@ -8,7 +8,7 @@ use Rattle.std.proofs.Math.IntN.{ℤ}
 use Rattle.std.proofs.Math.ListN.{get_or, replicate, length-replicate, get_or-map}
 use Rattle.std.proofs.lemmas.List.{length-map}
 use Rattle.model.specs.Limits.{slot_count, entry_limit}
-use Rattle.model.specs.Laws.Checked.{all_at}
+use Rattle.model.proofs.Laws.Checked.{all_at}
 use Rattle.model.specs.Printer.{slot_lines}
 use Rattle.model.specs.Sheet.{all}
 use Rattle.shop.specs.Shapes.{slots_of}

@@ -10,8 +10,8 @@ use Rattle.std.proofs.lemmas.List.Edits.{sets-eq}
 use Rattle.std.proofs.Math.Seq.{drop-append-add}
 use mir.Syntax.{w16}
 use Rattle.model.specs.Limits.{slot_count, entry_limit, wide16}
-use Rattle.model.specs.Laws.Checks.{and_left, and_right}
-use Rattle.model.specs.Laws.Checked.{all_at}
+use Rattle.model.proofs.Laws.Checks.{and_left, and_right}
+use Rattle.model.proofs.Laws.Checked.{all_at}
 use Rattle.model.specs.Printer.{slot_lines}
 use Rattle.model.specs.Sheet.{all}
 use Rattle.model.specs.Shop

@@ -9,6 +9,9 @@ use model::{WIDE, WIDE16};
 use shop::{ENTRIES, Row};
 use shop_codes::{KIND, ZERO};
 
+// The standard output.
+const STDOUT: i32 = 1;
+
 // How many numbers an answer has, and the words of a line: its numbers stand from 1 on, those of its answer from SAID + 1 on; at 0 is how many
 // stand before the answer, and at SAID is 1 where there is one.
 pub const ANSWER: usize = 16;

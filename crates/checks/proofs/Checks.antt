@@ -19,7 +19,7 @@ use Rattle.model.specs.Sheet.{Sheet, sheet_ok, save_ok, all, is_count, is_bit}
 use Rattle.model.specs.Judge.{setup_refusal, shared_refusal}
 use Rattle.model.specs.Memory.{Memory, script_of}
 use Rattle.model.specs.RecordCalls.{call_in, record_refusal}
-use Rattle.model.specs.Laws.Checks.{first_alone}
+use Rattle.model.proofs.Laws.Checks.{first_alone}
 use Rattle.checks.specs.Calls.{save_of}
 use Rattle.shop.specs.Shapes.{sheet_of}
 use Rattle.shop.specs.declared.Sheet as code

@@ -9,7 +9,7 @@ use lib.ListN.{length, drop, get_or, drop_of_length-le}
 use lib.Seq.{drop-cons}
 use borrow.Author.Tests.{le-leb, leb-true}
 use Rattle.model.specs.Sheet.{all, is_bit}
-use Rattle.model.specs.Laws.Runs.{and_swap}
+use Rattle.model.proofs.Laws.Runs.{and_swap}
 
 -- m is the largest of the first i
 pub record Most (xs : List ℕ) (i m : ℕ) : Type 0 where

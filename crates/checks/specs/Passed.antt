@@ -18,9 +18,9 @@ use Rattle.model.specs.Reading.{got, refusal_of}
 use Rattle.model.specs.Judge.{setup_refusal}
 use Rattle.model.specs.Memory.{Memory, block_word, block_by, block_in, script_of}
 use Rattle.model.specs.Record.{judged_record}
-use Rattle.model.specs.Laws.Refused.{accepts}
+use Rattle.model.proofs.Laws.Refused.{accepts}
 use Rattle.model.specs.RecordCalls.{call_in, record_refusal}
-use Rattle.model.specs.Laws.Checks.{passed, shared_passed}
+use Rattle.model.proofs.Laws.Checks.{passed, shared_passed}
 use Rattle.memory.specs.RecordLaws.{length_blocks_in, block_at_lem, proper_record}
 use Rattle.memory.specs.Transfer.{judged_kept}
 use Rattle.shop.specs.declared.Sheet as Given

@@ -15,9 +15,9 @@ use Rattle.model.specs.Script.{Block}
 use Rattle.model.specs.Memory.{Memory, script_of, redirect_in, block_words}
 use Rattle.model.specs.Compile.{compile_checks, slots_blocks, shop_blocks, fresh_blocks, disc_limits, has_room, room_refusal, last_of}
 use Rattle.model.specs.RecordCalls.{Born, born_at, one_compile, call_in, compile_refusal_in, appended_in, births_after, compiled_in}
-use Rattle.model.specs.Laws.Checks.{first_passed, passed, room_passed}
-use Rattle.model.specs.Laws.Judged.{room_low}
-use Rattle.model.specs.Laws.Compiled.{last_of_is}
+use Rattle.model.proofs.Laws.Checks.{first_passed, passed, room_passed}
+use Rattle.model.proofs.Laws.Judged.{room_low}
+use Rattle.model.proofs.Laws.Compiled.{last_of_is}
 use Rattle.memory.specs.Sound.{Room}
 use Rattle.memory.specs.Transfer.{blocks_counted}
 use Rattle.shop.specs.Shapes.{slots_of}

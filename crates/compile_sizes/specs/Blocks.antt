@@ -9,7 +9,7 @@ use Rattle.model.specs.Requirement.{Requirement, missingItem, sorted}
 use Rattle.model.specs.Sheet.{Sheet}
 use Rattle.model.specs.Shop.{Slot, Timer, plain, five, ten, fifteen, timer_of, limit_of}
 use Rattle.model.specs.Compile.{test, join_tests, acquired_expr, enable_blocks, unique_blocks, limit_blocks, filled_blocks, blocks_for, slot_blocks, slots_blocks, shop_blocks, root_of, return_block}
-use Rattle.model.specs.Laws.Sound.{sum_append}
+use Rattle.model.proofs.Laws.Sound.{sum_append}
 use Rattle.expr_build.specs.Laws.{size_imm}
 use Rattle.compile_sizes.specs.Sizes.{SizeOf, tests_nodes, acquired_nodes, enable_size, unique_size, limit_size, filled_size, size_for, slot_size, shop_size}
 use Rattle.compile_sizes.specs.Tests.{test_size, joined_size, acquired_size, missing_size}

@@ -11,7 +11,7 @@ use Rattle.model.specs.Sheet.{Sheet}
 use Rattle.model.specs.Shop.{Slot}
 use Rattle.model.specs.Image.{Limits, limits}
 use Rattle.model.specs.Compile.{shop_blocks, disc_limits, demo_limits, limits_of, has_room, room_refusal}
-use Rattle.model.specs.Laws.Checks.{and_left, and_right}
+use Rattle.model.proofs.Laws.Checks.{and_left, and_right}
 use Rattle.memory.specs.declared.Counts.{Counts}
 use Rattle.compile_sizes.specs.declared.Limits as code
 use Rattle.compile_sizes.specs.declared.Size.{Size}

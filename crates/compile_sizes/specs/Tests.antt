@@ -10,7 +10,7 @@ use Rattle.model.specs.Requirement.{Requirement, haveItem, missingItem, haveAtc,
 use Rattle.model.specs.Sheet.{Sheet, atc_for}
 use Rattle.model.specs.Shop.{Timer, plain, five, ten, fifteen, timer_of}
 use Rattle.model.specs.Compile.{test, item_test, atc_test, flag_test, join_tests, acquired_req, rate_of, or_rate, acquired_expr}
-use Rattle.model.specs.Laws.Sound.{sum_append}
+use Rattle.model.proofs.Laws.Sound.{sum_append}
 use Rattle.shop_codes.specs.Codes.{requirement_of, subject, is_missing}
 use Rattle.expr_build.specs.Laws.{size_imm}
 use Rattle.expr_build.specs.Codes.{size_compare, size_flag, size_not_flag}

@@ -8,9 +8,9 @@ use Rattle.model.specs.Script.{Block, block_commands, block_nodes, sum_of}
 use Rattle.model.specs.Memory.{Memory, put_block, put_blocks}
 use Rattle.model.specs.Sheet as Model
 use Rattle.model.specs.Shop.{Slot, empty_slot}
-use Rattle.model.specs.Laws.Sound.{sum_append}
+use Rattle.model.proofs.Laws.Sound.{sum_append}
 use Rattle.model.specs.Compile.{slot_blocks, slots_blocks}
-use Rattle.model.specs.Laws.Compiled.{last_of_is}
+use Rattle.model.proofs.Laws.Compiled.{last_of_is}
 use Rattle.shop.specs.declared.Slot as Given
 use Rattle.shop.specs.Shapes.{slot_of, slots_of, no_slot}
 use Rattle.shop_arrays.specs.Arrays as Arrays

@@ -20,9 +20,9 @@ use Rattle.model.specs.Run.{Ran}
 use Rattle.model.specs.Parse.{Parsed}
 use Rattle.model.specs.Memory.{block_in}
 use Rattle.model.specs.Lists.{Along, Step, after_all, last_at, now_at}
-use Rattle.model.specs.Demand.{RunsAs, runs_inside}
+use Rattle.model.proofs.Demand.{RunsAs, runs_inside}
 use Rattle.model.specs.RecordCalls.{Born, born_at, compile_refusal_in, compiled_in, parse_in, run_in}
-use Rattle.model.specs.Laws.Lists.{Follows, Followed, follows_all}
+use Rattle.model.proofs.Laws.Lists.{Follows, Followed, follows_all}
 use Rattle.shop.specs.declared.Shop.{Shop}
 use Rattle.shop.specs.Shapes.{slots_of}
 use Rattle.compile.specs.Answer.{call_of, CompiledAs}

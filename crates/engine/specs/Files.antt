@@ -9,8 +9,8 @@ use Rattle.model.specs.Memory.{Memory, script_of, put_blocks}
 use Rattle.model.specs.Record.{judged_record}
 use Rattle.model.specs.Files.{write_checked}
 use Rattle.model.specs.RecordCalls.{write_in}
-use Rattle.model.specs.Laws.Image.{same_bytes}
-use Rattle.model.specs.Laws.Files.{write_then_read}
+use Rattle.model.proofs.Laws.Image.{same_bytes}
+use Rattle.model.proofs.Laws.Files.{write_then_read}
 use Rattle.memory.specs.Sound.{Long}
 use Rattle.memory.specs.ReadRecord.{Empty, read_judged, read_blocks_lem}
 use Rattle.memory.specs.Transfer.{accepted_script}

@@ -10,7 +10,7 @@ use Rattle.model.specs.Requirement.{Requirement, negate_req, insert}
 use Rattle.model.specs.Parse.{value, map_req, if_zero, parse_requirement, add_req, gather}
 use Rattle.model.specs.declared.Op2.TheVariants.{Equal, NotEqual, Less, LessEqual, Greater, GreaterEqual, Add, Subtract, BitAnd, BitOr}
 use Rattle.model.specs.declared.Op1.TheVariants.{Not, Flag, Variable, Item, Atc, Time}
-use Rattle.model.specs.Laws.Normal.{neg_neg}
+use Rattle.model.proofs.Laws.Normal.{neg_neg}
 use Rattle.expr.specs.declared.MaybeNumber.{MaybeNumber}
 use Rattle.expr.specs.declared.MaybeNumber.TheVariants.{Is, Nothing}
 

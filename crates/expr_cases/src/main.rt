@@ -17,6 +17,9 @@ use memory::{
 };
 use model::{Kind, Op1, Op2, VARIABLES};
 
+// The standard input.
+const STDIN: i32 = 0;
+
 fn main() {
     let mut input: [u8; 4096] = [0; 4096];
     let mut ws: NodeWords = [0; NODE_WORDS];

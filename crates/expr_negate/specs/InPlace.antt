@@ -10,7 +10,7 @@ use Rattle.model.specs.declared.Op1.TheVariants.{Not}
 use Rattle.model.specs.Image.{kind_of, code_of, code2, code1}
 use Rattle.model.specs.Parse.{is_join}
 use Rattle.model.specs.Memory.{Nodes, nodes_in, push_node, put_expr}
-use Rattle.model.specs.Laws.ImageExpr.{kind_code}
+use Rattle.model.proofs.Laws.ImageExpr.{kind_code}
 use Rattle.model.specs.declared.Kind.{Kind}
 use Rattle.model.specs.declared.Kind.TheVariants.{Two, One, Imm16, Imm32, Other}
 use Rattle.memory.specs.Pushed.{PushedNode, PutExpr}

@@ -4,11 +4,11 @@ use Rattle.std.proofs.Common.{sym, ap, ◌∙◌, true≢false}
 use Rattle.std.proofs.lemmas.Bool.{not-true}
 use Rattle.model.specs.Sheet.{all}
 use Rattle.model.specs.Requirement.{Requirement, haveItem, missingItem, haveAtc, missingAtc, haveFlag, missingFlag, negate_req, same_req, member}
-use Rattle.model.specs.Laws.Checks.{and_left, and_right}
-use Rattle.model.specs.Laws.Normal.{both_ways_lem, neg_neg}
-use Rattle.model.specs.Laws.Runs.{same_req_true}
-use Rattle.model.specs.Laws.Sets.{same_refl}
-use Rattle.model.specs.Laws.Bools.{or_cases, or_right, never_true}
+use Rattle.model.proofs.Laws.Checks.{and_left, and_right}
+use Rattle.model.proofs.Laws.Normal.{both_ways_lem, neg_neg}
+use Rattle.model.proofs.Laws.Runs.{same_req_true}
+use Rattle.model.proofs.Laws.Sets.{same_refl}
+use Rattle.model.proofs.Laws.Bools.{or_cases, or_right, never_true}
 use Rattle.faithful_model.specs.Faithful.{no_pair}
 
 neg_differs : (r : Requirement) → same_req (negate_req r) r ≡ false

@@ -9,6 +9,9 @@ use case_lines::{
 use memory::index_of;
 use parse_filter::filter_alive;
 
+// The standard input.
+const STDIN: i32 = 0;
+
 // The first n of four words.
 #[derive(Clone, Copy)]
 pub struct Entries {

@@ -4,7 +4,7 @@ use Rattle.std.proofs.Common.{sym, ◌∙◌, arith, ltb-true, ltb-false, lt-ltb
 use Rattle.model.specs.Limits.{wide16}
 use Rattle.model.specs.Refusal.{bad_image}
 use Rattle.model.specs.Reading.{Answer, got, refused, groups, under, number, word_to, word}
-use Rattle.model.specs.Laws.Reading.{same_groups}
+use Rattle.model.proofs.Laws.Reading.{same_groups}
 use Rattle.image_numbers.specs.Told.{ShortWord}
 
 -- a number that is not below the limit is refused, however large

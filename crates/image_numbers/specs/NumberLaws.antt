@@ -9,8 +9,8 @@ use borrow.Author.Tests.{ltb-true, lt-ltb, le-ltb}
 use Rattle.std.proofs.Math.ListN.{drop_of_length-le}
 use Rattle.std.proofs.Math.Seq.{drop-cons}
 use Rattle.model.specs.Refusal.{bad_image}
-use Rattle.model.specs.Reading.{got, refused, groups, more, number, under}
-use Rattle.model.specs.Laws.Reading.{refused≢got, got_value, room, more_split}
+use Rattle.model.specs.Reading.{got, refused, groups, more, number, under, room}
+use Rattle.model.proofs.Laws.Reading.{refused≢got, got_value, more_split}
 use Rattle.image_numbers.specs.Told.{Told}
 use Rattle.image_numbers.specs.declared.Num.{Num}
 use Rattle.image_numbers.specs.declared.Num.TheVariants.{Got, Bad}

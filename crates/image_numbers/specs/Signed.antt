@@ -6,7 +6,7 @@ use Rattle.std.specs.Int.{w32}
 use Rattle.std.proofs.lemmas.Int.{to_z_pos}
 use Rattle.model.specs.Limits.{wide, half32}
 use Rattle.model.specs.Reading.{zig, zag}
-use Rattle.model.specs.Laws.Signed.{minus_one}
+use Rattle.model.proofs.Laws.Signed.{minus_one}
 
 -- ---- folded
 

@@ -6,8 +6,7 @@ use Prim.Native.Nat.{ℕ, zero, suc, ◌+◌, ◌-◌, ◌*◌, ◌/◌, ◌%◌
 use native.Mathlib.Omega.{arith}
 use borrow.Author.Tests.{lt-ltb, le-ltb}
 use Rattle.std.proofs.lemmas.List.Edits.{sets}
-use Rattle.model.specs.Reading.{word_to}
-use Rattle.model.specs.Laws.Reading.{room}
+use Rattle.model.specs.Reading.{word_to, room}
 use Rattle.image_numbers.specs.Stored.{Stored, Room}
 
 module _ (f v : ℕ) (some : 0 < f) where

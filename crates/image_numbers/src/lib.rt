@@ -3,8 +3,7 @@
 
 ghost use Rattle.std.specs.Prelude.{◌≡◌, ◌≤◌, ◌<◌, length, drop};
 ghost use Rattle.model.specs.Limits.{wide};
-ghost use Rattle.model.specs.Reading.{groups, number, word_to, word, zig, zag};
-ghost use Rattle.model.specs.Laws.Reading.{room};
+ghost use Rattle.model.specs.Reading.{groups, number, word_to, word, zig, zag, room};
 ghost use Rattle.image_numbers.specs.Told.{Told, ShortWord};
 ghost use Rattle.image_numbers.specs.Stored.{Stored, Room};
 

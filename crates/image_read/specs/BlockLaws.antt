@@ -13,8 +13,8 @@ use Rattle.model.specs.Reading.{got, refused, onward, number}
 use Rattle.model.specs.Script.{placeholder, code, data_block}
 use Rattle.model.specs.Image.{Limits, link_of, read_link, read_commands, read_code, block_of, read_block}
 use Rattle.model.specs.Memory.{Coded, coded_in, put_commands, memory_in, push_block, put_block}
-use Rattle.model.specs.Laws.Reading.{number_low}
-use Rattle.model.specs.Laws.Image.{said_commands}
+use Rattle.model.proofs.Laws.Reading.{number_low}
+use Rattle.model.proofs.Laws.Image.{said_commands}
 use Rattle.memory.specs.Pushed.{PushedBlock}
 use Rattle.image_numbers.specs.Told.{Told}
 use Rattle.image_read.specs.Told.{limits_of, PutMany, ToldCommands, PutLink, ToldLink, PutLinks, LinksRefused, first, second, ToldLinks, Declared, ToldCount, ToldBlock}

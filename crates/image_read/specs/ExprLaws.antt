@@ -11,8 +11,8 @@ use Rattle.model.specs.Reading.{got, refused, onward, number, zag}
 use Rattle.model.specs.Expr.{two, one, imm16, imm32, other, size}
 use Rattle.model.specs.Image.{kind_of, code_of, code2, code1, read_kind, read_operands, read_expr}
 use Rattle.model.specs.Memory.{Nodes, nodes_in, push_node, put_expr}
-use Rattle.model.specs.Laws.Reading.{number_low}
-use Rattle.model.specs.Laws.ImageExpr.{was_expr, code_kind}
+use Rattle.model.proofs.Laws.Reading.{number_low}
+use Rattle.model.proofs.Laws.ImageExpr.{was_expr, code_kind}
 use Rattle.model.specs.declared.Op2.{Op2}
 use Rattle.model.specs.declared.Op1.{Op1}
 use Rattle.model.specs.declared.Kind.{Kind}

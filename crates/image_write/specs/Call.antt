@@ -16,9 +16,9 @@ use Rattle.model.specs.Memory.{Memory, script_of}
 use Rattle.model.specs.Record.{record_image, held_kept, limits_kept, kept_ok, judged_record}
 use Rattle.model.specs.Files.{Wrote, over, write_checked}
 use Rattle.model.specs.RecordCalls.{write_in}
-use Rattle.model.specs.Laws.Reading.{passed}
-use Rattle.model.specs.Laws.Refused.{Proper}
-use Rattle.model.specs.Laws.Checks.{and_left, and_right}
+use Rattle.model.proofs.Laws.Reading.{passed}
+use Rattle.model.proofs.Laws.Refused.{Proper}
+use Rattle.model.proofs.Laws.Checks.{and_left, and_right}
 use Rattle.memory.specs.RecordLaws.{judged_sound, proper_record}
 use Rattle.judge_terms.specs.Told.{Kept}
 use Rattle.judge_record.specs.Stages.{Accepted, JudgedAs}

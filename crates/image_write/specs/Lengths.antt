@@ -12,7 +12,7 @@ use Rattle.model.specs.declared.Op1.{Op1}
 use Rattle.model.specs.declared.Op1.TheVariants.{Not, Flag, Variable, Item, Atc, Time}
 use Rattle.model.specs.Memory.{Memory, script_of}
 use Rattle.model.specs.Record.{judged_record}
-use Rattle.model.specs.Laws.Judged.{accepted_held}
+use Rattle.model.proofs.Laws.Judged.{accepted_held}
 use Rattle.memory.specs.RecordLaws.{judged_sound}
 use Rattle.memory.specs.Transfer.{blocks_counted, accepted_script}
 use Rattle.image_numbers.specs.Lengths.{word_short}

@@ -8,7 +8,7 @@ use Prim.Native.Nat.{ℕ, zero, suc, ◌+◌, ◌*◌, ◌<◌}
 use Rattle.std.proofs.Math.ListN.{get_or}
 use Rattle.model.specs.Reading.{word, zig}
 use Rattle.model.specs.Image.{kind_of, code_of}
-use Rattle.model.specs.Laws.ImageExpr.{kind_code}
+use Rattle.model.proofs.Laws.ImageExpr.{kind_code}
 use Rattle.model.specs.Memory.{Nodes, nodes_in, code_at, left_at, right_at, value_at}
 use Rattle.model.specs.Record.{follow_image, node_image_to, node_image, root_image}
 use Rattle.model.specs.declared.Op2.{Op2}

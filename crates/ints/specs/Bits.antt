@@ -7,7 +7,7 @@ use Rattle.std.specs.Int.{Width}
 use mir.Val.{Fits, SFits, to_z, of_z, bits, hbits}
 use mir.ValLaws.{half_full, to_z_pos}
 use Rattle.model.specs.Signed.{bits_of, low_bits}
-use Rattle.model.specs.Laws.Signed.{low_bits_under}
+use Rattle.model.proofs.Laws.Signed.{low_bits_under}
 
 -- the lowest bits of a number of that width are all its bits
 pub low_bits_own : (w : Width) (z : ℤ) → SFits w z → low_bits w z ≡ of_z w z

@@ -5,7 +5,7 @@ use Rattle.std.specs.Int.Signed.{mag, lt_z}
 use Rattle.std.specs.Int.{Width}
 use mir.Val.{SFits, to_z, bits, hbits}
 use mir.ValLaws.{pow-bits, to_z-Fits, to_z_pos}
-use Rattle.model.specs.Laws.Signed as Laws
+use Rattle.model.proofs.Laws.Signed as Laws
 use Rattle.model.specs.Signed.{low_bits, wrap}
 use Rattle.ints.specs.Bits.{low_bits_fit, upper_less, add_more}
 

@@ -6,6 +6,9 @@ use case_lines::{
     total,
 };
 
+// The standard input.
+const STDIN: i32 = 0;
+
 fn main() {
     let mut input: [u8; 8192] = [0; 8192];
     start(&mut input);

@@ -12,8 +12,8 @@ use Rattle.model.specs.Script.{Command, Block, placeholder, code, data_block, co
 use Rattle.model.specs.Image.{Limits, read_link, read_commands, read_code, block_of, read_block}
 use Rattle.model.specs.Memory.{Memory, block_word}
 use Rattle.model.specs.Record.{commands_image_in, block_tail}
-use Rattle.model.specs.Laws.Reading.{read_word}
-use Rattle.model.specs.Laws.Image.{said_commands}
+use Rattle.model.proofs.Laws.Reading.{read_word}
+use Rattle.model.proofs.Laws.Image.{said_commands}
 use Rattle.image_numbers.specs.Told.{ShortWord}
 use Rattle.judge_terms.specs.Told.{Good, Told}
 use Rattle.image_numbers.specs.Lengths.{read_over, word_1}

@@ -7,7 +7,7 @@ use Rattle.model.specs.Refusal.{no_such_link}
 use Rattle.model.specs.Reading.{got, refused, word}
 use Rattle.model.specs.Image.{read_block_no, link_of, read_link}
 use Rattle.model.specs.Memory.{link_in}
-use Rattle.model.specs.Laws.Reading.{read_word}
+use Rattle.model.proofs.Laws.Reading.{read_word}
 use Rattle.image_numbers.specs.Told.{ShortWord}
 use Rattle.judge_terms.specs.Told.{Told}
 use Rattle.judge_record.specs.Stages.{uncounted}

@@ -13,8 +13,8 @@ use Rattle.model.specs.Script.{Block}
 use Rattle.model.specs.Image.{Limits, limits, read_block, read_blocks, ended, read_within, image}
 use Rattle.model.specs.Memory.{Memory, block_word}
 use Rattle.model.specs.Record.{block_tail, blocks_image_in, record_image, held_kept, limits_kept, kept_ok, judged_record}
-use Rattle.model.specs.Laws.Reading.{read_word}
-use Rattle.model.specs.Laws.Image.{write_image}
+use Rattle.model.proofs.Laws.Reading.{read_word}
+use Rattle.model.proofs.Laws.Image.{write_image}
 use Rattle.memory.specs.declared.Counts.{Counts}
 use Rattle.memory.specs.RecordLaws.{read_sound}
 use Rattle.memory.specs.Kept.{sound_kept}

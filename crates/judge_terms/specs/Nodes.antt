@@ -15,7 +15,7 @@ use Rattle.model.specs.Expr.{Expr, two, one, imm16, imm32, other, size}
 use Rattle.model.specs.Image.{Limits, kind_of, read_kind, read_operands, read_expr, read_term}
 use Rattle.model.specs.Memory.{Nodes, code_at, left_at, right_at, value_at}
 use Rattle.model.specs.Record.{follow_image, node_image, root_image}
-use Rattle.model.specs.Laws.Reading.{read_word}
+use Rattle.model.proofs.Laws.Reading.{read_word}
 use Rattle.model.specs.declared.Op2.{Op2}
 use Rattle.model.specs.declared.Op1.{Op1}
 use Rattle.model.specs.declared.Kind.{Kind}

@@ -5,7 +5,7 @@ use native.Mathlib.Omega.{arith}
 use Rattle.std.proofs.Math.ListN.{length-append}
 use Rattle.model.specs.Limits.{wide}
 use Rattle.model.specs.Reading.{Answer, got, refused, onward, number, word}
-use Rattle.model.specs.Laws.Reading.{read_word}
+use Rattle.model.proofs.Laws.Reading.{read_word}
 use Rattle.judge_terms.specs.Told.{Good, Says, Told}
 use Rattle.judge_terms.specs.declared.Step.{Step}
 use Rattle.judge_terms.specs.declared.Step.TheVariants.{Fine, No}

@@ -19,7 +19,7 @@ use Rattle.model.specs.Sheet.{Sheet, all, is_count, is_bit, save_ok}
 use Rattle.model.specs.Script.{Block}
 use Rattle.model.specs.Memory.{Memory, script_of}
 use Rattle.model.specs.RecordCalls.{call_in}
-use Rattle.model.specs.Laws.Checks.{and_left, and_right}
+use Rattle.model.proofs.Laws.Checks.{and_left, and_right}
 use Rattle.shop.specs.Shapes.{sheet_of}
 use Rattle.shop.specs.declared.Sheet as code
 use Rattle.checks.specs.Calls.{save_of}

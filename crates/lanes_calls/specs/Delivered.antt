@@ -16,7 +16,7 @@ use Rattle.model.specs.Memory.{Memory}
 use Rattle.model.specs.RecordCalls.{Born, run_in}
 use Rattle.model.specs.Run.{Ran}
 use Rattle.model.specs.Lists.{Along, after_all, last_at, now_at}
-use Rattle.model.specs.Laws.Lists.{Followed}
+use Rattle.model.proofs.Laws.Lists.{Followed}
 use Rattle.reclaim_model.specs.Rename.{Every}
 use Rattle.reclaim_model.specs.Changes.{Change}
 use Rattle.reclaim_record.specs.Calls.{changes_in}

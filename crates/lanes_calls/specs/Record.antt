@@ -18,9 +18,9 @@ use Rattle.model.specs.Memory.{Memory, script_of}
 use Rattle.model.specs.Record.{judged_record}
 use Rattle.model.specs.RecordCalls.{Born}
 use Rattle.model.specs.Lists.{after_all, last_at, now_at}
-use Rattle.model.specs.Laws.Checks.{and_right}
-use Rattle.model.specs.Laws.Lists.{Followed, none≢some}
-use Rattle.model.specs.Laws.Refused.{Proper}
+use Rattle.model.proofs.Laws.Checks.{and_right}
+use Rattle.model.proofs.Laws.Lists.{Followed, none≢some}
+use Rattle.model.proofs.Laws.Refused.{Proper}
 use Rattle.memory.specs.RecordLaws.{proper_record}
 use Rattle.reclaim_model.specs.Changes.{BornScript, Change, changes}
 use Rattle.reclaim_record.specs.Calls.{changes_in}

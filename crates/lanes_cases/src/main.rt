@@ -13,6 +13,9 @@ use memory::{
 };
 use model::{FLAGS, VARIABLES};
 
+// The standard input.
+const STDIN: i32 = 0;
+
 fn main() {
     let mut input: [u8; 8192] = [0; 8192];
     let mut ws: NodeWords = [0; NODE_WORDS];

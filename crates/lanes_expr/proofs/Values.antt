@@ -7,7 +7,8 @@ use Prim.Native.Nat.{ℕ, zero, suc, ◌≤◌, ◌<◌}
 use native.Mathlib.Omega.{arith}
 use lib.ListN.{get_or, replicate, get_or-replicate}
 use lib.IntN.{ℤ, pos}
-use Rattle.model.specs.Limits.{most_saves}
+use Rattle.model.specs.Limits.{most_saves, variable_count}
+use Rattle.lanes_model.specs.Flat.{part, save_in}
 use Rattle.model.specs.Refusal.{no_flag}
 use Rattle.model.specs.Save.{Save}
 use Rattle.model.specs.Expr.{Expr, two, one, imm16, imm32, other, Value, ok, stop, and_then, apply2, readable, eval}
@@ -112,7 +113,7 @@ module _ (n m : ℕ) (f : Save) (vs : List ℤ) (ls : List ℕ) (s : ℕ) (ns : 
   stop_done {rs} {xs = xs} p h = record { is = λ j l. rw (h.done j l, p) (stop_lane (get_or rs j 0) 12 (get_or xs j (pos 0))); rest = h.rest }
 
   imm_done : {rs : List ℕ} {xs xs' : List ℤ} (z : ℤ) → some z ≡ value (tree_below ns b i) → Each (pos 0) (λ _ _. z) s xs xs' → Here rs rs xs'
-  imm_done {rs} z p h = record { is = λ j l. rw (h.done j l) (ok_lane (get_or rs j 0) z ∙ ap (first_stop (get_or rs j 0)) (imm_worth _ _ (tree_below ns b i) z p)); rest = λ j l. refl }
+  imm_done {rs} z p h = record { is = λ j l. rw (h.done j l) (ok_lane (get_or rs j 0) z ∙ ap (first_stop (get_or rs j 0)) (imm_worth (save_in n m f (get_or ls j 0)) (part variable_count (get_or ls j 0) vs) (tree_below ns b i) z p)); rest = λ j l. refl }
 
   pub out_done : {rs rs' : List ℕ} {xs : List ℤ} → b ≤ i → Each 0 (λ _ a. first_of2 a 13) s rs rs' → Here rs rs' xs
   out_done l h = stop_done (below_out ns b i l) h
@@ -120,7 +121,7 @@ module _ (n m : ℕ) (f : Save) (vs : List ℤ) (ls : List ℕ) (s : ℕ) (ns : 
   -- an Imm as the right operand
   pub same_done : {rs : List ℕ} {ys : List ℤ} (z : ℤ) → some z ≡ value (tree_below ns i (right_at ns i)) → s ≤ most_saves → ys ≡ replicate most_saves z → Right rs rs ys
   same_done {rs} z p few q = record {
-    is = λ j l. let h : j < most_saves = omega arith in rw (q, get_or-replicate most_saves j z (pos 0) h) (ok_lane (get_or rs j 0) z ∙ ap (first_stop (get_or rs j 0)) (imm_worth _ _ (tree_below ns i (right_at ns i)) z p));
+    is = λ j l. let h : j < most_saves = omega arith in rw (q, get_or-replicate most_saves j z (pos 0) h) (ok_lane (get_or rs j 0) z ∙ ap (first_stop (get_or rs j 0)) (imm_worth (save_in n m f (get_or ls j 0)) (part variable_count (get_or ls j 0) vs) (tree_below ns i (right_at ns i)) z p));
     rest = λ j l. refl;
   }
 
@@ -143,7 +144,7 @@ module _ (n m : ℕ) (f : Save) (vs : List ℤ) (ls : List ℕ) (s : ℕ) (ns : 
     pub number_done : {rs rs₁ : List ℕ} {xs xs' : List ℤ} (o : Op1) (z : ℤ) → k ≡ One o → some z ≡ value (tree_below ns i (left_at ns i)) → Each 0 (λ _ a. first_of2 a (read_stop o z)) s rs rs₁ → Each (pos 0) (λ j _. apply_in n m f vs o (get_or ls j 0) z) s xs xs' → Here rs rs₁ xs'
     number_done {rs} o z e q g h = record {
       is = λ j l. rw (g.done j l, h.done j l, below_one ns b i lt k found o e)
-          (one_lane (get_or rs j 0) (get_or rs j 0) z (worth (tree_below ns i (left_at ns i)) j) (readable o) (λ x. apply_in n m f vs o (get_or ls j 0) x) (ok_lane (get_or rs j 0) z ∙ ap (first_stop (get_or rs j 0)) (imm_worth _ _ (tree_below ns i (left_at ns i)) z q)));
+          (one_lane (get_or rs j 0) (get_or rs j 0) z (worth (tree_below ns i (left_at ns i)) j) (readable o) (λ x. apply_in n m f vs o (get_or ls j 0) x) (ok_lane (get_or rs j 0) z ∙ ap (first_stop (get_or rs j 0)) (imm_worth (save_in n m f (get_or ls j 0)) (part variable_count (get_or ls j 0) vs) (tree_below ns i (left_at ns i)) z q)));
       rest = g.rest;
     }
 

@@ -11,7 +11,7 @@ use Rattle.model.specs.Script.{Block, code, data_block, goto, if_else, return, s
 use Rattle.model.specs.Judge.{counted}
 use Rattle.model.specs.Compile.{compiled}
 use Rattle.model.specs.Run.{Ran}
-use Rattle.model.specs.Cases.{opened, sheet, slot_of, first, saved}
+use Rattle.model.proofs.Cases.{opened, sheet, slot_of, first, saved}
 use Rattle.model.specs.declared.Loader.TheVariants.{Disc}
 use Rattle.model.specs.declared.Op1.TheVariants.{Flag, Item}
 use Rattle.reclaim_model.specs.Rename.{links_of, targets}

@@ -15,7 +15,7 @@ use Rattle.model.specs.Memory.{block_in}
 use Rattle.model.specs.Preview.{preview_call}
 use Rattle.model.specs.RecordCalls.{Born, born_at, run_in, parse_in}
 use Rattle.model.specs.Lists.{Along, Step, after_all, last_at, now_at}
-use Rattle.model.specs.Laws.Lists.{Follows, Followed, follows_all, follows_along}
+use Rattle.model.proofs.Laws.Lists.{Follows, Followed, follows_all, follows_along}
 use Rattle.memory.specs.View.{born_of}
 use Rattle.shop.specs.Shapes.{slots_of, slot_of}
 use Rattle.shop_arrays.specs.Arrays.{Arrays, shop_from}

@@ -13,9 +13,9 @@ use Rattle.model.specs.Memory.{Memory, memory_in, script_of, put_blocks}
 use Rattle.model.specs.Record.{judged_record}
 use Rattle.model.specs.Files.{Wrote, wrote_of, over, write_checked}
 use Rattle.model.specs.RecordCalls.{write_in}
-use Rattle.model.specs.Laws.Checks.{first_passed}
-use Rattle.model.specs.Laws.Image.{same_bytes}
-use Rattle.model.specs.Laws.Refused.{accepts}
+use Rattle.model.proofs.Laws.Checks.{first_passed}
+use Rattle.model.proofs.Laws.Image.{same_bytes}
+use Rattle.model.proofs.Laws.Refused.{accepts}
 use Rattle.memory.specs.View.{memory_of}
 use Rattle.memory.specs.Sound.{Long}
 use Rattle.memory.specs.RecordLaws.{proper_record}

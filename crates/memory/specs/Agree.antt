@@ -10,8 +10,8 @@ use Rattle.model.specs.Image.{image, read_within}
 use Rattle.model.specs.Judge.{counts_ok, judged}
 use Rattle.model.specs.Memory.{Memory, script_of}
 use Rattle.model.specs.Record.{held_kept, kept_ok, judged_record}
-use Rattle.model.specs.Laws.Judged.{accepted_held, counts_low}
-use Rattle.model.specs.Laws.Over.{over_script}
+use Rattle.model.proofs.Laws.Judged.{accepted_held, counts_low}
+use Rattle.model.proofs.Laws.Over.{over_script}
 use Rattle.memory.specs.Sound.{Sound}
 use Rattle.memory.specs.RecordLaws.{judged_sound}
 use Rattle.memory.specs.Kept.{recounted, more_kept, kept_sound, script_same}

@@ -10,7 +10,7 @@ use Rattle.model.specs.Expr.{Expr}
 use Rattle.model.specs.Script.{Command, Block, set_variable, set_other, if_else, code}
 use Rattle.model.specs.Memory.{Nodes, Coded, Memory, left_at, right_at, tree_to, tree, command_word, set_in, command_by, command_in, commands_in, block_word, link_in, block_by, block_in, blocks_in, script_of}
 use Rattle.model.specs.Record.{root_kept, set_kept, roots_kept, command_kept, commands_kept, block_kept, blocks_kept, held_kept}
-use Rattle.model.specs.Laws.Checks.{and_left, and_right}
+use Rattle.model.proofs.Laws.Checks.{and_left, and_right}
 use Rattle.memory.specs.Sound.{Well, well_two, well_one, well_imm16, well_imm32, well_other, Root, SoundTarget, SoundBy, SoundCommand, SoundCommands, SoundKind, SoundBlock, Sound}
 use Rattle.memory.specs.RecordLaws.{from_first}
 

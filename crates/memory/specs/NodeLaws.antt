@@ -17,9 +17,9 @@ use Rattle.model.specs.declared.Kind.TheVariants.{Two, One, Imm16, Imm32, Other}
 use Rattle.model.specs.Image.{kind_of, code_of, code2, code1, expr_image, read_kind, read_operands, read_expr}
 use Rattle.model.specs.Memory.{Nodes, code_at, left_at, right_at, value_at, node_of, operand, tree_to, tree}
 use Rattle.model.specs.Record.{follow_image, node_image_to, node_image}
-use Rattle.model.specs.Laws.Reading.{split, refused≢got, got_value, got_rest, passed, same_number, number_low}
-use Rattle.model.specs.Laws.ImageExpr.{kind_code, code_kind}
-use Rattle.model.specs.Laws.Same.{same_expr}
+use Rattle.model.proofs.Laws.Reading.{split, refused≢got, got_value, got_rest, passed, same_number, number_low}
+use Rattle.model.proofs.Laws.ImageExpr.{kind_code, code_kind}
+use Rattle.model.proofs.Laws.Same.{same_expr}
 use Rattle.memory.specs.Sound.{Well, well_two, well_one, well_imm16, well_imm32, well_other}
 
 -- ---- more levels than i give the same tree

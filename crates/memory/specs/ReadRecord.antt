@@ -10,9 +10,9 @@ use Rattle.model.specs.Image.{read_image}
 use Rattle.model.specs.Judge.{script_refusal}
 use Rattle.model.specs.Memory.{Memory, script_of, blocks_in, put_blocks}
 use Rattle.model.specs.Record.{judged_record}
-use Rattle.model.specs.Laws.Image.{image_fits}
-use Rattle.model.specs.Laws.Sound.{fits_held}
-use Rattle.model.specs.Laws.Judged.{held_accepted}
+use Rattle.model.proofs.Laws.Image.{image_fits}
+use Rattle.model.proofs.Laws.Sound.{fits_held}
+use Rattle.model.proofs.Laws.Judged.{held_accepted}
 use Rattle.memory.specs.Sound.{Sound, Long, Room}
 use Rattle.memory.specs.RecordLaws.{judged_sound}
 use Rattle.memory.specs.PutBlocks.{put_sound}

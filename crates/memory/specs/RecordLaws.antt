@@ -15,10 +15,10 @@ use Rattle.model.specs.Script.{Command, set_variable, Block, placeholder, block_
 use Rattle.model.specs.Image.{expr_image, command_image, commands_image, link_image, block_image, blocks_image, image, Limits, limits, read_term, set_of, command_of, read_command, read_commands, read_code, block_of, read_block, read_blocks, ended, read_within}
 use Rattle.model.specs.Memory.{Nodes, Coded, Memory, tree, command_word, set_in, command_by, command_in, commands_in, block_word, link_in, block_by, block_in, blocks_in, script_of}
 use Rattle.model.specs.Record.{root_image, target_image, command_tail, command_image_in, commands_image_in, block_tail, blocks_image_in, record_image, kept_ok, judged_record}
-use Rattle.model.specs.Laws.Refused.{Proper, proper_cond, proper_within}
-use Rattle.model.specs.Laws.Reading.{split, passed, same_number, number_low, onto}
-use Rattle.model.specs.Laws.Image.{write_image}
-use Rattle.model.specs.Laws.Same.{same_command, same_block, same_read}
+use Rattle.model.proofs.Laws.Refused.{Proper, proper_cond, proper_within}
+use Rattle.model.proofs.Laws.Reading.{split, passed, same_number, number_low, onto}
+use Rattle.model.proofs.Laws.Image.{write_image}
+use Rattle.model.proofs.Laws.Same.{same_command, same_block, same_read}
 use Rattle.memory.specs.Sound.{Root, SoundTarget, SoundBy, SoundCommand, SoundCommands, SoundKind, SoundBlock, Sound}
 use Rattle.memory.specs.NodeLaws.{well_image, node_read}
 

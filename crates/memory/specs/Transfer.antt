@@ -11,8 +11,8 @@ use Rattle.model.specs.Shop.{with_slots}
 use Rattle.model.specs.Compile.{redirect, Call, fresh_blocks, root_of, compile_refusal, appended}
 use Rattle.model.specs.Memory.{Memory, script_of, put_blocks, redirect_in}
 use Rattle.model.specs.Record.{limits_kept, kept_ok, judged_record}
-use Rattle.model.specs.Laws.Checks.{compile_passed}
-use Rattle.model.specs.Laws.Judged.{accepted_fits, fits_judged, counts_low, kept_judged}
+use Rattle.model.proofs.Laws.Checks.{compile_passed}
+use Rattle.model.proofs.Laws.Judged.{accepted_fits, fits_judged, counts_low, kept_judged}
 use Rattle.memory.specs.Sound.{Sound, Long, Room}
 use Rattle.memory.specs.RecordLaws.{sound_image, length_blocks_in, judged_sound}
 use Rattle.memory.specs.Kept.{sound_kept}

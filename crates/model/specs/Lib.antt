@@ -23,9 +23,3 @@ pub mod Normal
 pub mod Lists
 pub mod RecordCalls
 pub mod Printer
-pub mod Cases
-pub mod Laws
-pub mod Demand
-pub mod BlockCases
-pub mod BitCases
-pub mod FlagCases

@@ -24,6 +24,11 @@ more b (got zero r) = refused bad_image
 more b (got (suc v) r) = got (b + 128 * suc v) r
 more b (refused e) = refused bad_image
 
+-- what f groups hold
+abbrev pub room : ℕ → ℕ
+room zero = 1
+room (suc f) = 128 * room f
+
 -- a number of at most f groups
 unfoldable pub groups : ℕ → List ℕ → Answer ℕ
 groups zero s = refused bad_image

@@ -13,7 +13,7 @@ use Rattle.model.specs.Compile.{Call, appended, compile_checks, compile_refusal,
 use Rattle.model.specs.Normal.{normal_shop}
 use Rattle.model.specs.RecordCalls.{Born, compile_refusal_in, compiled_in}
 use Rattle.model.specs.Record.{judged_record}
-use Rattle.model.specs.Laws.Refused.{accepts}
+use Rattle.model.proofs.Laws.Refused.{accepts}
 use Rattle.memory.specs.RecordLaws.{proper_record}
 use Rattle.memory.specs.Transfer.{accepted_script, blocks_counted, compile_transfer}
 use Rattle.preview.specs.Accepted.{with_all}

@@ -10,7 +10,7 @@ use Rattle.model.specs.Shop.{Slot}
 use Rattle.model.specs.Flags.{flag_answer}
 use Rattle.model.specs.RecordCalls.{Born, run_in}
 use Rattle.model.specs.Lists.{Along, after_all, following, last_at, last_from, now_at}
-use Rattle.model.specs.Laws.Lists.{none≢some}
+use Rattle.model.proofs.Laws.Lists.{none≢some}
 use Rattle.reclaim_record.specs.Stands.{LongBorn}
 use Rattle.capi.specs.declared.Ran.{Ran}
 use Rattle.capi.specs.Answers.{ran_as}

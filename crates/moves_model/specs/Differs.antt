@@ -9,7 +9,7 @@ use Rattle.model.specs.Shop.{Slot, empty_slot}
 use Rattle.model.specs.Flags.{slot_inside, until_outside}
 use Rattle.model.specs.Meaning.{Means}
 use Rattle.model.specs.Run.{Ran}
-use Rattle.model.specs.Laws.RunsAll.{until_short}
+use Rattle.model.proofs.Laws.RunsAll.{until_short}
 use Rattle.moves_model.specs.OneMore.{OneMore, stocks, Lower, same, Differ}
 use Rattle.moves_model.specs.Held.{after_lower, slot_near}
 

@@ -10,8 +10,8 @@ use Rattle.model.specs.Sheet.{Sheet, atc_for}
 use Rattle.model.specs.Requirement.{Requirement, keep, member, negate_req, same_req, settled, sorted}
 use Rattle.model.specs.Shop.{Slot, Timer, atc_limit, between, fifteen, five, limit_of, plain, ten, timer_of}
 use Rattle.model.specs.Normal.{acquired_of, filled_slot, lone, normal, normal_filled, normal_for, normal_shop}
-use Rattle.model.specs.Laws.Sets.{Sorted, ext, keep_sorted, member_keep, sorted_sorted, member_sorted}
-use Rattle.model.specs.Laws.Normal.{settled_sorted}
+use Rattle.model.proofs.Laws.Sets.{Sorted, ext, keep_sorted, member_keep, sorted_sorted, member_sorted}
+use Rattle.model.proofs.Laws.Normal.{settled_sorted}
 
 -- ---- limits
 

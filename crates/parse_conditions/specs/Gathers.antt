@@ -11,7 +11,7 @@ use Rattle.model.specs.Sheet.{Sheet}
 use Rattle.model.specs.Parse.{value, is_join, is_not, map_req, if_zero, signed, add_req, parse_requirement, gather}
 use Rattle.model.specs.declared.Op2.TheVariants.{Equal, NotEqual, Less, LessEqual, Greater, GreaterEqual, Add, Subtract, BitAnd, BitOr}
 use Rattle.model.specs.declared.Op1.TheVariants.{Not, Flag, Variable, Item, Atc, Time}
-use Rattle.model.specs.Laws.Normal.{neg_neg}
+use Rattle.model.proofs.Laws.Normal.{neg_neg}
 use Rattle.parse_keys.specs.Turns.{signs_meet}
 use Rattle.parse_conditions.specs.Gathered.{single, alone, gathered, inserted}
 use Rattle.memory.specs.PutNodes.{size_pos}

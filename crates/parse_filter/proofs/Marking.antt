@@ -9,7 +9,7 @@ use lib.Dec.{eqb}
 use lib.ListN.{get_or, length, set, take, length-append, length-map}
 use lib.Seq.{slice, slice_empty, length-slice, take-suc, take-suc-set, drop-append-le, length-take-le, get_or-set_same, get_or-set_other}
 use borrow.Author.Tests.{eqb-true, eqb-false}
-use Rattle.model.specs.Laws.Bools.{or_move}
+use Rattle.model.proofs.Laws.Bools.{or_move}
 use Rattle.parse_filter.specs.Chains.{signed_entry, signed_part, has}
 use Rattle.parse_filter.specs.Members.{has_append}
 use Rattle.parse_filter.specs.Marks.{Part, Marks, Unmarks}

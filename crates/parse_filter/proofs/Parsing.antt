@@ -7,7 +7,7 @@ use native.Mathlib.Omega.{arith}
 use lib.ListN.{get_or, length, take}
 use lib.Seq.{get_or-take, length-take-le}
 use Rattle.model.specs.Limits.{wide16}
-use Rattle.model.specs.Laws.Checks.{and_left, and_right, or_none}
+use Rattle.model.proofs.Laws.Checks.{and_left, and_right, or_none}
 use Rattle.shop.specs.Sets.{sorted_codes}
 use Rattle.parse_keys.specs.Entries.{Valid, entry_code}
 use Rattle.parse_filter.specs.Chains.{companion_of, has, entries_above, entries_in, reached, top_of, Falls, Chains, Walkable, Bounds}
@@ -17,8 +17,8 @@ use Rattle.parse_filter.specs.Frames.{entries_valid}
 use Rattle.parse_filter.specs.Marks.{MarkedAs, Marks, Onward, Unmarks, Served, as_they_are, none_left, Parsed}
 use Rattle.parse_filter.specs.Members.{has_append, has_stay, place_has, same_set, map_same}
 use Rattle.parse_filter.specs.declared.Marked.{Marked}
-use Rattle.model.specs.Laws.Normal.{both_ways_lem}
-use Rattle.model.specs.Laws.Bools.{or_cases, or_left, or_right}
+use Rattle.model.proofs.Laws.Normal.{both_ways_lem}
+use Rattle.model.proofs.Laws.Bools.{or_cases, or_left, or_right}
 
 -- ---- bounds
 

@@ -3,7 +3,7 @@ use Rattle.std.specs.Prelude.{◌≡◌, refl, Bool, true, false, not, cond, ◌
 use Rattle.std.proofs.Common.{sym, ap, ◌∙◌, true≢false}
 use Rattle.std.proofs.Math.Bool.{or_comm}
 use Rattle.std.proofs.lemmas.Bool.{not-false}
-use Rattle.model.specs.Laws.Bools.{or_left}
+use Rattle.model.proofs.Laws.Bools.{or_left}
 use Rattle.parse_filter.specs.Chains.{companion_of, has}
 use Rattle.parse_filter.specs.Filter.{stay, filtered, unmet, HeldAs}
 use Rattle.parse_filter.specs.Members.{has_append, has_stay, stay_append, has_self, has_later}

@@ -5,7 +5,7 @@ use Rattle.std.proofs.Math.Path.{ap}
 use Rattle.std.proofs.Math.Bool.{true}
 use native.Mathlib.Omega.{arith}
 use Rattle.std.proofs.Math.Seq.{slice, length-slice}
-use Rattle.model.specs.Laws.Bools.{or_cases}
+use Rattle.model.proofs.Laws.Bools.{or_cases}
 use Rattle.parse_keys.specs.Entries.{Valid}
 use Rattle.parse_filter.specs.Chains.{companion_of, signed_entry, has, joined_to, from_of, to_of, is_else, signed_part, part_of, entries_in, top_of, Chains}
 use Rattle.parse_filter.specs.ChainLaws.{down, entries_at, entries_none}

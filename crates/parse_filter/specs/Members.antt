@@ -5,13 +5,13 @@ use Rattle.std.proofs.Common.{sym, ap, ◌∙◌, true≢false, arith, eqb-true,
 use Rattle.std.proofs.Math.Bool.{or_comm, or_assoc, and-false}
 use mathlib.Core.List.{List, [], ◌∷◌, ◌++◌, map}
 use Rattle.model.specs.Requirement.{Requirement, haveItem, missingItem, haveAtc, missingAtc, haveFlag, missingFlag, insert, sorted, member, same_req}
-use Rattle.model.specs.Laws.Sets.{sorted_sorted, ext, member_sorted}
+use Rattle.model.proofs.Laws.Sets.{sorted_sorted, ext, member_sorted}
 use Rattle.shop.specs.Sets.{insert_code, sorted_codes}
 use Rattle.shop.specs.SetLaws.{insert_more}
 use Rattle.parse_filter.specs.Chains.{has}
 use Rattle.parse_filter.specs.Filter.{stay}
-use Rattle.model.specs.Laws.Normal.{both_ways_lem}
-use Rattle.model.specs.Laws.Bools.{or_cases, or_left, or_right}
+use Rattle.model.proofs.Laws.Normal.{both_ways_lem}
+use Rattle.model.proofs.Laws.Bools.{or_cases, or_left, or_right}
 
 -- ---- membership
 

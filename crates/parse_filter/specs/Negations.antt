@@ -5,9 +5,9 @@ use Rattle.std.proofs.Common.{◌∙◌, true≢false, arith, eqb-true}
 use Rattle.std.proofs.Math.Bool.{false, not, or_comm, or_assoc, or-false}
 use mathlib.Core.List.{List, [], ◌∷◌, map}
 use Rattle.model.specs.Requirement.{Requirement, haveItem, missingItem, haveAtc, missingAtc, haveFlag, missingFlag, same_req, negate_req, insert, sorted, member, keep, settled, extend}
-use Rattle.model.specs.Laws.Checks.{and_right}
-use Rattle.model.specs.Laws.Sets.{same_refl, Sorted, insert_sorted, sorted_sorted, member_insert, ext, member_sorted}
-use Rattle.model.specs.Laws.Runs.{same_req_true}
+use Rattle.model.proofs.Laws.Checks.{and_right}
+use Rattle.model.proofs.Laws.Sets.{same_refl, Sorted, insert_sorted, sorted_sorted, member_insert, ext, member_sorted}
+use Rattle.model.proofs.Laws.Runs.{same_req_true}
 use Rattle.shop_codes.specs.Codes.{code_of, requirement_of, Narrow, AllNarrow, is_missing}
 use Rattle.shop.specs.Sets.{sorted_codes}
 use Rattle.shop_codes.specs.Laws.{code_narrow}
@@ -20,8 +20,8 @@ use Rattle.parse_filter.specs.Chains.{companion_of, has}
 use Rattle.parse_filter.specs.Filter.{stay, filtered, companion_codes, negated_codes}
 use Rattle.parse_filter.specs.Members.{has_self, has_later}
 use Rattle.parse_filter.specs.Companions.{filtered_has}
-use Rattle.model.specs.Laws.Normal.{same_move, both_ways_lem, neg_neg, settled_member, extend_member, extend_sorted}
-use Rattle.model.specs.Laws.Bools.{or_cases, or_left, or_right}
+use Rattle.model.proofs.Laws.Normal.{same_move, both_ways_lem, neg_neg, settled_member, extend_member, extend_sorted}
+use Rattle.model.proofs.Laws.Bools.{or_cases, or_left, or_right}
 
 -- ---- negated requirements
 

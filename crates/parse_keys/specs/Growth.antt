@@ -3,7 +3,7 @@ use Rattle.std.specs.Prelude.{◌≡◌, refl, List, ℕ, ◌*◌, ◌/◌, ◌�
 use Rattle.std.proofs.Common.{◌∙◌, arith}
 use Rattle.std.proofs.lemmas.List.{length-replicate}
 use Rattle.model.specs.Requirement.{Requirement}
-use Rattle.model.specs.Laws.Places.{all_one}
+use Rattle.model.proofs.Laws.Places.{all_one}
 use Rattle.parse_keys.specs.Entries.{entry_req, Valid, Stand}
 use Rattle.parse_keys.specs.Tables.{Tables, Grown}
 

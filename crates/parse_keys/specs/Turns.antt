@@ -5,7 +5,7 @@ use Rattle.std.proofs.Math.Option.{Option, none, some}
 use Rattle.std.proofs.lemmas.Bool.{eqb-false}
 use Rattle.model.specs.Requirement.{Requirement, negate_req}
 use Rattle.model.specs.Parse.{map_req, signed}
-use Rattle.model.specs.Laws.Normal.{neg_neg}
+use Rattle.model.proofs.Laws.Normal.{neg_neg}
 use Rattle.shop_codes.specs.Codes.{requirement_of}
 use Rattle.parse_keys.specs.Entries.{turned, entry_req, Valid}
 

@@ -11,9 +11,9 @@ use Rattle.model.specs.Expr.{Expr, imm16}
 use Rattle.model.specs.Script.{Block, block_at}
 use Rattle.model.specs.Memory.{Coded, Memory, value_at, tree, command_word, block_word, set_in, command_by, command_in, commands_in, block_by, block_in, script_of}
 use Rattle.model.specs.Record.{judged_record}
-use Rattle.model.specs.Laws.ImageExpr.{FitsExpr}
-use Rattle.model.specs.Laws.Sound as Trees
-use Rattle.model.specs.Laws.Judged.{accepted_held}
+use Rattle.model.proofs.Laws.ImageExpr.{FitsExpr}
+use Rattle.model.proofs.Laws.Sound as Trees
+use Rattle.model.proofs.Laws.Judged.{accepted_held}
 use Rattle.memory.specs.Sound.{Root, SoundTarget, SoundBy, SoundCommand, SoundCommands, SoundKind}
 use Rattle.memory.specs.NodeLaws.{tree_imm16}
 use Rattle.memory.specs.RecordLaws.{block_at_lem, judged_sound}

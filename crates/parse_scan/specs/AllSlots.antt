@@ -12,8 +12,8 @@ use Rattle.model.specs.Sheet.{Sheet, item_count, all}
 use Rattle.model.specs.Requirement.{Requirement}
 use Rattle.model.specs.Shop
 use Rattle.model.specs.Parse.{update_slot, update_slots, few_entries, blank}
-use Rattle.model.specs.Laws.Walks.{updates_length}
-use Rattle.model.specs.Laws.Places.{all_from}
+use Rattle.model.proofs.Laws.Walks.{updates_length}
+use Rattle.model.proofs.Laws.Places.{all_from}
 use Rattle.shop.specs.Shapes.{slot_of, slots_of, placed}
 use Rattle.shop.specs.Good.{beyond, GoodSlot, GoodShop, own_few}
 use Rattle.shop.specs.declared.Slot.{Slot}

@@ -3,9 +3,9 @@ use Rattle.std.specs.Prelude.{◌≡◌, refl, Bool, true, false, cond, ◌||◌
 use Rattle.std.proofs.Common.{sym, ap, ◌∙◌, arith}
 use Rattle.std.proofs.Math.Bool.{or_comm, or-false}
 use Rattle.model.specs.Requirement.{Requirement, negate_req, same_req, before, insert, member, extend}
-use Rattle.model.specs.Laws.Sets.{Sorted, insert_sorted, member_insert, ext}
-use Rattle.model.specs.Laws.Normal.{extend_sorted, extend_member}
-use Rattle.model.specs.Laws.Bools.{or_move}
+use Rattle.model.proofs.Laws.Sets.{Sorted, insert_sorted, member_insert, ext}
+use Rattle.model.proofs.Laws.Normal.{extend_sorted, extend_member}
+use Rattle.model.proofs.Laws.Bools.{or_move}
 use Rattle.shop_codes.specs.Codes.{code_of, AllNarrow}
 use Rattle.shop.specs.Sets.{insert_code}
 use Rattle.shop.specs.SetLaws.{insert_more}

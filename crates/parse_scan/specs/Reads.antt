@@ -10,7 +10,7 @@ use Rattle.std.proofs.Math.Facts.{Fits-nat_abs}
 use borrow.Author.Tests.{lt-ltb, le-ltb, ltb-true, eq-eqb, ne_eqb}
 use Rattle.model.specs.Limits.{slot_count, count_first, item_first, half32}
 use Rattle.model.specs.Signed.{cut16, in_range}
-use Rattle.model.specs.Laws.Signed.{wrap_id}
+use Rattle.model.proofs.Laws.Signed.{wrap_id}
 use Rattle.model.specs.Expr.{Expr, two, one, imm16, imm32, other}
 use Rattle.model.specs.declared.Op2.{Op2}
 use Rattle.model.specs.declared.Op1.{Op1}
@@ -18,7 +18,7 @@ use Rattle.model.specs.declared.Op1.TheVariants.{Not, Flag, Variable, Item, Atc,
 use Rattle.model.specs.declared.Kind.{Kind}
 use Rattle.model.specs.declared.Kind.TheVariants.{Two, One, Imm16, Imm32, Other}
 use Rattle.model.specs.Image.{kind_of, kinds, code_of}
-use Rattle.model.specs.Laws.ImageExpr.{code_kind}
+use Rattle.model.proofs.Laws.ImageExpr.{code_kind}
 use Rattle.std.proofs.Math.ListN.{get_or-eq_default}
 use Rattle.model.specs.Memory.{Nodes, code_at, left_at, right_at, value_at, node_of, tree}
 use Rattle.model.specs.Parse.{Place, temp, elsewhere, itemVar, countVar, value, place, place_of, if_first, written, item_index, is_subtract, limit_in, new_limit}

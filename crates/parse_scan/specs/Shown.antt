@@ -10,7 +10,7 @@ use Rattle.model.specs.Sheet.{Sheet}
 use Rattle.model.specs.Requirement.{Requirement}
 use Rattle.model.specs.Shop.{Slot}
 use Rattle.model.specs.Parse.{update_slot, update_slots}
-use Rattle.model.specs.Laws.Bools.{or_no}
+use Rattle.model.proofs.Laws.Bools.{or_no}
 use Rattle.parse_scan.specs.Bits.{one_there}
 use Rattle.parse_scan.specs.Table.{table_of, table_long, next_touched, untouched, there}
 

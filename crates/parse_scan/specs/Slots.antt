@@ -14,7 +14,7 @@ use Rattle.model.specs.Sheet.{Sheet, item_count}
 use Rattle.model.specs.Requirement.{Requirement, extend}
 use Rattle.model.specs.Shop
 use Rattle.model.specs.Parse.{fill_item, new_count, update_slot, few_entries}
-use Rattle.model.specs.Laws.Normal.{extend_sorted}
+use Rattle.model.proofs.Laws.Normal.{extend_sorted}
 use Rattle.shop_codes.specs.Codes.{code_of, requirement_of, AllNarrow}
 use Rattle.shop.specs.Shapes.{entries, item_of, slot_of}
 use Rattle.shop.specs.Sets.{held, reqs_of}

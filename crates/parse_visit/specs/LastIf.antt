@@ -11,7 +11,7 @@ use Rattle.model.specs.Script.{Block, block_at, sum_of, command_nodes, commands_
 use Rattle.model.specs.Memory.{Memory, Coded, tree, command_word, command_by, command_in, commands_in, block_word, block_by, block_in, script_of}
 use Rattle.model.specs.Record.{judged_record}
 use Rattle.memory.specs.Sound.{Root, SoundBy, SoundCommand, SoundCommands, SoundKind}
-use Rattle.model.specs.Laws.Judged.{accepted_held}
+use Rattle.model.proofs.Laws.Judged.{accepted_held}
 use Rattle.memory.specs.RecordLaws.{block_at_lem, judged_sound}
 use Rattle.memory.specs.Transfer.{accepted_script}
 use Rattle.parse_scan.specs.LastIf.{last_if}

@@ -8,7 +8,7 @@ use lib.ListN.{length, get_or, take}
 use Rattle.model.specs.Refusal.{parse_not_code}
 use Rattle.model.specs.Memory.{Memory}
 use Rattle.shop.specs.declared.Shop.{Shop}
-use Rattle.model.specs.Laws.Marks.{unmarked}
+use Rattle.model.proofs.Laws.Marks.{unmarked}
 use Rattle.reach.specs.Stacks.{top_of, ways, Pushed, is_code_at}
 use Rattle.parse_keys.specs.Sheets.{known_sheet, knows}
 use Rattle.parse_keys.specs.declared.Known.{Known}

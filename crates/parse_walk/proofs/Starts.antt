@@ -20,8 +20,8 @@ use Rattle.shop.specs.Shapes.{slot_of, slots_of, no_shop, entries}
 use Rattle.shop.specs.declared.Shop as Code
 use Rattle.shop.specs.Good.{good_start}
 use Rattle.reach.specs.Dfs.{entry}
-use Rattle.model.specs.Laws.Marks.{unmarked, unmarked_replicate}
-use Rattle.model.specs.Laws.Places.{all_one}
+use Rattle.model.proofs.Laws.Marks.{unmarked, unmarked_replicate}
+use Rattle.model.proofs.Laws.Places.{all_one}
 use Rattle.reach.specs.Weights.{weight_of, weight_all}
 use Rattle.reach.specs.Stacks.{stack_of, AllLow}
 use Rattle.expr.specs.Requirement.{Has}

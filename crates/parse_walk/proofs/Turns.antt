@@ -20,8 +20,8 @@ use Rattle.memory.specs.RecordLaws.{block_at_lem}
 use Rattle.memory.specs.Transfer.{blocks_counted, judged_kept}
 use Rattle.shop.specs.declared.Shop.{Shop}
 use Rattle.reach.specs.Dfs.{Entry, entry, Ways, nowhere, to, to_both, ways_by, pushed, walks_a}
-use Rattle.model.specs.Laws.Marks.{unmarked, unmarked_set}
-use Rattle.model.specs.Laws.Bools.{or_left}
+use Rattle.model.proofs.Laws.Marks.{unmarked, unmarked_set}
+use Rattle.model.proofs.Laws.Bools.{or_left}
 use Rattle.reach.specs.Weights.{weight_of, weight_set}
 use Rattle.reach.specs.Stacks.{stack_of, top_of, ways, grows, Pushed, is_code_at, AllLow, top_most, top_free, low_top, low_pushed}
 use Rattle.parse_visit.specs.declared.Walk.{Walk}

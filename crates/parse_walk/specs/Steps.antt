@@ -13,9 +13,9 @@ use Rattle.model.specs.Sheet.{Sheet}
 use Rattle.model.specs.Script.{Block, placeholder, code, data_block, block_at}
 use Rattle.model.specs.Parse.{State, refuse, scanned, visited, passed_over, parse_block, start, parse}
 use Rattle.reach.specs.Dfs.{Entry, entry, Ways, nowhere, to, to_both, ways_by, Stepped, walk_a, walks_a, pushed, Goes, enough_more, walks_skip, walks_visit, walks_off}
-use Rattle.model.specs.Laws.Marks.{unmarked, unmarked_set, unmarked_most}
-use Rattle.model.specs.Laws.Checks.{or_none}
-use Rattle.model.specs.Laws.AllCode.{code_there}
+use Rattle.model.proofs.Laws.Marks.{unmarked, unmarked_set, unmarked_most}
+use Rattle.model.proofs.Laws.Checks.{or_none}
+use Rattle.model.proofs.Laws.AllCode.{code_there}
 
 -- one block: 10 where it is not code
 unfoldable pub step_by : Sheet → ℕ → Option Expr → State → Block → Stepped (Option Expr) State

@@ -12,7 +12,7 @@ use Rattle.shop.specs.Shapes.{slots_of}
 use Rattle.shop.specs.declared.Shop.{Shop}
 use Rattle.shop.specs.Good.{GoodShop}
 use Rattle.reach.specs.Dfs.{Entry, entry}
-use Rattle.model.specs.Laws.Marks.{unmarked}
+use Rattle.model.proofs.Laws.Marks.{unmarked}
 use Rattle.reach.specs.Weights.{weight_of}
 use Rattle.reach.specs.Stacks.{stack_of, AllLow}
 use Rattle.parse_keys.specs.declared.Known.{Known}

@@ -9,7 +9,7 @@ use Rattle.model.specs.Save.{Save, nat_at}
 use Rattle.model.specs.Sheet.{all}
 use Rattle.model.specs.Requirement.{Requirement, haveItem, missingItem, haveAtc, missingAtc, haveFlag, missingFlag}
 use Rattle.model.specs.Meaning.{held, holds, all_hold}
-use Rattle.model.specs.Laws.Runs.{all_hold_lem}
+use Rattle.model.proofs.Laws.Runs.{all_hold_lem}
 use Rattle.shop_codes.specs.Codes.{requirement_of, subject, is_missing}
 use Rattle.shop.proofs.All.{all_map}
 use Rattle.preview.specs.Tests.{is_there}

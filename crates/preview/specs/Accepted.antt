@@ -9,7 +9,7 @@ use Rattle.model.specs.Sheet.{Sheet, sheet_refusal, save_refusal}
 use Rattle.model.specs.Shop.{Slot, with_slots, shop_refusal}
 use Rattle.model.specs.Flags.{shop_inside}
 use Rattle.model.specs.Preview.{Preview, preview_call}
-use Rattle.model.specs.Laws.Places.{padded_all}
+use Rattle.model.proofs.Laws.Places.{padded_all}
 use Rattle.preview.specs.Shown.{meanings_of, previewed_of}
 
 -- twenty slots are the shop's already

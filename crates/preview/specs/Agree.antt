@@ -10,7 +10,7 @@ use Rattle.model.specs.Sheet.{Sheet, all, save_refusal, sheet_refusal}
 use Rattle.model.specs.Shop.{Slot, empty_slot, slot_ok, shop_refusal}
 use Rattle.model.specs.Meaning.{hidden, meaning_of, Means}
 use Rattle.model.specs.Flags.{flag_answer, shop_inside, until_outside}
-use Rattle.model.specs.Laws.RunsAll.{until_all}
+use Rattle.model.proofs.Laws.RunsAll.{until_all}
 use Rattle.model.specs.Preview.{Preview, preview_call}
 use Rattle.preview.specs.Shown.{meanings_of, previewed_of}
 use Rattle.preview.specs.Accepted.{with_all, accepted_preview, items_are, counts_are}

@@ -13,9 +13,9 @@ use Rattle.model.specs.Memory.{Memory, memory_in, script_of, put_blocks}
 use Rattle.model.specs.Record.{judged_record}
 use Rattle.model.specs.Files.{Wrote, over, write_checked}
 use Rattle.model.specs.RecordCalls.{Born, record_refusal, write_in}
-use Rattle.model.specs.Laws.Files.{write_then_read}
-use Rattle.model.specs.Laws.Refused.{Accepts, accepts}
-use Rattle.model.specs.Laws.Checks.{first_alone}
+use Rattle.model.proofs.Laws.Files.{write_then_read}
+use Rattle.model.proofs.Laws.Refused.{Accepts, accepts}
+use Rattle.model.proofs.Laws.Checks.{first_alone}
 use Rattle.memory.specs.View.{memory_of, born_of, empty_in}
 use Rattle.memory.specs.declared.Counts.{Counts}
 use Rattle.memory.specs.RecordLaws.{judged_sound, proper_record}

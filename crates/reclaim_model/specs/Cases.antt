@@ -5,7 +5,7 @@ use Rattle.model.specs.Refusal.{bad_roots, over_limit}
 use Rattle.model.specs.Expr.{imm16}
 use Rattle.model.specs.Script.{return, goto, if_else, end_if, Block, placeholder, code, data_block, block_commands, block_nodes, commands_nodes, command_nodes}
 use Rattle.model.specs.Judge.{counts_ok, judged}
-use Rattle.model.specs.Cases.{first, opened, sheet}
+use Rattle.model.proofs.Cases.{first, opened, sheet}
 use Rattle.reclaim_model.specs.Rename.{links_of, targets, rename_block}
 use Rattle.reclaim_model.specs.Reclaim.{reached, reach_from, missed, first_missed, survivors, rank, moved_from, kept_blocks}
 use Rattle.reclaim_model.specs.Changes.{BornScript, appended_born, compile_refusal_born, compiled_born, kept_only, reclaim_refusal, reclaimed}

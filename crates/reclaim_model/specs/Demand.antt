@@ -17,11 +17,11 @@ use Rattle.model.specs.Run.{run, run_call, run_checked_by}
 use Rattle.model.specs.Parse.{parse, parse_call, parse_checked}
 use Rattle.model.specs.Normal.{normal, normal_shop}
 use Rattle.model.specs.Lists.{after_all, last_at, now_at}
-use Rattle.model.specs.Demand.{RunsAs, runs_as, runs_inside}
-use Rattle.model.specs.Laws.Checked.{save_fits, save_long, sheet_fits}
-use Rattle.model.specs.Laws.ReadsAll.{ReadSo, linked_normal}
-use Rattle.model.specs.Laws.RunsAll.{Served, linked_run}
-use Rattle.model.specs.Laws.SlotRuns.{Fits}
+use Rattle.model.proofs.Demand.{RunsAs, runs_as, runs_inside}
+use Rattle.model.proofs.Laws.Checked.{save_fits, save_long, sheet_fits}
+use Rattle.model.proofs.Laws.ReadsAll.{ReadSo, linked_normal}
+use Rattle.model.proofs.Laws.RunsAll.{Served, linked_run}
+use Rattle.model.proofs.Laws.SlotRuns.{Fits}
 use Rattle.reclaim_model.specs.Rename.{rename_block}
 use Rattle.reclaim_model.specs.Changes.{BornScript, birth_at, compile_refusal_born, compiled_born, Change, changes}
 use Rattle.reclaim_model.specs.Laws.Born.{Borne, later_refused}

@@ -11,7 +11,7 @@ use Rattle.model.specs.Script.{Block, placeholder, block_at}
 use Rattle.model.specs.Reading.{got}
 use Rattle.model.specs.Memory.{Memory, memory_in, script_of, block_word}
 use Rattle.model.specs.Record.{judged_record}
-use Rattle.model.specs.Laws.Judged.{accepted_held}
+use Rattle.model.proofs.Laws.Judged.{accepted_held}
 use Rattle.memory.specs.Sound.{SoundKind}
 use Rattle.memory.specs.RecordLaws.{judged_sound}
 use Rattle.memory.specs.Transfer.{accepted_script, blocks_counted, judged_kept}

@@ -9,8 +9,8 @@ use Rattle.std.proofs.lemmas.List.{length-replicate}
 use Rattle.std.proofs.Math.Seq.{get_or-set_other}
 use Rattle.model.specs.Limits.{block_limit}
 use Rattle.reclaim_model.specs.Rename.{Every}
-use Rattle.model.specs.Laws.Marks.{unmarked, unmarked_set, unmarked_replicate}
-use Rattle.model.specs.Laws.Places.{marks_stay, all_one}
+use Rattle.model.proofs.Laws.Marks.{unmarked, unmarked_set, unmarked_replicate}
+use Rattle.model.proofs.Laws.Places.{marks_stay, all_one}
 use Rattle.reclaim_reach.specs.Words.{Low}
 
 -- the marks, and the array whose first `count` elements are the queue

@@ -4,7 +4,7 @@ use Rattle.std.proofs.Common.{sym, ap, ◌∙◌, add-one, drop_of_length-le, dr
 use Rattle.std.proofs.lemmas.Bool.{lt-leb}
 use Rattle.model.specs.Limits.{root_limit}
 use Rattle.model.specs.Sheet.{all}
-use Rattle.model.specs.Laws.Checks.{and_left, and_right}
+use Rattle.model.proofs.Laws.Checks.{and_left, and_right}
 use Rattle.reclaim_model.specs.Rename.{Every}
 use Rattle.reclaim_model.specs.Reclaim.{roots_ok}
 

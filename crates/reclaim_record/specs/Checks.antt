@@ -11,8 +11,8 @@ use Rattle.model.specs.Refusal.{bad_roots, check}
 use Rattle.model.specs.Sheet.{all}
 use Rattle.model.specs.Record.{judged_record}
 use Rattle.model.specs.RecordCalls.{Born, record_refusal}
-use Rattle.model.specs.Laws.Checks.{first_passed}
-use Rattle.model.specs.Laws.Refused.{Accepts, accepts}
+use Rattle.model.proofs.Laws.Checks.{first_passed}
+use Rattle.model.proofs.Laws.Refused.{Accepts, accepts}
 use Rattle.memory.specs.RecordLaws.{proper_record}
 use Rattle.reclaim_model.specs.Reclaim.{roots_ok}
 use Rattle.reclaim_model.specs.Changes.{reclaim}
@@ -37,6 +37,7 @@ module _ (k : Born) (rs : List ℕ) where
       by false e = refl
 
       outside : (xs : List ℕ) → Memᴰ r xs → all (λ x. ltb x k.memory.count) xs ≡ false
+      outside [] i = elim i [ ]
       outside (x ∷ xs) (Memᴰ.head e) = rw (le-ltb x k.memory.count (omega arith))
       outside (x ∷ xs) (Memᴰ.tail i) = by (ltb x k.memory.count) (outside xs i)
 

@@ -7,7 +7,7 @@ use Rattle.model.specs.Shop.{shop_refusal}
 use Rattle.model.specs.Memory.{script_of}
 use Rattle.model.specs.Compile.{Call, compile_checks, fresh_blocks, room_refusal}
 use Rattle.model.specs.RecordCalls.{Born, born_at, call_in, compile_refusal_in, compiled_in, record_refusal}
-use Rattle.model.specs.Laws.Checks.{CompilePassed, compile_passed}
+use Rattle.model.proofs.Laws.Checks.{CompilePassed, compile_passed}
 use Rattle.reclaim_model.specs.Laws.Born.{then_later}
 
 module _ (h : Sheet) (k : Born) (c : Call) where

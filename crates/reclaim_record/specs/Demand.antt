@@ -22,9 +22,9 @@ use Rattle.model.specs.Compile.{Call}
 use Rattle.model.specs.Run.{run_call}
 use Rattle.model.specs.Normal.{normal_shop}
 use Rattle.model.specs.Lists.{after_all, last_at, last_from, now_at}
-use Rattle.model.specs.Demand.{RunsAs}
-use Rattle.model.specs.Laws.Lists.{Followed, none≢some}
-use Rattle.model.specs.Laws.Refused.{Proper}
+use Rattle.model.proofs.Demand.{RunsAs}
+use Rattle.model.proofs.Laws.Lists.{Followed, none≢some}
+use Rattle.model.proofs.Laws.Refused.{Proper}
 use Rattle.memory.specs.RecordLaws.{proper_record}
 use Rattle.reclaim_model.specs.Rename.{links_of}
 use Rattle.reclaim_model.specs.Changes.{BornScript, Change, compile, reclaim, changes}

@@ -9,7 +9,7 @@ use Rattle.model.specs.Judge.{counted, script_refusal}
 use Rattle.model.specs.Memory.{script_of}
 use Rattle.model.specs.Compile.{has_room}
 use Rattle.model.specs.RecordCalls.{Born}
-use Rattle.model.specs.Laws.Judged.{Room, room_low}
+use Rattle.model.proofs.Laws.Judged.{Room, room_low}
 use Rattle.memory.specs.Sound.{Long}
 use Rattle.memory.specs.Transfer.{accepted_script, blocks_counted}
 use Rattle.reclaim_model.specs.Rename.{rename_block}

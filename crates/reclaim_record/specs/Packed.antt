@@ -13,8 +13,8 @@ use Rattle.model.specs.Judge.{script_refusal}
 use Rattle.model.specs.Memory.{Nodes, Coded, Memory, command_word, set_in, command_by, command_in, commands_in, block_word, link_in, block_by, block_in, script_of}
 use Rattle.model.specs.Record.{judged_record}
 use Rattle.model.specs.RecordCalls.{Born}
-use Rattle.model.specs.Laws.Files.{write_then_read}
-use Rattle.model.specs.Laws.Judged.{accepted_held, held_accepted}
+use Rattle.model.proofs.Laws.Files.{write_then_read}
+use Rattle.model.proofs.Laws.Judged.{accepted_held, held_accepted}
 use Rattle.memory.specs.Sound.{Root, SoundTarget, SoundBy, SoundCommand, SoundCommands, SoundKind, SoundBlock, Sound}
 use Rattle.memory.specs.RecordLaws.{block_at_lem, judged_sound}
 use Rattle.memory.specs.Transfer.{accepted_record, accepted_script, blocks_counted}

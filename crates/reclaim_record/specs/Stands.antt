@@ -22,10 +22,10 @@ use Rattle.model.specs.RecordCalls.{Born, appended_in, births_after, born_at, ca
 use Rattle.model.specs.Compile.{Call, appended, compile_checks, compile_refusal, disc_limits, fresh_blocks, room_refusal}
 use Rattle.model.specs.Run.{run_call}
 use Rattle.model.specs.Parse.{parse_call}
-use Rattle.model.specs.Laws.Checks.{setup_inside, shared_passed}
-use Rattle.model.specs.Laws.Compiled.{length_linked}
-use Rattle.model.specs.Laws.Judged.{accepted_held, room_low}
-use Rattle.model.specs.Laws.Lists.{Follows, Followed, along_any, follows_all}
+use Rattle.model.proofs.Laws.Checks.{setup_inside, shared_passed}
+use Rattle.model.proofs.Laws.Compiled.{length_linked}
+use Rattle.model.proofs.Laws.Judged.{accepted_held, room_low}
+use Rattle.model.proofs.Laws.Lists.{Follows, Followed, along_any, follows_all}
 use Rattle.memory.specs.Sound.{Sound, Long, Room}
 use Rattle.memory.specs.PutBlocks.{put_sound}
 use Rattle.memory.specs.RecordLaws.{block_at_lem, judged_sound}

@@ -18,6 +18,12 @@ use model::{BlockNo, ItemId, Loader, WIDE16};
 use shop::{ENTRIES, Row, Sheet, Shop, Slot, SlotItem, empty_shop, with_slot};
 use slots_sheet::{Heading, read_heading};
 
+// The standard input.
+const STDIN: i32 = 0;
+
+// The standard output.
+const STDOUT: i32 = 1;
+
 const MOST_ENTRIES: u64 = ENTRIES as u64;
 
 // The place after something malformed. Nothing can be read there, so all that follows is malformed too.

@@ -11,6 +11,9 @@ use rights::{Field, RIGHTS};
 use shop::{CODES, Codes, ENTRIES, Row, SLOTS};
 use shop_arrays::{arrays_of, clear_arrays, put_entries, shop_from, slot_by};
 
+// The standard input.
+const STDIN: i32 = 0;
+
 fn main() {
     let mut input: [u8; 8192] = [0; 8192];
     let mut rights: [u8; RIGHTS] = [0; RIGHTS];

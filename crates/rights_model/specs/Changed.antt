@@ -9,7 +9,7 @@ use borrow.Author.Tests.{eq-eqb, eqb-true}
 use Rattle.model.specs.Limits.{slot_count}
 use Rattle.model.specs.Sheet.{Sheet, all}
 use Rattle.model.specs.Shop.{Slot, empty_slot}
-use Rattle.model.specs.Laws.Checks.{and_left, and_right}
+use Rattle.model.proofs.Laws.Checks.{and_left, and_right}
 use Rattle.rights_model.specs.Rights.{Content, Edit, Field, LastEdit, Table, after_edits, edit_call, edit_refusal, field_code, field_in, field_of, touches}
 use Rattle.rights_model.specs.Fields.{allowed, call_field, call_long, field_is_lem}
 

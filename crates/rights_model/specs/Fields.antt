@@ -13,7 +13,7 @@ use Rattle.model.specs.Limits.{slot_count, user_count}
 use Rattle.model.specs.Refusal.{check, first_of, no_user}
 use Rattle.model.specs.Sheet.{Sheet, sheet_refusal}
 use Rattle.model.specs.Shop.{Slot, empty_slot}
-use Rattle.model.specs.Laws.Checks.{and_left, and_right, first_passed, passed}
+use Rattle.model.proofs.Laws.Checks.{and_left, and_right, first_passed, passed}
 use Rattle.rights_model.specs.Rights.{Content, Edit, Field, Table, new_item, new_limit, new_requirements, itemField, limitField, requirementsField, content_check, edit_call, edit_refusal, edited_of, right_check, field_code, field_in, field_of, may_change, put, touches}
 
 -- ---- the field that is put, and the others

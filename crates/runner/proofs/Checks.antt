@@ -15,7 +15,7 @@ use Rattle.model.specs.Reading.{got}
 use Rattle.model.specs.Memory.{Coded, Memory, command_word, block_word, script_of}
 use Rattle.model.specs.Record.{judged_record}
 use Rattle.model.specs.RecordCalls.{call_in, run_in}
-use Rattle.model.specs.Laws.Checked.{save_long}
+use Rattle.model.proofs.Laws.Checked.{save_long}
 use Rattle.memory.specs.Sound.{Root, SoundTarget, SoundBy, SoundCommand, SoundKind}
 use Rattle.memory.specs.RecordLaws.{judged_sound}
 use Rattle.memory.specs.Transfer.{judged_kept}

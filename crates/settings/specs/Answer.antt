@@ -13,7 +13,7 @@ use Rattle.model.specs.Sheet.{sheet_ok}
 use Rattle.model.specs.Shop as Shops
 use Rattle.model.specs.Shop.{limit_of, slot_ok, timer_of}
 use Rattle.model.specs.Requirement.{Requirement}
-use Rattle.model.specs.Laws.Checks.{first_passed, passed}
+use Rattle.model.proofs.Laws.Checks.{first_passed, passed}
 use Rattle.model.specs.Compile.{rate_of}
 use Rattle.model.specs.Normal.{acquired_of}
 use Rattle.faithful_model.specs.Faithful.{faithful_filled}

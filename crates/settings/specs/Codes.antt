@@ -13,8 +13,8 @@ use Rattle.model.specs.Shop.{item_known, slot_ok}
 use Rattle.model.specs.Normal.{acquired_of}
 use Rattle.model.specs.Compile.{acquired_req}
 use Rattle.model.specs.Printer.{atc_entry}
-use Rattle.model.specs.Laws.Checks.{and_left}
-use Rattle.model.specs.Laws.Checked.{sheet_fits}
+use Rattle.model.proofs.Laws.Checks.{and_left}
+use Rattle.model.proofs.Laws.Checked.{sheet_fits}
 use Rattle.faithful_model.specs.Faithful.{faithful_filled, no_pair}
 use Rattle.shop_codes.specs.Codes.{AllNarrow, Narrow, code_of, shift}
 use Rattle.shop_codes.specs.Laws.{same_code, shift_most}
@@ -22,7 +22,7 @@ use Rattle.shop_codes.specs.Subjects.{negate_narrow}
 use Rattle.shop.specs.Shapes.{atc_at, item_of, sheet_of, slot_of}
 use Rattle.shop.specs.Slots.{atc_for_lem, atcs_few, entries_take, items_few, slot_exact}
 use Rattle.model.specs.declared.ItemId.{ItemId}
-use Rattle.model.specs.Laws.Bools.{not_or}
+use Rattle.model.proofs.Laws.Bools.{not_or}
 use Rattle.shop.specs.declared.Sheet.{Sheet}
 use Rattle.shop.specs.declared.Slot.{Slot}
 use Rattle.shop.specs.declared.SlotItem.TheVariants.{Of}

@@ -7,6 +7,9 @@ use case_lines::{
     signed16, tell, total,
 };
 
+// The standard input.
+const STDIN: i32 = 0;
+
 fn main() {
     let mut input: [u8; 4096] = [0; 4096];
     start(&mut input);

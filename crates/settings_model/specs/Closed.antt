@@ -11,9 +11,9 @@ use Rattle.model.specs.Requirement.{Requirement, haveItem, missingItem, haveAtc,
 use Rattle.model.specs.Shop.{Slot, limit_of, timer_of}
 use Rattle.model.specs.Compile.{acquired_req, rate_of}
 use Rattle.model.specs.Normal.{acquired_of}
-use Rattle.model.specs.Laws.Checks.{and_left, and_right}
-use Rattle.model.specs.Laws.Normal.{both_ways_lem}
-use Rattle.model.specs.Laws.Bools.{or_right, never_true, not_or}
+use Rattle.model.proofs.Laws.Checks.{and_left, and_right}
+use Rattle.model.proofs.Laws.Normal.{both_ways_lem}
+use Rattle.model.proofs.Laws.Bools.{or_right, never_true, not_or}
 use Rattle.faithful_model.specs.Faithful.{faithful_filled, no_pair}
 use Rattle.faithful_model.specs.Lists.{all_member, all_of, of_pairs, pair_own, pairs}
 use Rattle.settings_model.specs.Settings.{Subject, rate_is, agree, answer_in, combos, count, distinct, hidden_count, listed_by, listed_count, listed_filled, listed_for, listed_with, meets, member_s, or_rate, rates, same_subject, subject_of, subjects, subjects_filled, subjects_for, without}

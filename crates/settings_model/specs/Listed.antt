@@ -14,8 +14,8 @@ use Rattle.model.specs.Shop.{Slot, limit_of, timer_of}
 use Rattle.model.specs.Compile.{acquired_req, rate_of}
 use Rattle.model.specs.Meaning.{acquired, all_hold, at_rate, held, holds, limit_meaning, meaning_of, unique_meaning}
 use Rattle.model.specs.Normal.{acquired_of}
-use Rattle.model.specs.Laws.Sets.{same_refl}
-use Rattle.model.specs.Laws.Bools.{or_right}
+use Rattle.model.proofs.Laws.Sets.{same_refl}
+use Rattle.model.proofs.Laws.Bools.{or_right}
 use Rattle.settings_model.specs.Settings.{Subject, rate_is, agree, answer_in, distinct, listed_by, listed_filled, listed_for, listed_with, meets, member_s, or_rate, rates, same_subject, says, setting_of, subject_of, subjects, subjects_filled, subjects_for}
 use Rattle.settings_model.specs.Subjects.{distinct_member, subject_in, subject_own, subject_true}
 

@@ -8,10 +8,10 @@ use Rattle.model.specs.Sheet.{Sheet}
 use Rattle.model.specs.Shop.{timer_of}
 use Rattle.model.specs.Compile.{rate_of}
 use Rattle.model.specs.Normal.{acquired_of}
-use Rattle.model.specs.Laws.Normal.{both_ways_lem}
-use Rattle.model.specs.Laws.Runs.{same_req_true}
-use Rattle.model.specs.Laws.Sets.{same_refl}
-use Rattle.model.specs.Laws.Bools.{or_cases, or_right}
+use Rattle.model.proofs.Laws.Normal.{both_ways_lem}
+use Rattle.model.proofs.Laws.Runs.{same_req_true}
+use Rattle.model.proofs.Laws.Sets.{same_refl}
+use Rattle.model.proofs.Laws.Bools.{or_cases, or_right}
 use Rattle.settings_model.specs.Settings.{Subject, distinct, member_s, rates, same_subject, subject_of, subjects_filled, without}
 use Rattle.settings_model.specs.Subjects.{no_rate, req_other, req_own, subject_neg, subject_own, subject_true}
 use Rattle.settings_model.specs.Closed.{acquired_filled, bit}

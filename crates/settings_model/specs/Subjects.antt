@@ -9,10 +9,10 @@ use Rattle.model.specs.Requirement.{Requirement, haveItem, missingItem, haveAtc,
 use Rattle.model.specs.Shop.{Slot, limit_of, timer_of}
 use Rattle.model.specs.Compile.{rate_of}
 use Rattle.model.specs.Normal.{acquired_of}
-use Rattle.model.specs.Laws.Checks.{and_left, and_right}
-use Rattle.model.specs.Laws.Runs.{same_req_true, eq_z_true}
-use Rattle.model.specs.Laws.Sets.{same_refl, eq_z_refl}
-use Rattle.model.specs.Laws.Bools.{or_cases, or_right, never_true}
+use Rattle.model.proofs.Laws.Checks.{and_left, and_right}
+use Rattle.model.proofs.Laws.Runs.{same_req_true, eq_z_true}
+use Rattle.model.proofs.Laws.Sets.{same_refl, eq_z_refl}
+use Rattle.model.proofs.Laws.Bools.{or_cases, or_right, never_true}
 use Rattle.settings_model.specs.Settings.{Subject, heldItem, heldAtc, set_flag, rate_is, distinct, mark, member_s, rates, same_subject, sort, subject_of, subjects, subjects_for, subjects_filled, without}
 
 -- ---- one subject

@@ -7,7 +7,7 @@ use borrow.Author.Tests.{le-leb}
 use Rattle.model.specs.Limits.{slot_count, entry_limit}
 use Rattle.model.specs.Requirement.{Requirement}
 use Rattle.model.specs.Parse.{few_entries}
-use Rattle.model.specs.Laws.Sets.{Sorted}
+use Rattle.model.proofs.Laws.Sets.{Sorted}
 use Rattle.shop_codes.specs.Codes.{code_of, requirement_of, AllNarrow}
 use Rattle.shop.specs.Shapes.{entries, slot_of, no_slot, no_shop}
 use Rattle.shop.specs.Sets.{held, reqs_of, reqs_in}

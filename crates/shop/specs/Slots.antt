@@ -13,8 +13,8 @@ use Rattle.model.specs.Sheet as Model
 use Rattle.model.specs.Sheet.{sheet_ok, timers_ok, atc_known, item_count, atc_for, all}
 use Rattle.model.specs.Shop.{slot_ok, item_known, req_known, with_slots}
 use Rattle.model.specs.Printer.{atc_entry}
-use Rattle.model.specs.Laws.Checks.{and_left, and_right}
-use Rattle.model.specs.Laws.Places.{padded_all}
+use Rattle.model.proofs.Laws.Checks.{and_left, and_right}
+use Rattle.model.proofs.Laws.Places.{padded_all}
 use Rattle.shop_codes.specs.Codes.{code_of, id_of, of_kind, unshift, requirement_of, AllNarrow}
 use Rattle.shop.specs.Shapes.{sheet_of, atc_at, entries, item_of, parts_ok, slot_of, slots_of, placed}
 use Rattle.shop.specs.Sets.{Exact, AllExact}

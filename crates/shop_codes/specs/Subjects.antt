@@ -8,7 +8,7 @@ use Rattle.model.specs.Limits.{most_items, wide, half32}
 use Rattle.model.specs.Requirement.{Requirement, haveItem, missingItem, haveAtc, missingAtc, haveFlag, missingFlag, number, negate_req, keep}
 use Rattle.shop_codes.specs.Codes.{InRange, unshift, code_of, id_of, of_kind, requirement_of, Narrow, subject, is_missing, AllNarrow}
 use Rattle.shop_codes.specs.Laws.{code_narrow}
-use Rattle.model.specs.Laws.Signed.{minus_one}
+use Rattle.model.proofs.Laws.Signed.{minus_one}
 
 -- ---- by the kind
 

@@ -10,7 +10,7 @@ use Rattle.std.proofs.Math.ListN.{get_or, length-take, get_or-eq_default}
 use Rattle.model.specs.Limits.{entry_limit, slot_count}
 use Rattle.model.specs.Shop as Model
 use Rattle.model.specs.Shop.{empty_slot, padded, with_slots}
-use Rattle.model.specs.Laws.Places.{any_default}
+use Rattle.model.proofs.Laws.Places.{any_default}
 use Rattle.shop.specs.Shapes.{entries, slot_of, slots_of}
 use Rattle.shop_arrays.specs.Arrays.{Arrays, item_from, row_at, slot_at, slots_from, shop_from}
 use Rattle.shop_arrays.specs.Slots.{row_at_lem}

@@ -9,6 +9,9 @@ use model::{FLAGS, ItemId, TIMES, VARIABLES, Variables};
 use shop::{CODES, ENTRIES, SLOTS, Sheet};
 use shopper::{Shopped, WISHES, shopping};
 
+// The standard input.
+const STDIN: i32 = 0;
+
 // One wish more than there may be.
 const LIST: usize = WISHES + 1;
 

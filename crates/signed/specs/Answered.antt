@@ -15,8 +15,8 @@ use Rattle.model.specs.Requirement.{Requirement, keep, member, negate_req, same_
 use Rattle.model.specs.Shop.{Slot, limit_of, shop_refusal, slot_ok, with_slots}
 use Rattle.model.specs.Flags.{req_inside, slot_inside}
 use Rattle.model.specs.Normal.{acquired_of, lone, normal}
-use Rattle.model.specs.Laws.Checks.{first_passed, passed}
-use Rattle.model.specs.Laws.Places.{any_default}
+use Rattle.model.proofs.Laws.Checks.{first_passed, passed}
+use Rattle.model.proofs.Laws.Places.{any_default}
 use Rattle.shop_codes.specs.Codes.{AllNarrow, code_of, requirement_of}
 use Rattle.shop_codes.specs.Laws.{codes_stand}
 use Rattle.shop.specs.Shapes.{no_slot, slot_of, slots_of}

@@ -16,7 +16,7 @@ use Rattle.model.specs.Normal.{normal, normal_shop}
 use Rattle.model.specs.Preview.{preview_call}
 use Rattle.model.specs.RecordCalls.{Born, parse_in, run_in}
 use Rattle.model.specs.Lists.{after_all, last_at, now_at}
-use Rattle.model.specs.Laws.Places.{any_default}
+use Rattle.model.proofs.Laws.Places.{any_default}
 use Rattle.shop.specs.Shapes.{no_slot, slot_of, slots_of}
 use Rattle.shop_arrays.specs.Arrays.{Arrays, shop_from, slot_at}
 use Rattle.shop_arrays.specs.Slots.{slot_in_lem}

@@ -9,6 +9,9 @@ use case_lines::{
 use shop::{CODES, ENTRIES, SLOTS};
 use signed_check::Finding;
 
+// The standard input.
+const STDIN: i32 = 0;
+
 fn main() {
     let mut input: [u8; 4096] = [0; 4096];
     start(&mut input);

@@ -9,7 +9,7 @@ use Rattle.model.specs.Limits.{wide}
 use Rattle.model.specs.Save.{flag_inside}
 use Rattle.model.specs.Requirement.{number}
 use Rattle.model.specs.Flags.{req_inside}
-use Rattle.model.specs.Laws.Places.{any_default}
+use Rattle.model.proofs.Laws.Places.{any_default}
 use Rattle.shop_codes.specs.Codes.{is_missing, of_kind, requirement_of, unshift}
 use Rattle.settings.specs.Codes.{lacks_code, negated_code}
 use Rattle.signed_model.specs.Findings.{Verdict, faithful, pair, own, outside, first_place, or_else}

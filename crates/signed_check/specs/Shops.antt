@@ -10,7 +10,7 @@ use Rattle.model.specs.Limits.{slot_count}
 use Rattle.model.specs.Refusal.{bad_sheet, bad_shop}
 use Rattle.model.specs.Sheet.{Sheet, all, sheet_ok}
 use Rattle.model.specs.Shop.{slot_ok, with_slots}
-use Rattle.model.specs.Laws.Places.{padded_all}
+use Rattle.model.proofs.Laws.Places.{padded_all}
 use Rattle.shop.specs.Shapes.{no_slot, slot_of, slots_of}
 use Rattle.shop.specs.Slots.{shop_slot}
 use Rattle.shop_arrays.specs.Arrays.{Arrays, shop_from, slot_at}

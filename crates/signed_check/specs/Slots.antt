@@ -13,8 +13,8 @@ use Rattle.model.specs.Shop.{limit_of, slot_ok}
 use Rattle.model.specs.Compile.{acquired_req}
 use Rattle.model.specs.Flags.{req_inside}
 use Rattle.model.specs.Normal.{acquired_of, lone, normal}
-use Rattle.model.specs.Laws.Normal.{sorted_length}
-use Rattle.model.specs.Laws.Runs.{same_req_true}
+use Rattle.model.proofs.Laws.Normal.{sorted_length}
+use Rattle.model.proofs.Laws.Runs.{same_req_true}
 use Rattle.model.specs.declared.ItemId.{ItemId}
 use Rattle.shop_codes.specs.Codes.{AllNarrow, Narrow, code_of, is_missing, requirement_of}
 use Rattle.shop_codes.specs.Laws.{code_stands, same_code}

@@ -14,8 +14,8 @@ use Rattle.model.specs.Requirement.{Requirement, haveItem, missingItem, haveAtc,
 use Rattle.model.specs.Shop.{Slot, item_known, limit_of, req_known, slot_ok}
 use Rattle.model.specs.Meaning.{all_hold, filled_meaning, holds, meaning_of}
 use Rattle.model.specs.Normal.{normal}
-use Rattle.model.specs.Laws.Checks.{and_right}
-use Rattle.model.specs.Laws.Saves.{Kept, save_kept}
+use Rattle.model.proofs.Laws.Checks.{and_right}
+use Rattle.model.proofs.Laws.Saves.{Kept, save_kept}
 use Rattle.model.specs.Refusal.{check, bad_save}
 use Rattle.faithful_model.specs.Faithful.{is_faithful}
 use Rattle.signed_model.specs.Saves.{Faithful, can_hold, witness_for}

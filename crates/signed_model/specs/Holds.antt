@@ -9,7 +9,7 @@ use Rattle.model.specs.Save.{Save, nat_at}
 use Rattle.model.specs.Sheet.{all}
 use Rattle.model.specs.Requirement.{Requirement, haveItem, missingItem, haveAtc, missingAtc, haveFlag, missingFlag, negate_req, same_req, member}
 use Rattle.model.specs.Meaning.{held, holds, all_hold}
-use Rattle.model.specs.Laws.Sets.{same_refl}
+use Rattle.model.proofs.Laws.Sets.{same_refl}
 use Rattle.faithful_model.specs.Lists.{all_member, all_of}
 use Rattle.signed_model.specs.Saves.{table}
 

@@ -11,15 +11,15 @@ use Rattle.model.specs.Shop.{Slot, timer_of, limit_of}
 use Rattle.model.specs.Compile.{rate_of}
 use Rattle.model.specs.Meaning.{acquired, all_hold, filled_meaning, holds, limit_meaning, meaning_of, unique_meaning}
 use Rattle.model.specs.Normal.{acquired_of, filled_slot, lone, normal}
-use Rattle.model.specs.Laws.Checks.{and_left, and_right}
-use Rattle.model.specs.Laws.Runs.{same_req_true, rate_false}
-use Rattle.model.specs.Laws.Sets.{member_keep, same_refl, member_sorted}
+use Rattle.model.proofs.Laws.Checks.{and_left, and_right}
+use Rattle.model.proofs.Laws.Runs.{same_req_true, rate_false}
+use Rattle.model.proofs.Laws.Sets.{member_keep, same_refl, member_sorted}
 use Rattle.faithful_model.specs.Faithful.{is_faithful, no_pair}
 use Rattle.signed_model.specs.Saves.{Faithful}
 use Rattle.faithful_model.specs.Lists.{all_member}
 use Rattle.moves_model.specs.Settles.{limit_again, limit_one}
 use Rattle.signed_model.specs.Holds.{holds_neg, hold_member, hold_of}
-use Rattle.model.specs.Laws.Normal.{both_ways_lem}
+use Rattle.model.proofs.Laws.Normal.{both_ways_lem}
 
 -- ---- what the normal form requires
 

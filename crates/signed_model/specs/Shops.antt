@@ -15,9 +15,9 @@ use Rattle.model.specs.Flags.{inside_for, req_inside, shop_inside, slot_inside}
 use Rattle.model.specs.Meaning.{meaning_of, or_old, temp_after}
 use Rattle.model.specs.Normal.{acquired_of, filled_slot, lone, normal, normal_for, normal_shop}
 use Rattle.model.specs.Preview.{preview_call}
-use Rattle.model.specs.Laws.Checks.{and_left, and_right}
-use Rattle.model.specs.Laws.Normal.{sorted_length, keep_length}
-use Rattle.model.specs.Laws.Places.{padded_all}
+use Rattle.model.proofs.Laws.Checks.{and_left, and_right}
+use Rattle.model.proofs.Laws.Normal.{sorted_length, keep_length}
+use Rattle.model.proofs.Laws.Places.{padded_all}
 use Rattle.faithful_model.specs.Faithful.{is_faithful}
 use Rattle.faithful_model.specs.Lists.{all_member, all_of}
 use Rattle.signed_model.specs.Rule.{left_was, left_of, normal_left, rule_same}

@@ -12,8 +12,8 @@ use Rattle.model.specs.Requirement.{Requirement, haveItem, haveAtc, haveFlag, ke
 use Rattle.model.specs.Shop.{Slot, limit_of, slot_ok}
 use Rattle.model.specs.Flags.{inside_for, req_inside, slot_inside}
 use Rattle.model.specs.Normal.{acquired_of, normal}
-use Rattle.model.specs.Laws.Checks.{and_left, and_right}
-use Rattle.model.specs.Laws.Sets.{member_keep}
+use Rattle.model.proofs.Laws.Checks.{and_left, and_right}
+use Rattle.model.proofs.Laws.Sets.{member_keep}
 use Rattle.faithful_model.specs.Faithful.{faithful_filled, faithful_for, is_faithful, no_pair}
 use Rattle.signed_model.specs.Saves.{Faithful, bit, can_hold, table, witness, witness_for}
 use Rattle.signed_model.specs.Rule.{rule_faithful}

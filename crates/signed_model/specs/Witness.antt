@@ -16,8 +16,8 @@ use Rattle.model.specs.Shop.{Slot, Timer, plain, five, ten, fifteen, timer_of, l
 use Rattle.model.specs.Compile.{rate_of, acquired_req}
 use Rattle.model.specs.Meaning.{acquired, all_hold, at_rate, filled_meaning, held, hidden, holds, limit_meaning, meaning_of, unique_meaning}
 use Rattle.model.specs.Normal.{acquired_of, normal}
-use Rattle.model.specs.Laws.Checks.{and_left, and_right}
-use Rattle.model.specs.Laws.Bools.{never_true}
+use Rattle.model.proofs.Laws.Checks.{and_left, and_right}
+use Rattle.model.proofs.Laws.Bools.{never_true}
 use Rattle.faithful_model.specs.Faithful.{is_faithful, no_pair}
 use Rattle.signed_model.specs.Saves.{bit, can_hold, table, witness, witness_for}
 use Rattle.faithful_model.specs.Lists.{all_member}

@@ -3,6 +3,12 @@
 
 use slots_text::TEXT;
 
+// The standard input.
+const STDIN: i32 = 0;
+
+// The standard output.
+const STDOUT: i32 = 1;
+
 fn main() {
     let mut input = [0u8; 65537];
     let mut out = [0u8; TEXT];

@@ -8,8 +8,8 @@ use borrow.Author.Tests.{leb-true, ltb-true}
 use Rattle.std.proofs.Math.Dec.{leb-zero}
 use Rattle.model.specs.Limits.{fewest_items, most_items, most_atcs, wide}
 use Rattle.model.specs.Reading.{Answer, got, onward, number, word}
-use Rattle.model.specs.Laws.Reading.{read_word, write_number, number_low, split, along}
-use Rattle.model.specs.Laws.Checks.{and_left, and_right}
+use Rattle.model.proofs.Laws.Reading.{read_word, write_number, number_low, split, along}
+use Rattle.model.proofs.Laws.Checks.{and_left, and_right}
 use Rattle.model.specs.Sheet
 use Rattle.model.specs.Sheet.{item_count, atc_known, all, timers_ok, sheet_ok}
 use Rattle.model.specs.Printer.{must, atc_entry, read_atcs, read_timers, read_sheet}

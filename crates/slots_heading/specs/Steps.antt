@@ -9,7 +9,7 @@ use borrow.Author.Tests.{leb-true, le-leb, lt-leb}
 use Rattle.std.proofs.Math.ListN.{length, length-append, length-map}
 use Rattle.model.specs.Limits.{fewest_items, most_items, most_atcs}
 use Rattle.model.specs.Reading.{word}
-use Rattle.model.specs.Laws.Checks.{and_left, and_right}
+use Rattle.model.proofs.Laws.Checks.{and_left, and_right}
 use Rattle.model.specs.Sheet.{atc_known, all, sheet_ok}
 use Rattle.model.specs.Files.{over}
 use Rattle.model.specs.Printer.{atc_entry}

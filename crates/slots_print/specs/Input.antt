@@ -13,9 +13,9 @@ use Rattle.model.specs.Memory.{Memory, memory_in, script_of, put_blocks}
 use Rattle.model.specs.Record.{judged_record}
 use Rattle.model.specs.RecordCalls.{parse_in}
 use Rattle.model.specs.Parse.{parse_call, parse_checked}
-use Rattle.model.specs.Laws.Image.{image_fits}
-use Rattle.model.specs.Laws.Sound.{fits_held}
-use Rattle.model.specs.Laws.Judged.{held_accepted}
+use Rattle.model.proofs.Laws.Image.{image_fits}
+use Rattle.model.proofs.Laws.Sound.{fits_held}
+use Rattle.model.proofs.Laws.Judged.{held_accepted}
 use Rattle.memory.specs.Sound.{Long}
 use Rattle.memory.specs.ReadRecord.{Empty, read_judged, read_blocks_lem}
 use Rattle.memory.specs.declared.Counts.{Counts}

@@ -4,7 +4,7 @@ use Rattle.std.proofs.Common.{ap}
 use Rattle.std.proofs.Math.Option.{Option}
 use Rattle.model.specs.Limits.{fewest_items, most_items, most_atcs, wide}
 use Rattle.model.specs.Reading.{Answer, got, number}
-use Rattle.model.specs.Laws.Reading.{refused≢got, split, got_value}
+use Rattle.model.proofs.Laws.Reading.{refused≢got, split, got_value}
 use Rattle.model.specs.Sheet
 use Rattle.model.specs.Sheet.{atc_known, all, timers_ok, sheet_ok}
 use Rattle.model.specs.Printer.{must, atc_entry, read_atcs, read_timers, read_sheet}

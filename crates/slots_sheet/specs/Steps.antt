@@ -12,8 +12,8 @@ use Rattle.std.proofs.Math.ListN.{drop}
 use Rattle.model.specs.Limits.{most_items, wide}
 use Rattle.model.specs.Refusal.{bad_sheet, bad_image}
 use Rattle.model.specs.Reading.{Answer, got, refused, onward, number}
-use Rattle.model.specs.Laws.Reading.{refused≢got}
-use Rattle.model.specs.Laws.Checks.{and_right}
+use Rattle.model.proofs.Laws.Reading.{refused≢got}
+use Rattle.model.proofs.Laws.Checks.{and_right}
 use Rattle.model.specs.Sheet
 use Rattle.model.specs.Printer.{must, atc_entry, read_atcs, read_timers}
 use Rattle.image_numbers.specs.Told.{Told}

@@ -7,7 +7,7 @@ use Rattle.std.proofs.lemmas.List.{length-map}
 use Rattle.model.specs.Limits.{fewest_items, most_items, most_atcs, wide}
 use Rattle.model.specs.Refusal.{bad_image}
 use Rattle.model.specs.Reading.{Answer, got, refused, onward, number}
-use Rattle.model.specs.Laws.Reading.{number_low}
+use Rattle.model.proofs.Laws.Reading.{number_low}
 use Rattle.model.specs.Sheet
 use Rattle.model.specs.Printer.{must, atc_entry, read_atcs, read_timers, read_sheet, read_input, Input}
 use Rattle.model.specs.Image.{read_image}

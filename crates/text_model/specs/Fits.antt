@@ -16,10 +16,10 @@ use Rattle.model.specs.Reading.{zig}
 use Rattle.model.specs.Requirement.{Requirement, haveItem, missingItem, haveAtc, missingAtc, haveFlag, missingFlag, extend, insert, keep, member, negate_req, settled}
 use Rattle.model.specs.Sheet.{Sheet, all, item_count}
 use Rattle.model.specs.Parse.{add_req, compare_req, gather, id_below, if_zero, is_join, is_not, join, map_req, parse_requirement, parse_requirements, read_req, signed, value}
-use Rattle.model.specs.Laws.Checks.{and_left, and_right}
-use Rattle.model.specs.Laws.Normal.{all_insert}
-use Rattle.model.specs.Laws.Signed.{low_bits_under}
-use Rattle.model.specs.Laws.ImageExpr.{FitsExpr}
+use Rattle.model.proofs.Laws.Checks.{and_left, and_right}
+use Rattle.model.proofs.Laws.Normal.{all_insert}
+use Rattle.model.proofs.Laws.Signed.{low_bits_under}
+use Rattle.model.proofs.Laws.ImageExpr.{FitsExpr}
 use Rattle.text_model.specs.Text.{req_printable}
 
 pub both : (a b : Bool) → a ≡ true → b ≡ true → a && b ≡ true

@@ -8,7 +8,7 @@ use Rattle.model.specs.Reading.{Answer, got, refused}
 use Rattle.model.specs.Sheet.{all}
 use Rattle.model.specs.Shop.{Slot}
 use Rattle.model.specs.Printer.{slot_line, slot_lines}
-use Rattle.model.specs.Laws.Checks.{and_left, and_right}
+use Rattle.model.proofs.Laws.Checks.{and_left, and_right}
 use Rattle.text_model.specs.Text.{ReadText, slots, bad, before, line_then, printable, read_lines, read_slot, read_text, slot_printable}
 use Rattle.text_model.specs.Lines.{slot_printed, slot_took}
 

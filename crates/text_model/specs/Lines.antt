@@ -13,8 +13,8 @@ use Rattle.model.specs.Sheet.{all}
 use Rattle.model.specs.Shop.{Slot}
 use Rattle.model.specs.Signed.{in_range}
 use Rattle.model.specs.Printer.{decimal, signed_decimal, letter, requirements_text, item_text, slot_line}
-use Rattle.model.specs.Laws.Checks.{and_left, and_right}
-use Rattle.model.specs.Laws.Reading.{along, passed, refused≢got, split}
+use Rattle.model.proofs.Laws.Checks.{and_left, and_right}
+use Rattle.model.proofs.Laws.Reading.{along, passed, refused≢got, split}
 use Rattle.text_model.specs.Text.{blank_behind, item_printable, no_end, no_item, no_limit, no_requirement, no_slot, read_flag, read_id, read_item, read_natural, read_number, read_requirement, read_requirements, read_signed, read_slot, req_printable, slot_printable}
 use Rattle.text_model.specs.Numbers.{NoDigit, natural_printed, natural_took, no_minus, signed_printed, signed_took}
 

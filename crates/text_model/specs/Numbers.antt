@@ -11,8 +11,8 @@ use borrow.Author.Tests.{ltb-true, ltb-false, leb-true, lt-ltb, le-ltb, le-leb, 
 use Rattle.std.specs.Int.Signed.{mag}
 use Rattle.model.specs.Reading.{Answer, got, refused, onward}
 use Rattle.model.specs.Printer.{digits_to, decimal, signed_decimal}
-use Rattle.model.specs.Laws.Checks.{and_left, and_right}
-use Rattle.model.specs.Laws.Reading.{along, refused≢got, split}
+use Rattle.model.proofs.Laws.Checks.{and_left, and_right}
+use Rattle.model.proofs.Laws.Reading.{along, refused≢got, split}
 use Rattle.text_model.specs.Text.{is_digit, negative, read_digits, read_natural, read_signed}
 
 -- ---- digits

@@ -20,11 +20,11 @@ use Rattle.model.specs.Reading.{Answer, got, refused}
 use Rattle.model.specs.Printer.{Input, read_input}
 use Rattle.model.specs.Printer
 use Rattle.model.specs.Judge.{counted, script_refusal, setup_refusal, shared_refusal}
-use Rattle.model.specs.Laws.Checked.{all_at}
-use Rattle.model.specs.Laws.Checks.{and_left, and_right, first_passed}
-use Rattle.model.specs.Laws.Judged.{accepted_held}
-use Rattle.model.specs.Laws.Walks.{updates_length}
-use Rattle.model.specs.Laws.Sound.{SoundBlock, SoundBlocks, SoundCommand, SoundCommands}
+use Rattle.model.proofs.Laws.Checked.{all_at}
+use Rattle.model.proofs.Laws.Checks.{and_left, and_right, first_passed}
+use Rattle.model.proofs.Laws.Judged.{accepted_held}
+use Rattle.model.proofs.Laws.Walks.{updates_length}
+use Rattle.model.proofs.Laws.Sound.{SoundBlock, SoundBlocks, SoundCommand, SoundCommands}
 use Rattle.text_model.specs.Text.{slots, bad, item_printable, no_slot, printable, read_lines, read_natural, read_number, read_slot, read_text, req_printable, slot_printable}
 use Rattle.text_model.specs.Inverse.{bad≢slots, printed_reads, slots_same}
 use Rattle.text_model.specs.Fits.{both, condition_fits, condition_fits_lem, cut_fits, extend_fits, fits_imms, imms_fit, join_fits, negate_imms, number_fits}

@@ -5,7 +5,7 @@ use Rattle.std.proofs.Math.Option.{Option, none, some}
 use Rattle.std.proofs.lemmas.List.{length-map, length-replicate}
 use Rattle.std.specs.Int.{w16}
 use Rattle.model.specs.Limits.{entry_limit}
-use Rattle.model.specs.Laws.Checks.{and_left, and_right}
+use Rattle.model.proofs.Laws.Checks.{and_left, and_right}
 use Rattle.model.specs.Requirement.{Requirement}
 use Rattle.model.specs.Sheet.{all}
 use Rattle.model.specs.Shop

@@ -10,26 +10,26 @@ use borrow.Author.Rules.{rules}
 use Rattle.capi_text.proofs.few_each.Statement.{statement}
 use Rattle.capi_text.proofs.few_each.Tie as tie
 
-abbrev invariant-loop : tie.invariant-loop
+abbrev invariant-loop : tie.invariant-loop-i
 invariant-loop lens i₀ i = Tested few lens i
 
-abbrev decreases-loop : tie.decreases-loop
+abbrev decreases-loop : tie.decreases-loop-i
 decreases-loop lens i₀ i = length lens - i
 
-loop-holds : tie.Need-loop-init invariant-loop decreases-loop
+loop-holds : tie.Need-loop-i-init invariant-loop decreases-loop
 loop-holds c = start _ _
 
-returns : tie.Need-returns invariant-loop decreases-loop
-returns c = stop few c.before.before.before.before.args.lens.now c.before.before.before.loop.i c.before.before.before.loop.invariant 0 c.before.before.loop-test.true (lt-leb _ entry_limit c.if1.true)
+returns : tie.Need-returns-then-lens-i-gt-MOST_ENTRIES invariant-loop decreases-loop
+returns c = stop few c.args.lens.now c.loop-i.i c.loop-i.invariant 0 c.loop-i-test.true (lt-leb _ entry_limit c.if-lens-i-gt-MOST_ENTRIES.true)
 
-loop-again : tie.Need-loop-preserved invariant-loop decreases-loop
-loop-again c = more few c.before.before.before.before.args.lens.now c.before.before.before.loop.i c.before.before.before.loop.invariant 0 c.before.before.loop-test.true (le-leb _ entry_limit c.if1.false)
+loop-again : tie.Need-loop-i-preserved invariant-loop decreases-loop
+loop-again c = more few c.args.lens.now c.loop-i.i c.loop-i.invariant 0 c.loop-i-test.true (le-leb _ entry_limit c.if-lens-i-gt-MOST_ENTRIES.false)
 
-returns-2 : tie.Need-returns-2 invariant-loop decreases-loop
-returns-2 c = done few c.before.before.args.lens.now c.before.loop.i c.before.loop.invariant c.loop-test.false
+returns-2 : tie.Need-returns invariant-loop decreases-loop
+returns-2 c = done few c.args.lens.now c.loop-i.i c.loop-i.invariant c.loop-i-test.false
 
-pub few-each-spec : {M : Type 1} → statement M
-few-each-spec =
+pub few_each_spec : {M : Type 1} → statement M
+few_each_spec =
     tie.close
     (tie.spec
     invariant-loop

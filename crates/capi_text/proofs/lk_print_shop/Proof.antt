@@ -7,20 +7,20 @@ use borrow.Author.Rules.{rules}
 use Rattle.capi_text.proofs.lk_print_shop.Statement.{statement}
 use Rattle.capi_text.proofs.lk_print_shop.Tie as tie
 
-returns : tie.Need-returns
-returns c = print_none _ _ (sym c.before.few-each.ensures ∙ not-true _ c.if1.true)
+returns : tie.Need-returns-then-not-few_each
+returns c = print_none _ _ (sym c.few_each.ensures ∙ c.if-not-few_each.true)
 
-put-slots-requires : tie.Need-put-slots-requires
-put-slots-requires c κs = few_slots _ c.before.before.before.before.before.sizes.ensures (sym c.before.before.before.few-each.ensures ∙ not-false _ c.before.before.if1.false) _ c.before.shop-from.ensures
+put-slots-requires : tie.Need-put_slots-requires
+put-slots-requires c κs = few_slots _ c.sizes.ensures (sym c.few_each.ensures ∙ c.if-not-few_each.false) _ c.shop_from-shop.ensures
 
-cast-result : tie.Need-overflow-cast-result
-cast-result c = let h = text_short _ c.before.before.before.before.before.before.sizes.ensures (sym c.before.before.before.before.few-each.ensures ∙ not-false _ c.before.before.before.if1.false) _ c.before.before.shop-from.ensures in omega (arith, c.put-slots.ensures.long)
+cast-result : tie.Need-overflow_cast-result
+cast-result c = let h = text_short _ c.sizes.ensures (sym c.few_each.ensures ∙ c.if-not-few_each.false) _ c.shop_from-shop.ensures in omega (arith, c.put_slots.ensures.long)
 
-returns-2 : tie.Need-returns-2
-returns-2 c = print_text _ c.before.before.before.before.before.before.sizes.ensures (sym c.before.before.before.before.few-each.ensures ∙ not-false _ c.before.before.before.if1.false) _ c.before.before.shop-from.ensures _ _ _ c.put-slots.ensures
+returns-2 : tie.Need-returns
+returns-2 c = print_text _ c.sizes.ensures (sym c.few_each.ensures ∙ c.if-not-few_each.false) _ c.shop_from-shop.ensures _ _ _ c.put_slots.ensures
 
-pub lk-print-shop-spec : {M : Type 1} → statement M
-lk-print-shop-spec =
+pub lk_print_shop_spec : {M : Type 1} → statement M
+lk_print_shop_spec =
     tie.close
     (tie.spec
     (λ c κs. search rules)

@@ -5,11 +5,15 @@ use borrow.Author.Rules.{rules}
 use Rattle.capi_text.proofs.lk_read_shop.Statement.{statement}
 use Rattle.capi_text.proofs.lk_read_shop.Tie as tie
 
-returns : tie.Need-returns
-returns c = read_refused (read_text c.before.before.before.before.args.text.now) _ _ c.before.before.read-text.ensures c.if1.true
+returns : tie.Need-returns-then-t-ne0
+returns c = read_refused (read_text c.args.text.now) _ _ c.read_text-t.ensures c.if-t-ne0.true
 
-returns-2 : tie.Need-returns-2
-returns-2 c = read_taken _ _ _ _ c.before.before.before.before.before.before.before.before.read-text.ensures c.before.before.before.before.before.before.if1.false c.put-shop.ensures
+returns-2 : tie.Need-returns
+returns-2 c = read_taken _ _ _ _ c.read_text-t.ensures c.if-t-ne0.false c.put_shop.ensures
 
-pub lk-read-shop-spec : {M : Type 1} → statement M
-lk-read-shop-spec = tie.close (tie.spec (λ c κs. search rules) returns (λ c κs. search rules) returns-2)
+pub lk_read_shop_spec : {M : Type 1} → statement M
+lk_read_shop_spec = tie.close (tie.spec
+    (λ c κs. search rules)
+    returns
+    (λ c κs. search rules)
+    returns-2)

@@ -13,26 +13,26 @@ use borrow.Author.Rules.{rules}
 use Rattle.capi_text.proofs.put_items.Statement.{statement}
 use Rattle.capi_text.proofs.put_items.Tie as tie
 
-abbrev invariant-loop : tie.invariant-loop
+abbrev invariant-loop : tie.invariant-loop-i
 invariant-loop items₀ shop i₀ items i = (i ≤ slot_count) × ItemsPut shop items i
 
-abbrev decreases-loop : tie.decreases-loop
+abbrev decreases-loop : tie.decreases-loop-i
 decreases-loop items₀ shop i₀ items i = slot_count - i
 
-size : (c : tie.Start invariant-loop decreases-loop) → length c.args.t1.slots ≡ slot_count
+size : (c : tie.Start invariant-loop decreases-loop) → length c.args.shop.slots ≡ slot_count
 size c = search (length_mapped, rules)
 
-loop-holds : tie.Need-loop-init invariant-loop decreases-loop
-loop-holds c = (omega arith, record { long = c.known-items.ensures; same = refl })
+loop-holds : tie.Need-loop-i-init invariant-loop decreases-loop
+loop-holds c = (omega arith, record { long = c.known_items.ensures; same = refl })
 
-loop-again : tie.Need-loop-preserved invariant-loop decreases-loop
-loop-again c = (omega arith, items_next _ _ _ c.before.before.before.loop.invariant.1 (size c.before.before.before.before.before.before) beyond _ c.before.before.loop-test.true (to_z-of_z {w = w32} (record { sfits = c.item-to.type-inv }) ∙ c.item-to.ensures.0))
+loop-again : tie.Need-loop-i-preserved invariant-loop decreases-loop
+loop-again c = (omega arith, items_next _ _ _ c.loop-i.invariant.1 (size c.before.before.before.before.before) beyond _ c.loop-i-test.true (to_z-of_z {w = w32} (record { sfits = c.item_to-x.type_inv }) ∙ c.item_to-x.ensures.0))
 
 returns : tie.Need-returns invariant-loop decreases-loop
-returns c = items_all _ _ _ c.before.loop.invariant.1 (size c.before.before.before.before) c.loop-test.false
+returns c = items_all _ _ _ c.loop-i.invariant.1 (size c.before.before.before) c.loop-i-test.false
 
-pub put-items-spec : {M : Type 1} → statement M
-put-items-spec =
+pub put_items_spec : {M : Type 1} → statement M
+put_items_spec =
     tie.close
     (tie.spec
     invariant-loop

@@ -5,7 +5,11 @@ use Rattle.capi_text.proofs.put_shop.Statement.{statement}
 use Rattle.capi_text.proofs.put_shop.Tie as tie
 
 returns : tie.Need-returns
-returns c = arrays_known _ _ _ _ c.before.before.sizes.ensures c.before.before.before.before.before.before.before.before.before.before.before.before.args.shop _ c.before.before.before.before.before.before.before.arrays-of.ensures c.put-items.ensures
+returns c = arrays_known _ _ _ _ c.sizes.ensures c.args.shop _ c.arrays_of.ensures c.put_items.ensures
 
-pub put-shop-spec : {M : Type 1} → statement M
-put-shop-spec = tie.close (tie.spec (λ c κs. search rules) (λ c κs. search rules) (λ c κs. search rules) returns)
+pub put_shop_spec : {M : Type 1} → statement M
+put_shop_spec = tie.close (tie.spec
+    (λ c κs. search rules)
+    (λ c κs. search rules)
+    (λ c κs. search rules)
+    returns)

@@ -3,14 +3,14 @@ use Rattle.std.proofs.Common.{◌-◌, ◌≤◌, rules}
 use Rattle.case_lines.proofs.as_said.Statement.{statement}
 use Rattle.case_lines.proofs.as_said.Tie as tie
 
-abbrev invariant-loop : tie.invariant-loop
+abbrev invariant-loop : tie.invariant-loop-i
 invariant-loop a t i₀ i = i ≤ 16
 
-abbrev decreases-loop : tie.decreases-loop
+abbrev decreases-loop : tie.decreases-loop-i
 decreases-loop a t i₀ i = 16 - i
 
-pub as-said-spec : {M : Type 1} → statement M
-as-said-spec =
+pub as_said_spec : {M : Type 1} → statement M
+as_said_spec =
     tie.close
     (tie.spec
     invariant-loop

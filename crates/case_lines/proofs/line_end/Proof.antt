@@ -3,14 +3,14 @@ use Rattle.std.proofs.Common.{◌-◌, ◌<◌, ◌≤◌, length, rules}
 use Rattle.case_lines.proofs.line_end.Statement.{statement}
 use Rattle.case_lines.proofs.line_end.Tie as tie
 
-abbrev invariant-loop : tie.invariant-loop
+abbrev invariant-loop : tie.invariant-loop-i
 invariant-loop text at i₀ i = (at ≤ i) × (i < length text)
 
-abbrev decreases-loop : tie.decreases-loop
+abbrev decreases-loop : tie.decreases-loop-i
 decreases-loop text at i₀ i = length text - i
 
-pub line-end-spec : {M : Type 1} → statement M
-line-end-spec =
+pub line_end_spec : {M : Type 1} → statement M
+line_end_spec =
     tie.close
     (tie.spec
     invariant-loop

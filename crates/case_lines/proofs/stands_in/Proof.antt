@@ -3,14 +3,14 @@ use Rattle.std.proofs.Common.{◌-◌, length, rules}
 use Rattle.case_lines.proofs.stands_in.Statement.{statement}
 use Rattle.case_lines.proofs.stands_in.Tie as tie
 
-abbrev invariant-loop : tie.invariant-loop
+abbrev invariant-loop : tie.invariant-loop-i
 invariant-loop letters b i₀ i = Unit {0}
 
-abbrev decreases-loop : tie.decreases-loop
+abbrev decreases-loop : tie.decreases-loop-i
 decreases-loop letters b i₀ i = length letters - i
 
-pub stands-in-spec : {M : Type 1} → statement M
-stands-in-spec =
+pub stands_in_spec : {M : Type 1} → statement M
+stands_in_spec =
     tie.close
     (tie.spec
     invariant-loop

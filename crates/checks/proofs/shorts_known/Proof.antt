@@ -12,23 +12,23 @@ use borrow.Author.Rules.{rules}
 use Rattle.checks.proofs.shorts_known.Statement.{statement}
 use Rattle.checks.proofs.shorts_known.Tie as tie
 
-abbrev invariant-loop : tie.invariant-loop
+abbrev invariant-loop : tie.invariant-loop-i
 invariant-loop list i₀ i = Tested (in_range w16) list i
 
-abbrev decreases-loop : tie.decreases-loop
+abbrev decreases-loop : tie.decreases-loop-i
 decreases-loop list i₀ i = length list - i
 
-loop-holds : tie.Need-loop-init invariant-loop decreases-loop
+loop-holds : tie.Need-loop-i-init invariant-loop decreases-loop
 loop-holds c = start _ _
 
-loop-again : tie.Need-loop-preserved invariant-loop decreases-loop
-loop-again c = more _ _ c.before.before.loop.i c.before.before.loop.invariant (pos 0) c.before.loop-test.true (lt-ltb _ _ c.x.given)
+loop-again : tie.Need-loop-i-preserved invariant-loop decreases-loop
+loop-again c = more _ _ c.loop-i.i c.loop-i.invariant (pos 0) c.loop-i-test.true (lt-ltb _ _ c.x-1.given)
 
 returns : tie.Need-returns invariant-loop decreases-loop
-returns c = sym (done _ _ c.before.loop.i c.before.loop.invariant c.loop-test.false)
+returns c = sym (done _ _ c.loop-i.i c.loop-i.invariant c.loop-i-test.false)
 
-pub shorts-known-spec : {M : Type 1} → statement M
-shorts-known-spec =
+pub shorts_known_spec : {M : Type 1} → statement M
+shorts_known_spec =
     tie.close
     (tie.spec
     invariant-loop

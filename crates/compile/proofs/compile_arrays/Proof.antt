@@ -11,7 +11,7 @@ use Rattle.model.specs.Shop.{slot_ok}
 use Rattle.model.specs.Compile.{Call}
 use Rattle.model.specs.Memory.{Memory, script_of}
 use Rattle.model.specs.RecordCalls.{Born, born_at, call_in, compile_refusal_in}
-use Rattle.model.specs.Laws.Checks.{answered, is_true, is_false}
+use Rattle.model.proofs.Laws.Checks.{answered, is_true, is_false}
 use Rattle.memory.specs.Transfer.{blocks_counted}
 use Rattle.memory.specs.View.{memory_of, born_of}
 use Rattle.shop.specs.declared.Shop.{Shop}

@@ -4,23 +4,23 @@ use borrow.Author.Rules.{rules}
 use Rattle.compile_emit.proofs.emit_temp.Statement.{statement}
 use Rattle.compile_emit.proofs.emit_temp.Tie as tie
 
-push-temp-requires : tie.Need-push-temp-requires
+push-temp-requires : tie.Need-push_temp-n2-requires
 unfolding size
 push-temp-requires c κs = search rules
 
-sub-push-command : tie.Need-overflow-sub-push-command
+sub-push-command : tie.Need-overflow_sub-n1
 unfolding size
 sub-push-command c = search rules
 
-sub-push-command-2 : tie.Need-overflow-sub-push-command-2
+sub-push-command-2 : tie.Need-overflow_sub-n2
 unfolding size
 sub-push-command-2 c = search rules
 
 returns : tie.Need-returns
-returns c = set_put c.before.before.before.before.before.push-imm16.ensures c.before.before.push-temp.ensures c.push-command.ensures
+returns c = set_put c.push_imm16-n1.ensures c.push_temp-n2.ensures c.push_command-c1.ensures
 
-pub emit-temp-spec : {M : Type 1} → statement M
-emit-temp-spec =
+pub emit_temp_spec : {M : Type 1} → statement M
+emit_temp_spec =
     tie.close
     (tie.spec
     (λ c κs. search rules)

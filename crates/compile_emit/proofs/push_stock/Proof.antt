@@ -10,27 +10,27 @@ use borrow.Author.Rules.{rules}
 use Rattle.compile_emit.proofs.push_stock.Statement.{statement}
 use Rattle.compile_emit.proofs.push_stock.Tie as tie
 
-emit-number-requires : tie.Need-emit-number-requires
-emit-number-requires c κs = let r = slot_room _ c.before.before.before.args.endif c.before.before.before.args.end.0 c.before.before.before.args.index (imm c.before.before.before.args.item) temp_var c.before.before.before.requires.0 in (omega (arith, r.nodes, size_imm c.before.before.before.args.item), omega (arith, r.commands), search rules)
+emit-number-requires : tie.Need-emit_number-h1-requires
+emit-number-requires c κs = let r = slot_room _ c.args.endif c.args.end.0 c.args.index (imm c.args.item) temp_var c.requires.0 in (omega (arith, r.nodes, size_imm c.args.item), omega (arith, r.commands), search rules)
 
-emit-temp-requires : tie.Need-emit-temp-requires
+emit-temp-requires : tie.Need-emit_temp-h2-requires
 unfolding size command_nodes
-emit-temp-requires c κs = let r = slot_room _ c.before.before.before.before.before.before.before.args.endif c.before.before.before.before.before.before.before.args.end.0 c.before.before.before.before.before.before.before.args.index (imm c.before.before.before.before.before.before.before.args.item) temp_var c.before.before.before.before.before.before.before.requires.0 in (omega (arith, r.nodes, size_imm c.before.before.before.before.before.before.before.args.item, (rw (to_z-of_z {w = w32} c.before.before.before.before.before.before.before.ranges.item) at c.before.before.before.emit-number.ensures).nodes-counted), omega (arith, r.commands, c.before.before.before.emit-number.ensures.counted), search rules)
+emit-temp-requires c κs = let r = slot_room _ c.args.endif c.args.end.0 c.args.index (imm c.args.item) temp_var c.requires.0 in (omega (arith, r.nodes, size_imm c.args.item, (rw (to_z-of_z {w = w32} c.ranges.item) at c.emit_number-h1.ensures).nodes_counted), omega (arith, r.commands, c.emit_number-h1.ensures.counted), search rules)
 
-end-slot-requires : tie.Need-end-slot-requires
-end-slot-requires c κs = let r = slot_room _ c.before.before.before.before.before.before.before.before.before.before.args.endif
-    c.before.before.before.before.before.before.before.before.before.before.args.end.0 c.before.before.before.before.before.before.before.before.before.before.args.index
-    (imm c.before.before.before.before.before.before.before.before.before.before.args.item) temp_var c.before.before.before.before.before.before.before.before.before.before.requires.0 in (
-      r.last _ (omega (arith, c.before.before.before.before.before.before.emit-number.ensures.counted, c.before.before.emit-temp.ensures.counted)),
+end-slot-requires : tie.Need-end_slot-requires
+end-slot-requires c κs = let r = slot_room _ c.args.endif
+    c.args.end.0 c.args.index
+    (imm c.args.item) temp_var c.requires.0 in (
+      r.last _ (omega (arith, c.emit_number-h1.ensures.counted, c.emit_temp-h2.ensures.counted)),
       r.blocks,
-      c.before.before.before.before.before.before.before.before.before.before.requires.1.1,
+      c.requires.1.1,
     )
 
 returns : tie.Need-returns
-returns c = slot_block_lem c.before.before.before.before.before.before.before.before.before.before.before.args.endif c.before.before.before.before.before.before.before.before.before.before.before.args.index (rw (to_z-of_z {w = w32} c.before.before.before.before.before.before.before.before.before.before.before.ranges.item) at c.before.before.before.before.before.before.before.emit-number.ensures) c.before.before.before.emit-temp.ensures c.end-slot.ensures
+returns c = slot_block_lem c.args.endif c.args.index (rw (to_z-of_z {w = w32} c.ranges.item) at c.emit_number-h1.ensures) c.emit_temp-h2.ensures c.end_slot.ensures
 
-pub push-stock-spec : {M : Type 1} → statement M
-push-stock-spec =
+pub push_stock_spec : {M : Type 1} → statement M
+push_stock_spec =
     tie.close
     (tie.spec
     (λ c. search rules)

@@ -29,48 +29,48 @@ slots s = slots_of (shop_from (given s))
 room-requires : tie.Need-room-requires
 room-requires c κs = rw c.sized.ensures (record { blocks = omega arith; commands = omega arith; nodes = omega arith })
 
-returns : tie.Need-returns
+returns : tie.Need-returns-then-room
 returns c = λ sc b m n.
     let s = c.before.before.before.before.before in
-    let l = c.before.before.before.Limits-of in
+    let l = c.limits_of-own in
     has_room_lem s.args.loader (sheet s) (slots s) s.args.k _ refl sc b m n
     (most_within (limits_of s.args.loader) s.args.k (sheet s) (shop_from (given s)) s.requires (slots_long (given s))
-    (asked l.result s.args.loader s.args.k _ _ _ l.ensures (c.before.room.ensures ∙ ap (within (limits_in l.result) s.args.k) c.before.before.sized.ensures) c.if1.true))
+    (asked l.result s.args.loader s.args.k _ _ _ l.ensures (c.room.ensures ∙ ap (within (limits_in l.result) s.args.k) c.sized.ensures) c.if-room.true))
 
 room-requires-2 : tie.Need-room-requires-2
-room-requires-2 c κs = c.before.shop-size.ensures.1
+room-requires-2 c κs = c.shop_size-s.ensures.1
 
-returns-2 : tie.Need-returns-2
+returns-2 : tie.Need-returns-then-not-room
 returns-2 c = λ sc b m n.
     let s = c.before.before.before.before.before.before.before.before.before in
-    let z = c.before.before.before.shop-size in
-    let d = c.before.before.limits-of2 in
+    let z = c.shop_size-s in
+    let d = c.limits_of-disc in
     refused_disc s.args.loader (sheet s) (slots s) s.args.k z.result z.ensures.0 sc b m n
-    (asked d.result Disc s.args.k z.result _ _ d.ensures c.before.room2.ensures (not-true _ c.if2.true))
+    (asked d.result Disc s.args.k z.result _ _ d.ensures c.room-2.ensures c.if-not-room.true)
 
 room-requires-3 : tie.Need-room-requires-3
-room-requires-3 c κs = c.before.before.before.shop-size.ensures.1
+room-requires-3 c κs = c.shop_size-s.ensures.1
 
-returns-3 : tie.Need-returns-3
+returns-3 : tie.Need-returns-then-not-room-2
 returns-3 c = λ sc b m n.
     let s = c.before.before.before.before.before.before.before.before.before.before.before in
-    let z = c.before.before.before.before.before.shop-size in
-    let d = c.before.before.before.before.limits-of2 in
-    let l = c.before.before.before.before.before.before.before.before.before.Limits-of in
+    let z = c.shop_size-s in
+    let d = c.limits_of-disc in
+    let l = c.limits_of-own in
     refused_loader s.args.loader (sheet s) (slots s) s.args.k z.result z.ensures.0 sc b m n
-    (asked d.result Disc s.args.k z.result _ _ d.ensures c.before.before.before.room2.ensures (not-false _ c.before.before.if2.false))
-    (asked l.result s.args.loader s.args.k z.result _ _ l.ensures c.before.room3.ensures (not-true _ c.if3.true))
+    (asked d.result Disc s.args.k z.result _ _ d.ensures c.room-2.ensures c.if-not-room.false)
+    (asked l.result s.args.loader s.args.k z.result _ _ l.ensures c.room-3.ensures c.if-not-room-2.true)
 
-returns-4 : tie.Need-returns-4
+returns-4 : tie.Need-returns
 returns-4 c = λ sc b m n.
     let s = c.before.before.before.before.before.before.before.before.before.before.before in
-    let z = c.before.before.before.before.before.shop-size in
-    let l = c.before.before.before.before.before.before.before.before.before.Limits-of in
+    let z = c.shop_size-s in
+    let l = c.limits_of-own in
     has_room_lem s.args.loader (sheet s) (slots s) s.args.k z.result z.ensures.0 sc b m n
-    (asked l.result s.args.loader s.args.k z.result _ _ l.ensures c.before.room3.ensures (not-false _ c.if3.false))
+    (asked l.result s.args.loader s.args.k z.result _ _ l.ensures c.room-3.ensures c.if-not-room-2.false)
 
-pub check-room-spec : {M : Type 1} → statement M
-check-room-spec =
+pub check_room_spec : {M : Type 1} → statement M
+check_room_spec =
     tie.close
     (tie.spec
     (λ c κs. search rules)

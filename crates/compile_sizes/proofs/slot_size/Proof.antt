@@ -16,37 +16,37 @@ use Rattle.compile_sizes.proofs.slot_size.Tie as tie
 abbrev given : tie.Start → Arrays
 given s = arrays_in s.args.items.now s.args.limits.now s.args.codes.now s.args.lens.now
 
-sort-row-requires : tie.Need-sort-row-requires
+sort-row-requires : tie.Need-sort_row-len-requires
 unfolding slot_at
-sort-row-requires c κs = (c.before.before.before.before.before.before.requires.0, c.before.before.before.before.before.before.requires.1.few, refl)
+sort-row-requires c κs = (c.requires.0, c.requires.1.few, refl)
 
-tests-nodes-requires : tie.Need-tests-nodes-requires
-tests-nodes-requires c κs = let s = c.before.before.before.before.before.before.before in set_few (slot_at (given s) s.args.i) s.requires.1 (reqs_in c.sort-row.new.1.1.1.0 c.sort-row.result) (c.sort-row.ensures _ _ s.requires.1)
+tests-nodes-requires : tie.Need-tests_nodes-tests-requires
+tests-nodes-requires c κs = let s = c.before.before.before.before.before in set_few (slot_at (given s) s.args.i) s.requires.1 (reqs_in c.sort_row-len.new.out c.sort_row-len.result) (c.sort_row-len.ensures _ _ s.requires.1)
 
-returns : tie.Need-returns
+returns : tie.Need-returns-then-limit_of-le1
 unfolding slot_at
 returns c =
-    let s = c.before.before.before.before.before.before.before.before.before.before.before.before.before in
+    let s = c.before.before.before.before.before.before.before.before.before.before.before in
     let x = slot_at (given s) s.args.i in
-    let z = c.before.before.before.before.before.before.sort-row.ensures s.args.items.now s.args.limits.now s.requires.1 in
-    let l = rw (to_z-of_z {w = w16} {z = get_or s.args.limits.now s.args.i (pos 0)} (record { sfits = c.before.before.before.before.limit-of-arg.given })) at c.before.before.before.limit-of.ensures in
-    (c.unique-size.ensures.0 ∙ unique_is x s.requires.1 (reqs_in c.before.before.before.before.before.before.sort-row.new.1.1.1.0 c.before.before.before.before.before.before.sort-row.result) z (sheet_of s.args.attached.now s.args.sheet) _ _ _ (sym c.before.before.before.before.before.before.before.before.before.before.before.item-at.ensures ∙ c.before.before.before.before.before.before.before.before.before.item.given.1) l c.before.before.before.before.before.tests-nodes.ensures.0 _ (c.before.timer-of.ensures s.args.attached.now) c.before.before.if1.true, c.unique-size.ensures.1)
+    let z = c.sort_row-len.ensures s.args.items.now s.args.limits.now s.requires.1 in
+    let l = rw (to_z-of_z {w = w16} {z = get_or s.args.limits.now s.args.i (pos 0)} (record { sfits = c.limit_of-arg-1.given })) at c.limit_of.ensures in
+    (c.unique_size.ensures.0 ∙ unique_is x s.requires.1 (reqs_in c.sort_row-len.new.out c.sort_row-len.result) z (sheet_of s.args.attached.now s.args.sheet) _ _ _ (sym c.item_at-item.ensures ∙ c.in-Of.is) l c.tests_nodes-tests.ensures.0 _ (c.timer_of.ensures s.args.attached.now) c.if-limit_of-le1.true, c.unique_size.ensures.1)
 
-returns-2 : tie.Need-returns-2
+returns-2 : tie.Need-returns-in-Nothing
 unfolding slot_at
-returns-2 c = (c.sized.ensures ∙ none_is _ (slot_at (given c.before.before.before.before.before) c.before.before.before.before.before.args.i) (sym c.before.before.before.item-at.ensures ∙ c.before.enum_told.given.1), rw c.sized.ensures (search rules))
+returns-2 c = (c.sized.ensures ∙ none_is _ (slot_at (given c.before.before.before.before) c.args.i) (sym c.item_at-item.ensures ∙ c.in-Nothing.is), rw c.sized.ensures (search rules))
 
-returns-3 : tie.Need-returns-3
+returns-3 : tie.Need-returns-else-limit_of-le1
 unfolding slot_at
 returns-3 c =
-    let s = c.before.before.before.before.before.before.before.before.before.before.before.before in
+    let s = c.before.before.before.before.before.before.before.before.before.before in
     let x = slot_at (given s) s.args.i in
-    let z = c.before.before.before.before.before.sort-row.ensures s.args.items.now s.args.limits.now s.requires.1 in
-    let l = rw (to_z-of_z {w = w16} {z = get_or s.args.limits.now s.args.i (pos 0)} (record { sfits = c.before.before.before.limit-of-arg.given })) at c.before.before.limit-of.ensures in
-    (c.limit-size.ensures.0 ∙ limit_is x s.requires.1 (reqs_in c.before.before.before.before.before.sort-row.new.1.1.1.0 c.before.before.before.before.before.sort-row.result) z (sheet_of s.args.attached.now s.args.sheet) _ _ _ (sym c.before.before.before.before.before.before.before.before.before.before.item-at.ensures ∙ c.before.before.before.before.before.before.before.before.item.given.1) l c.before.before.before.before.tests-nodes.ensures.0 (omega (arith, c.before.if1.false)), c.limit-size.ensures.1)
+    let z = c.sort_row-len.ensures s.args.items.now s.args.limits.now s.requires.1 in
+    let l = rw (to_z-of_z {w = w16} {z = get_or s.args.limits.now s.args.i (pos 0)} (record { sfits = c.limit_of-arg-1.given })) at c.limit_of.ensures in
+    (c.limit_size.ensures.0 ∙ limit_is x s.requires.1 (reqs_in c.sort_row-len.new.out c.sort_row-len.result) z (sheet_of s.args.attached.now s.args.sheet) _ _ _ (sym c.item_at-item.ensures ∙ c.in-Of.is) l c.tests_nodes-tests.ensures.0 (omega (arith, c.if-limit_of-le1.false)), c.limit_size.ensures.1)
 
-pub slot-size-spec : {M : Type 1} → statement M
-slot-size-spec =
+pub slot_size_spec : {M : Type 1} → statement M
+slot_size_spec =
     tie.close
     (tie.spec
     (λ c κs. search rules)

@@ -9,29 +9,29 @@ use borrow.Author.Rules.{rules}
 use Rattle.compile_sizes.proofs.tests_nodes.Statement.{statement}
 use Rattle.compile_sizes.proofs.tests_nodes.Tie as tie
 
-abbrev invariant-loop : tie.invariant-loop
+abbrev invariant-loop : tie.invariant-loop-i
 invariant-loop len codes end nodes₀ i₀ nodes i = Counted codes i nodes × (i ≤ len)
 
-abbrev decreases-loop : tie.decreases-loop
+abbrev decreases-loop : tie.decreases-loop-i
 decreases-loop len codes end nodes₀ i₀ nodes i = len - i
 
-size : (c : tie.Start invariant-loop decreases-loop) → length c.args.t1 ≡ entry_limit
+size : (c : tie.Start invariant-loop decreases-loop) → length c.args.codes ≡ entry_limit
 size c = search rules
 
-loop-holds : tie.Need-loop-init invariant-loop decreases-loop
-loop-holds c = (none_counted c.args.t1, search rules)
+loop-holds : tie.Need-loop-i-init invariant-loop decreases-loop
+loop-holds c = (none_counted c.args.codes, search rules)
 
-add-nodes-2 : tie.Need-overflow-add-nodes-2 invariant-loop decreases-loop
-add-nodes-2 c = omega (arith, c.before.before.loop.invariant.0.few)
+add-nodes-2 : tie.Need-overflow_add-nodes-in-loop-i invariant-loop decreases-loop
+add-nodes-2 c = omega (arith, c.loop-i.invariant.0.few)
 
-loop-again : tie.Need-loop-preserved invariant-loop decreases-loop
-loop-again c = (one_counted c.before.before.before.args.t1 c.before.before.loop.i c.before.before.loop.nodes c.test-nodes.result c.before.before.loop.invariant.0 (omega (arith, size c.before.before.before)) c.test-nodes.ensures.0 c.test-nodes.ensures.1, search rules)
+loop-again : tie.Need-loop-i-preserved invariant-loop decreases-loop
+loop-again c = (one_counted c.args.codes c.loop-i.i c.loop-i.nodes c.test_nodes.result c.loop-i.invariant.0 (omega (arith, size c.before.before.before)) c.test_nodes.ensures.0 c.test_nodes.ensures.1, search rules)
 
 returns : tie.Need-returns invariant-loop decreases-loop
-returns c = let e : c.before.loop.i ≡ c.before.before.args.len = omega arith in (rw e at c.before.loop.invariant.0.is, omega (arith, c.before.loop.invariant.0.few))
+returns c = let e : c.loop-i.i ≡ c.args.len = omega arith in (rw e at c.loop-i.invariant.0.is, omega (arith, c.loop-i.invariant.0.few))
 
-pub tests-nodes-spec : {M : Type 1} → statement M
-tests-nodes-spec =
+pub tests_nodes_spec : {M : Type 1} → statement M
+tests_nodes_spec =
     tie.close
     (tie.spec
     invariant-loop

@@ -5,10 +5,10 @@ use Rattle.compile_sizes.proofs.unique_size.Statement.{statement}
 use Rattle.compile_sizes.proofs.unique_size.Tie as tie
 
 returns : tie.Need-returns
-returns c = (c.plus.ensures ∙ rw (c.before.before.sold-size.ensures.0, c.before.enable-size.ensures.0, c.before.before.before.acquired-nodes.ensures.0), rw c.plus.ensures (search rules))
+returns c = (c.plus.ensures ∙ rw (c.sold_size-sold.ensures.0, c.enable_size-above.ensures.0, c.acquired_nodes-acquired.ensures.0), rw c.plus.ensures (search rules))
 
-pub unique-size-spec : {M : Type 1} → statement M
-unique-size-spec =
+pub unique_size_spec : {M : Type 1} → statement M
+unique_size_spec =
     tie.close
     (tie.spec
     (λ c κs. search rules)

@@ -23,49 +23,49 @@ three s = enable_by true s.args.x s.args.codes.now s.args.other.0 s.args.enable.
 
 -- ---- Timer5: the record after D2 and T, and the room for the blocks that are left
 
-abbrev gone : tie.After-compile-item → Memory
-gone c = memory_of c.compile-item.new.0 c.compile-item.new.1.0 c.compile-item.new.1.1.0 c.compile-item.new.1.1.1.0 c.compile-item.result
+abbrev gone : tie.After-compile_item-k1 → Memory
+gone c = memory_of c.compile_item-k1.new.ws c.compile_item-k1.new.val c.compile_item-k1.new.cw c.compile_item-k1.new.bw c.compile_item-k1.result
 
-abbrev tested : tie.After-push-if-no-timer → Memory
-tested c = memory_of c.push-if-no-timer.new.0 c.push-if-no-timer.new.1.0 c.push-if-no-timer.new.1.1.0 c.push-if-no-timer.new.1.1.1.0 c.push-if-no-timer.result
+abbrev tested : tie.After-push_if_no_timer-k2 → Memory
+tested c = memory_of c.push_if_no_timer-k2.new.ws c.push_if_no_timer-k2.new.val c.push_if_no_timer-k2.new.cw c.push_if_no_timer-k2.new.bw c.push_if_no_timer-k2.result
 
-room : (c : tie.Then1) → Room (first c.before.before.before.before) (three c.before.before.before.before)
-room c = rw c.if1.true at c.before.before.before.before.requires.0
+room : (c : tie.Then-x) → Room (first c.before.before.before.before) (three c.before.before.before.before)
+room c = rw c.if-x.true at c.requires.0
 
-room_gone : (c : tie.After-compile-item) → Room (gone c) (drop 1 (three c.before.before.before.before.before.before.before.before.before.before.before))
+room_gone : (c : tie.After-compile_item-k1) → Room (gone c) (drop 1 (three c.before.before.before.before.before.before.before.before.before.before.before))
 unfolding imm
-room_gone c = room_rest {s = first c.before.before.before.before.before.before.before.before.before.before.before} {t = gone c} (room c.before.before.before.before.before.before.before) c.compile-item.ensures
+room_gone c = room_rest {s = first c.before.before.before.before.before.before.before.before.before.before.before} {t = gone c} (room c.before.before.before.before.before.before.before) c.compile_item-k1.ensures
 
-room-tested : (c : tie.After-push-if-no-timer) → Room (tested c) (drop 2 (three c.before.before.before.before.before.before.before.before.before.before.before.before.before.before.before.before))
-room-tested c = room_rest {s = gone c.before.before.before.before.before} {t = tested c} (room_gone c.before.before.before.before.before) c.push-if-no-timer.ensures
+room-tested : (c : tie.After-push_if_no_timer-k2) → Room (tested c) (drop 2 (three c.before.before.before.before.before.before.before.before.before.before.before.before.before.before.before.before))
+room-tested c = room_rest {s = gone c.before.before.before.before.before} {t = tested c} (room_gone c.before.before.before.before.before) c.push_if_no_timer-k2.ensures
 
-compile-item-requires : tie.Need-compile-item-requires
+compile-item-requires : tie.Need-compile_item-k1-requires
 unfolding imm
-compile-item-requires c κs = (room_first {s = first c.before.before.before.before.before.before.before.before.before.before} (room c.before.before.before.before.before.before), (c.before.before.before.before.before.before.before.before.before.before.requires.1.0, c.before.before.before.before.before.before.before.before.before.before.requires.1.1))
+compile-item-requires c κs = (room_first {s = first c.before.before.before.before.before.before.before.before.before.before} (room c.before.before.before.before.before.before), (c.requires.1.0, c.requires.1.1))
 
-push-if-no-timer-requires : tie.Need-push-if-no-timer-requires
+push-if-no-timer-requires : tie.Need-push_if_no_timer-k2-requires
 push-if-no-timer-requires c κs =
     let s = c.before.before.before.before.before.before.before.before.before.before.before.before.before.before.before in
     let r = room c.before.before.before.before.before.before.before.before.before.before.before in
     (room_first {s = gone c.before.before.before.before} (room_gone c.before.before.before.before), (omega (arith, r.blocks, s.requires.1.3), omega (arith, r.blocks, s.requires.1.3)))
 
-push-if-missing-requires : tie.Need-push-if-missing-requires
+push-if-missing-requires : tie.Need-push_if_missing-requires
 push-if-missing-requires c κs =
     let s = c.before.before.before.before.before.before.before.before.before.before.before.before.before.before.before.before.before.before.before.before in
     (room-tested c.before.before.before.before, (s.requires.1.0.rate, s.requires.1.0.few, omega (arith, (room c.before.before.before.before.before.before.before.before.before.before.before.before.before.before.before.before).blocks, s.requires.1.3), s.requires.1.2))
 
-returns : tie.Need-returns
+returns : tie.Need-returns-then-x
 unfolding imm
-returns c = rw c.before.before.before.before.before.before.before.before.before.before.before.before.before.before.before.before.before.if1.true (blocks_put c.before.before.before.before.before.before.before.before.before.before.compile-item.ensures (blocks_put c.before.before.before.before.before.push-if-no-timer.ensures c.push-if-missing.ensures))
+returns c = rw c.if-x.true (blocks_put c.compile_item-k1.ensures (blocks_put c.push_if_no_timer-k2.ensures c.push_if_missing.ensures))
 
-push-if-missing-requires-2 : tie.Need-push-if-missing-requires-2
-push-if-missing-requires-2 c κs = let r = (rw c.before.before.before.before.if1.false at c.before.before.before.before.before.before.before.before.requires.0) in (r, (c.before.before.before.before.before.before.before.before.requires.1.0.rate, c.before.before.before.before.before.before.before.before.requires.1.0.few, omega (arith, r.blocks, c.before.before.before.before.before.before.before.before.requires.1.3), c.before.before.before.before.before.before.before.before.requires.1.2))
+push-if-missing-requires-2 : tie.Need-push_if_missing-requires-2
+push-if-missing-requires-2 c κs = let r = (rw c.if-x.false at c.requires.0) in (r, (c.requires.1.0.rate, c.requires.1.0.few, omega (arith, r.blocks, c.requires.1.3), c.requires.1.2))
 
-returns-2 : tie.Need-returns-2
-returns-2 c = rw c.before.before.before.before.before.if1.false c.push-if-missing2.ensures
+returns-2 : tie.Need-returns
+returns-2 c = rw c.if-x.false c.push_if_missing-2.ensures
 
-pub compile-enable-spec : {M : Type 1} → statement M
-compile-enable-spec =
+pub compile_enable_spec : {M : Type 1} → statement M
+compile_enable_spec =
     tie.close
     (tie.spec
     (λ c. search rules)

@@ -18,44 +18,44 @@ use Rattle.compile_slots.proofs.compile_slot.Tie as tie
 abbrev given : tie.Start → Arrays
 given s = arrays_in s.args.items.now s.args.limits.now s.args.codes.now s.args.lens.now
 
-compile-slot-hidden-requires : tie.Need-compile-slot-hidden-requires
+compile-slot-hidden-requires : tie.Need-compile_slot_hidden-requires
 unfolding slot_at
 compile-slot-hidden-requires c κs =
-    let s = c.before.before.before.before.before.before.before.before.before in
-    (rw (none_blocks (sheet_of s.args.attached.now s.args.sheet) (slot_at (given s) s.args.i) s.args.i (s.args.k.blocks - 1) (sym c.before.before.before.before.before.before.item-at.ensures ∙ c.before.before.before.before.enum_told.given.1)) at s.requires.0, (s.requires.1.1, omega (arith, s.requires.0.blocks)))
+    let s = c.before.before.before.before.before.before.before.before in
+    (rw (none_blocks (sheet_of s.args.attached.now s.args.sheet) (slot_at (given s) s.args.i) s.args.i (s.args.k.blocks - 1) (sym c.item_at-item.ensures ∙ c.in-Nothing.is)) at s.requires.0, (s.requires.1.1, omega (arith, s.requires.0.blocks)))
 
-sort-row-requires : tie.Need-sort-row-requires
+sort-row-requires : tie.Need-sort_row-len-requires
 unfolding slot_at
-sort-row-requires c κs = (c.before.before.before.before.before.before.before.requires.1.1, c.before.before.before.before.before.before.before.requires.1.0.few, refl)
+sort-row-requires c κs = (c.requires.1.1, c.requires.1.0.few, refl)
 
-compile-slot-filled-requires : tie.Need-compile-slot-filled-requires
+compile-slot-filled-requires : tie.Need-compile_slot_filled-requires
 unfolding slot_at
 compile-slot-filled-requires c κs =
-    let s = c.before.before.before.before.before.before.before.before.before.before.before.before.before.before.before in
+    let s = c.before.before.before.before.before.before.before.before.before.before.before.before.before in
     let y = slot_at (given s) s.args.i in
-    let d = reqs_in c.before.before.before.before.before.before.before.sort-row.new.1.1.1.0 c.before.before.before.before.before.before.before.sort-row.result in
-    let z = c.before.before.before.before.before.before.before.sort-row.ensures s.args.items.now s.args.limits.now s.requires.1.0 in
-    let x = rw (to_z-of_z {w = w16} {z = get_or s.args.limits.now s.args.i (pos 0)} (record { sfits = c.before.before.before.before.before.before.item-context-arg.given })) at c.before.before.before.before.before.item-context.ensures in
-    (rw (sym (context_blocks _ _ y _ _ _ d x s.requires.1.0 z (sym c.before.before.before.before.before.before.before.before.before.before.before.before.item-at.ensures ∙ c.before.before.before.before.before.before.before.before.before.before.item.given.1))) at s.requires.0, (context_fits _ _ y _ _ _ d x s.requires.1.0 z s.requires.1.1, omega (arith, ap (λ (b : BlockNo). b.0) x.end, s.requires.1.2)))
+    let d = reqs_in c.sort_row-len.new.out c.sort_row-len.result in
+    let z = c.sort_row-len.ensures s.args.items.now s.args.limits.now s.requires.1.0 in
+    let x = rw (to_z-of_z {w = w16} {z = get_or s.args.limits.now s.args.i (pos 0)} (record { sfits = c.item_context-arg-1.given })) at c.item_context-x.ensures in
+    (rw (sym (context_blocks _ _ y _ _ _ d x s.requires.1.0 z (sym c.item_at-item.ensures ∙ c.in-Of.is))) at s.requires.0, (context_fits _ _ y _ _ _ d x s.requires.1.0 z s.requires.1.1, omega (arith, ap (λ (b : BlockNo). b.0) x.end, s.requires.1.2)))
 
-returns : tie.Need-returns
+returns : tie.Need-returns-in-Nothing
 unfolding slot_at
 returns c =
-    let s = c.before.before.before.before.before.before.before.before.before.before in
-    rw (none_blocks (sheet_of s.args.attached.now s.args.sheet) (slot_at (given s) s.args.i) s.args.i (s.args.k.blocks - 1) (sym c.before.before.before.before.before.before.before.item-at.ensures ∙ c.before.before.before.before.before.enum_told.given.1)) c.compile-slot-hidden.ensures
+    let s = c.before.before.before.before.before.before.before.before.before in
+    rw (none_blocks (sheet_of s.args.attached.now s.args.sheet) (slot_at (given s) s.args.i) s.args.i (s.args.k.blocks - 1) (sym c.item_at-item.ensures ∙ c.in-Nothing.is)) c.compile_slot_hidden.ensures
 
-returns-2 : tie.Need-returns-2
+returns-2 : tie.Need-returns-in-Of
 unfolding slot_at
 returns-2 c =
-    let s = c.before.before.before.before.before.before.before.before.before.before.before.before.before.before.before.before in
+    let s = c.before.before.before.before.before.before.before.before.before.before.before.before.before.before in
     let y = slot_at (given s) s.args.i in
-    let d = reqs_in c.before.before.before.before.before.before.before.before.sort-row.new.1.1.1.0 c.before.before.before.before.before.before.before.before.sort-row.result in
-    let z = c.before.before.before.before.before.before.before.before.sort-row.ensures s.args.items.now s.args.limits.now s.requires.1.0 in
-    let x = rw (to_z-of_z {w = w16} {z = get_or s.args.limits.now s.args.i (pos 0)} (record { sfits = c.before.before.before.before.before.before.before.item-context-arg.given })) at c.before.before.before.before.before.before.item-context.ensures in
-    rw (sym (context_blocks _ _ y _ _ _ d x s.requires.1.0 z (sym c.before.before.before.before.before.before.before.before.before.before.before.before.before.item-at.ensures ∙ c.before.before.before.before.before.before.before.before.before.before.before.item.given.1))) c.compile-slot-filled.ensures
+    let d = reqs_in c.sort_row-len.new.out c.sort_row-len.result in
+    let z = c.sort_row-len.ensures s.args.items.now s.args.limits.now s.requires.1.0 in
+    let x = rw (to_z-of_z {w = w16} {z = get_or s.args.limits.now s.args.i (pos 0)} (record { sfits = c.item_context-arg-1.given })) at c.item_context-x.ensures in
+    rw (sym (context_blocks _ _ y _ _ _ d x s.requires.1.0 z (sym c.item_at-item.ensures ∙ c.in-Of.is))) c.compile_slot_filled.ensures
 
-pub compile-slot-spec : {M : Type 1} → statement M
-compile-slot-spec =
+pub compile_slot_spec : {M : Type 1} → statement M
+compile_slot_spec =
     tie.close
     (tie.spec
     (λ c. search rules)

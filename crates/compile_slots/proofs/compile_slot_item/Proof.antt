@@ -3,18 +3,22 @@ use native.Mathlib.Omega.{arith}
 use Rattle.compile_slots.proofs.compile_slot_item.Statement.{statement}
 use Rattle.compile_slots.proofs.compile_slot_item.Tie as tie
 
-compile-slot-unique-requires : tie.Need-compile-slot-unique-requires
-compile-slot-unique-requires c κs = (rw (le-leb c.before.before.before.before.before.before.args.x.limit 1 (omega (arith, c.before.before.before.before.if1.true))) at c.before.before.before.before.before.before.requires.0, c.before.before.before.before.before.before.requires.1)
+compile-slot-unique-requires : tie.Need-compile_slot_unique-requires
+compile-slot-unique-requires c κs = (rw (le-leb c.args.x.limit 1 (omega (arith, c.if-x-le1.true))) at c.requires.0, c.requires.1)
 
-returns : tie.Need-returns
-returns c = rw (le-leb c.before.before.before.before.before.before.before.args.x.limit 1 (omega (arith, c.before.before.before.before.before.if1.true))) c.compile-slot-unique.ensures
+returns : tie.Need-returns-then-x-le1
+returns c = rw (le-leb c.args.x.limit 1 (omega (arith, c.if-x-le1.true))) c.compile_slot_unique.ensures
 
-compile-slot-limit-requires : tie.Need-compile-slot-limit-requires
-compile-slot-limit-requires c κs = (rw (lt-leb c.before.before.before.before.before.before.args.x.limit 1 (omega (arith, c.before.before.before.before.if1.false))) at c.before.before.before.before.before.before.requires.0, c.before.before.before.before.before.before.requires.1)
+compile-slot-limit-requires : tie.Need-compile_slot_limit-requires
+compile-slot-limit-requires c κs = (rw (lt-leb c.args.x.limit 1 (omega (arith, c.if-x-le1.false))) at c.requires.0, c.requires.1)
 
-returns-2 : tie.Need-returns-2
-returns-2 c = rw (lt-leb c.before.before.before.before.before.before.before.args.x.limit 1 (omega (arith, c.before.before.before.before.before.if1.false))) c.compile-slot-limit.ensures
+returns-2 : tie.Need-returns
+returns-2 c = rw (lt-leb c.args.x.limit 1 (omega (arith, c.if-x-le1.false))) c.compile_slot_limit.ensures
 
-pub compile-slot-item-spec : {M : Type 1} → statement M
-compile-slot-item-spec =
-    tie.close (tie.spec compile-slot-unique-requires returns compile-slot-limit-requires returns-2)
+pub compile_slot_item_spec : {M : Type 1} → statement M
+compile_slot_item_spec =
+    tie.close (tie.spec
+    compile-slot-unique-requires
+    returns
+    compile-slot-limit-requires
+    returns-2)

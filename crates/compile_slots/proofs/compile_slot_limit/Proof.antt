@@ -27,84 +27,84 @@ tested s = limit_by 1 s.args.x s.args.codes.now
 
 -- ---- no requirements: the record after S and Z, and the room for the blocks that are left
 
-abbrev stocked : tie.After-compile-stock → Memory
-stocked c = memory_of c.compile-stock.new.0 c.compile-stock.new.1.0 c.compile-stock.new.1.1.0 c.compile-stock.new.1.1.1.0 c.compile-stock.result
+abbrev stocked : tie.After-compile_stock-k1 → Memory
+stocked c = memory_of c.compile_stock-k1.new.ws c.compile_stock-k1.new.val c.compile_stock-k1.new.cw c.compile_stock-k1.new.bw c.compile_stock-k1.result
 
-abbrev reset : tie.After-push-reset → Memory
-reset c = memory_of c.push-reset.new.0 c.push-reset.new.1.0 c.push-reset.new.1.1.0 c.push-reset.new.1.1.1.0 c.push-reset.result
+abbrev reset : tie.After-push_reset-k2 → Memory
+reset c = memory_of c.push_reset-k2.new.ws c.push_reset-k2.new.val c.push_reset-k2.new.cw c.push_reset-k2.new.bw c.push_reset-k2.result
 
-room : (c : tie.Then1) → Room (first c.before.before.before.before) (plain c.before.before.before.before)
-room c = rw (limit_none c.before.before.before.before.args.x c.before.before.before.before.args.codes.now c.if1.true) at c.before.before.before.before.requires.0
+room : (c : tie.Then-len-eq0) → Room (first c.before.before.before.before) (plain c.before.before.before.before)
+room c = rw (limit_none c.args.x c.args.codes.now c.if-len-eq0.true) at c.requires.0
 
-room-stocked : (c : tie.After-compile-stock) → Room (stocked c) (drop 1 (plain c.before.before.before.before.before.before.before.before.before))
-room-stocked c = room_rest {s = first c.before.before.before.before.before.before.before.before.before} {t = stocked c} (room c.before.before.before.before.before) c.compile-stock.ensures
+room-stocked : (c : tie.After-compile_stock-k1) → Room (stocked c) (drop 1 (plain c.before.before.before.before.before.before.before.before.before))
+room-stocked c = room_rest {s = first c.before.before.before.before.before.before.before.before.before} {t = stocked c} (room c.before.before.before.before.before) c.compile_stock-k1.ensures
 
-room-reset : (c : tie.After-push-reset) → Room (reset c) (drop 2 (plain c.before.before.before.before.before.before.before.before.before.before.before.before.before.before))
-room-reset c = room_rest {s = stocked c.before.before.before.before.before} {t = reset c} (room-stocked c.before.before.before.before.before) c.push-reset.ensures
+room-reset : (c : tie.After-push_reset-k2) → Room (reset c) (drop 2 (plain c.before.before.before.before.before.before.before.before.before.before.before.before.before.before))
+room-reset c = room_rest {s = stocked c.before.before.before.before.before} {t = reset c} (room-stocked c.before.before.before.before.before) c.push_reset-k2.ensures
 
-compile-stock-requires : tie.Need-compile-stock-requires
-compile-stock-requires c κs = (room_first {s = first c.before.before.before.before.before.before.before.before} (room c.before.before.before.before), (c.before.before.before.before.before.before.before.before.requires.1.0, omega (arith, (room c.before.before.before.before).blocks, c.before.before.before.before.before.before.before.before.requires.1.1)))
+compile-stock-requires : tie.Need-compile_stock-k1-requires
+compile-stock-requires c κs = (room_first {s = first c.before.before.before.before.before.before.before.before} (room c.before.before.before.before), (c.requires.1.0, omega (arith, (room c.before.before.before.before).blocks, c.requires.1.1)))
 
-push-reset-requires : tie.Need-push-reset-requires
-push-reset-requires c κs = (room_first {s = stocked c.before.before.before.before} (room-stocked c.before.before.before.before), omega (arith, (room c.before.before.before.before.before.before.before.before.before).blocks, c.before.before.before.before.before.before.before.before.before.before.before.before.before.requires.1.1))
+push-reset-requires : tie.Need-push_reset-k2-requires
+push-reset-requires c κs = (room_first {s = stocked c.before.before.before.before} (room-stocked c.before.before.before.before), omega (arith, (room c.before.before.before.before.before.before.before.before.before).blocks, c.requires.1.1))
 
-push-remaining-requires : tie.Need-push-remaining-requires
-push-remaining-requires c κs = (room-reset c.before.before.before.before, omega (arith, (room c.before.before.before.before.before.before.before.before.before.before.before.before.before.before).blocks, c.before.before.before.before.before.before.before.before.before.before.before.before.before.before.before.before.before.before.requires.1.1))
+push-remaining-requires : tie.Need-push_remaining-requires
+push-remaining-requires c κs = (room-reset c.before.before.before.before, omega (arith, (room c.before.before.before.before.before.before.before.before.before.before.before.before.before.before).blocks, c.requires.1.1))
 
-returns : tie.Need-returns
-returns c = rw (limit_none c.before.before.before.before.before.before.before.before.before.before.before.before.before.before.before.before.before.before.before.args.x c.before.before.before.before.before.before.before.before.before.before.before.before.before.before.before.before.before.before.before.args.codes.now c.before.before.before.before.before.before.before.before.before.before.before.before.before.before.before.if1.true) (blocks_put c.before.before.before.before.before.before.before.before.before.before.compile-stock.ensures (blocks_put c.before.before.before.before.before.push-reset.ensures c.push-remaining.ensures))
+returns : tie.Need-returns-then-len-eq0
+returns c = rw (limit_none c.args.x c.args.codes.now c.if-len-eq0.true) (blocks_put c.compile_stock-k1.ensures (blocks_put c.push_reset-k2.ensures c.push_remaining.ensures))
 
 -- ---- some requirements: likewise after S, Z, M and If R
 
-abbrev stocked2 : tie.After-compile-stock2 → Memory
-stocked2 c = memory_of c.compile-stock2.new.0 c.compile-stock2.new.1.0 c.compile-stock2.new.1.1.0 c.compile-stock2.new.1.1.1.0 c.compile-stock2.result
+abbrev stocked2 : tie.After-compile_stock-k3 → Memory
+stocked2 c = memory_of c.compile_stock-k3.new.ws c.compile_stock-k3.new.val c.compile_stock-k3.new.cw c.compile_stock-k3.new.bw c.compile_stock-k3.result
 
-abbrev reset2 : tie.After-push-reset2 → Memory
-reset2 c = memory_of c.push-reset2.new.0 c.push-reset2.new.1.0 c.push-reset2.new.1.1.0 c.push-reset2.new.1.1.1.0 c.push-reset2.result
+abbrev reset2 : tie.After-push_reset-k4 → Memory
+reset2 c = memory_of c.push_reset-k4.new.ws c.push_reset-k4.new.val c.push_reset-k4.new.cw c.push_reset-k4.new.bw c.push_reset-k4.result
 
-abbrev left2 : tie.After-push-remaining2 → Memory
-left2 c = memory_of c.push-remaining2.new.0 c.push-remaining2.new.1.0 c.push-remaining2.new.1.1.0 c.push-remaining2.new.1.1.1.0 c.push-remaining2.result
+abbrev left2 : tie.After-push_remaining-k5 → Memory
+left2 c = memory_of c.push_remaining-k5.new.ws c.push_remaining-k5.new.val c.push_remaining-k5.new.cw c.push_remaining-k5.new.bw c.push_remaining-k5.result
 
-abbrev shown2 : tie.After-push-if-visible → Memory
-shown2 c = memory_of c.push-if-visible.new.0 c.push-if-visible.new.1.0 c.push-if-visible.new.1.1.0 c.push-if-visible.new.1.1.1.0 c.push-if-visible.result
+abbrev shown2 : tie.After-push_if_visible → Memory
+shown2 c = memory_of c.push_if_visible.new.ws c.push_if_visible.new.val c.push_if_visible.new.cw c.push_if_visible.new.bw c.push_if_visible.result
 
-room2 : (c : tie.Else1) → Room (first c.before.before.before.before) (tested c.before.before.before.before)
-room2 c = rw (limit_some c.before.before.before.before.args.x c.before.before.before.before.args.codes.now c.if1.false) at c.before.before.before.before.requires.0
+room2 : (c : tie.Else-len-eq0) → Room (first c.before.before.before.before) (tested c.before.before.before.before)
+room2 c = rw (limit_some c.args.x c.args.codes.now c.if-len-eq0.false) at c.requires.0
 
-room-stocked2 : (c : tie.After-compile-stock2) → Room (stocked2 c) (drop 1 (tested c.before.before.before.before.before.before.before.before.before.before.before))
-room-stocked2 c = room_rest {s = first c.before.before.before.before.before.before.before.before.before.before.before} {t = stocked2 c} (room2 c.before.before.before.before.before.before.before) c.compile-stock2.ensures
+room-stocked2 : (c : tie.After-compile_stock-k3) → Room (stocked2 c) (drop 1 (tested c.before.before.before.before.before.before.before.before.before.before.before))
+room-stocked2 c = room_rest {s = first c.before.before.before.before.before.before.before.before.before.before.before} {t = stocked2 c} (room2 c.before.before.before.before.before.before.before) c.compile_stock-k3.ensures
 
-room-reset2 : (c : tie.After-push-reset2) → Room (reset2 c) (drop 2 (tested c.before.before.before.before.before.before.before.before.before.before.before.before.before.before.before.before))
-room-reset2 c = room_rest {s = stocked2 c.before.before.before.before.before} {t = reset2 c} (room-stocked2 c.before.before.before.before.before) c.push-reset2.ensures
+room-reset2 : (c : tie.After-push_reset-k4) → Room (reset2 c) (drop 2 (tested c.before.before.before.before.before.before.before.before.before.before.before.before.before.before.before.before))
+room-reset2 c = room_rest {s = stocked2 c.before.before.before.before.before} {t = reset2 c} (room-stocked2 c.before.before.before.before.before) c.push_reset-k4.ensures
 
-room-left2 : (c : tie.After-push-remaining2) → Room (left2 c) (drop 3 (tested c.before.before.before.before.before.before.before.before.before.before.before.before.before.before.before.before.before.before.before.before.before))
-room-left2 c = room_rest {s = reset2 c.before.before.before.before.before} {t = left2 c} (room-reset2 c.before.before.before.before.before) c.push-remaining2.ensures
+room-left2 : (c : tie.After-push_remaining-k5) → Room (left2 c) (drop 3 (tested c.before.before.before.before.before.before.before.before.before.before.before.before.before.before.before.before.before.before.before.before.before))
+room-left2 c = room_rest {s = reset2 c.before.before.before.before.before} {t = left2 c} (room-reset2 c.before.before.before.before.before) c.push_remaining-k5.ensures
 
-compile-stock-requires-2 : tie.Need-compile-stock-requires-2
-compile-stock-requires-2 c κs = (room_first {s = first c.before.before.before.before.before.before.before.before.before.before} (room2 c.before.before.before.before.before.before), (c.before.before.before.before.before.before.before.before.before.before.requires.1.0, omega (arith, (room2 c.before.before.before.before.before.before).blocks, c.before.before.before.before.before.before.before.before.before.before.requires.1.1)))
+compile-stock-requires-2 : tie.Need-compile_stock-k3-requires
+compile-stock-requires-2 c κs = (room_first {s = first c.before.before.before.before.before.before.before.before.before.before} (room2 c.before.before.before.before.before.before), (c.requires.1.0, omega (arith, (room2 c.before.before.before.before.before.before).blocks, c.requires.1.1)))
 
-push-reset-requires-2 : tie.Need-push-reset-requires-2
-push-reset-requires-2 c κs = (room_first {s = stocked2 c.before.before.before.before} (room-stocked2 c.before.before.before.before), omega (arith, (room2 c.before.before.before.before.before.before.before.before.before.before.before).blocks, c.before.before.before.before.before.before.before.before.before.before.before.before.before.before.before.requires.1.1))
+push-reset-requires-2 : tie.Need-push_reset-k4-requires
+push-reset-requires-2 c κs = (room_first {s = stocked2 c.before.before.before.before} (room-stocked2 c.before.before.before.before), omega (arith, (room2 c.before.before.before.before.before.before.before.before.before.before.before).blocks, c.requires.1.1))
 
-push-remaining-requires-2 : tie.Need-push-remaining-requires-2
-push-remaining-requires-2 c κs = (room_first {s = reset2 c.before.before.before.before} (room-reset2 c.before.before.before.before), omega (arith, (room2 c.before.before.before.before.before.before.before.before.before.before.before.before.before.before.before.before).blocks, c.before.before.before.before.before.before.before.before.before.before.before.before.before.before.before.before.before.before.before.before.requires.1.1))
+push-remaining-requires-2 : tie.Need-push_remaining-k5-requires
+push-remaining-requires-2 c κs = (room_first {s = reset2 c.before.before.before.before} (room-reset2 c.before.before.before.before), omega (arith, (room2 c.before.before.before.before.before.before.before.before.before.before.before.before.before.before.before.before).blocks, c.requires.1.1))
 
-push-if-visible-requires : tie.Need-push-if-visible-requires
+push-if-visible-requires : tie.Need-push_if_visible-requires
 push-if-visible-requires c κs =
     let s = c.before.before.before.before.before.before.before.before.before.before.before.before.before.before.before.before.before.before.before.before.before.before.before.before.before in
     let r = room2 c.before.before.before.before.before.before.before.before.before.before.before.before.before.before.before.before.before.before.before.before.before in
-    (room-left2 c.before.before.before.before, (omega (arith, c.before.before.before.before.before.before.before.before.before.before.before.before.before.before.before.before.before.before.before.before.before.if1.false), s.requires.1.0.few, omega (arith, r.blocks, s.requires.1.1), omega (arith, r.blocks, s.requires.1.1)))
+    (room-left2 c.before.before.before.before, (omega (arith, c.if-len-eq0.false), s.requires.1.0.few, omega (arith, r.blocks, s.requires.1.1), omega (arith, r.blocks, s.requires.1.1)))
 
-returns-2 : tie.Need-returns-2
+returns-2 : tie.Need-returns
 returns-2 c =
     let s = c.before.before.before.before.before.before.before.before.before.before.before.before.before.before.before.before.before.before.before.before.before.before.before.before.before.before in
-    rw (limit_some s.args.x s.args.codes.now c.before.before.before.before.before.before.before.before.before.before.before.before.before.before.before.before.before.before.before.before.before.before.if1.false)
-    (blocks_put {s = first s} {t = stocked2 c.before.before.before.before.before.before.before.before.before.before.before.before.before.before.before} {u = shown2 c} c.before.before.before.before.before.before.before.before.before.before.before.before.before.before.before.compile-stock2.ensures
-    (blocks_put {s = stocked2 c.before.before.before.before.before.before.before.before.before.before.before.before.before.before.before} {t = reset2 c.before.before.before.before.before.before.before.before.before.before} {u = shown2 c} c.before.before.before.before.before.before.before.before.before.before.push-reset2.ensures
-    (blocks_put {s = reset2 c.before.before.before.before.before.before.before.before.before.before} {t = left2 c.before.before.before.before.before} {u = shown2 c} {x = remaining_block s.args.x.limit s.args.x.item.0 (s.args.x.end.0 + 2)} {xs = drop 3 (tested s)} c.before.before.before.before.before.push-remaining2.ensures c.push-if-visible.ensures)))
+    rw (limit_some s.args.x s.args.codes.now c.if-len-eq0.false)
+    (blocks_put {s = first s} {t = stocked2 c.before.before.before.before.before.before.before.before.before.before.before.before.before.before.before} {u = shown2 c} c.compile_stock-k3.ensures
+    (blocks_put {s = stocked2 c.before.before.before.before.before.before.before.before.before.before.before.before.before.before.before} {t = reset2 c.before.before.before.before.before.before.before.before.before.before} {u = shown2 c} c.push_reset-k4.ensures
+    (blocks_put {s = reset2 c.before.before.before.before.before.before.before.before.before.before} {t = left2 c.before.before.before.before.before} {u = shown2 c} {x = remaining_block s.args.x.limit s.args.x.item.0 (s.args.x.end.0 + 2)} {xs = drop 3 (tested s)} c.push_remaining-k5.ensures c.push_if_visible.ensures)))
 
-pub compile-slot-limit-spec : {M : Type 1} → statement M
-compile-slot-limit-spec =
+pub compile_slot_limit_spec : {M : Type 1} → statement M
+compile_slot_limit_spec =
     tie.close
     (tie.spec
     (λ c. search rules)

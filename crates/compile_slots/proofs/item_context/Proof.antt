@@ -11,11 +11,11 @@ returns c =
     let r = a.before in
     let t = r.before in
     let s = t.before.before in
-    context_made s.args.attached.now s.args.sheet s.args.limit s.args.index s.args.end s.args.item s.args.len t.timer-of.result r.rate-of.result l.limit-of.result a.acquired-of.result c.is-five.result
-    (t.timer-of.ensures s.args.attached.now) r.rate-of.ensures a.acquired-of.ensures (rw (to_z-of_z s.ranges.limit) at l.limit-of.ensures) c.is-five.ensures
+    context_made s.args.attached.now s.args.sheet s.args.limit s.args.index s.args.end s.args.item s.args.len t.timer_of-timer.result r.rate_of.result l.limit_of-most.result a.acquired_of-a.result c.is_five.result
+    (t.timer_of-timer.ensures s.args.attached.now) r.rate_of.ensures a.acquired_of-a.ensures (rw (to_z-of_z s.ranges.limit) at l.limit_of-most.ensures) c.is_five.ensures
 
-pub item-context-spec : {M : Type 1} → statement M
-item-context-spec =
+pub item_context_spec : {M : Type 1} → statement M
+item_context_spec =
     tie.close
     (tie.spec
     (λ c κs. search rules)

@@ -5,7 +5,7 @@ use mir.Facts.{to_z-of_z, Fits-nat_abs}
 use Rattle.expr.proofs.Signed.{place_natural, place_negative}
 use Rattle.expr.proofs.place_of.Statement.{statement}
 use Rattle.expr.proofs.place_of.Tie as tie
-use Rattle.model.specs.Laws.Signed.{not_negative}
+use Rattle.model.proofs.Laws.Signed.{not_negative}
 
 returns : tie.Need-returns-then-x-lt0
 returns c = place_negative c.args.x _ (rw (to_z-of_z c.ranges.x) at c.if-x-lt0.true)

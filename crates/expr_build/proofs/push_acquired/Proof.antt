@@ -14,31 +14,31 @@ use borrow.Author.Rules.{rules}
 use Rattle.expr_build.proofs.push_acquired.Statement.{statement}
 use Rattle.expr_build.proofs.push_acquired.Tie as tie
 
-push-compare-requires : tie.Need-push-compare-requires
-push-compare-requires c κs = omega (arith, c.before.before.before.requires.0, size_least c.before.before.before.args.a)
+push-compare-requires : tie.Need-push_compare-n1-requires
+push-compare-requires c κs = omega (arith, c.requires.0, size_least c.args.a)
 
-returns : tie.Need-returns
-returns c = rw (rate_none (with_zero NotEqual c.before.before.before.before.before.args.a.of (pos c.before.before.before.before.before.args.a.id)) c.before.before.before.before.before.args.a.rate c.if1.true) (rw (to_z_pos w32 {n = c.before.before.before.before.before.args.a.id} (omega arith)) at c.before.push-compare.ensures)
+returns : tie.Need-returns-then-rate-eq0
+returns c = rw (rate_none (with_zero NotEqual c.args.a.of (pos c.args.a.id)) c.args.a.rate c.if-rate-eq0.true) (rw (to_z_pos w32 {n = c.args.a.id} (omega arith)) at c.push_compare-n1.ensures)
 
-push-rate-requires : tie.Need-push-rate-requires
-push-rate-requires c κs = (omega (arith, c.before.before.before.before.before.before.before.requires.0, size_timer c.before.before.before.before.before.before.before.args.a c.before.before.if1.false, c.before.before.before.push-compare.ensures.counted, size_compare NotEqual c.before.before.before.before.before.before.before.args.a.of (to_z w32 c.before.before.before.before.before.before.before.args.a.id)), c.before.before.before.before.before.before.before.requires.1)
+push-rate-requires : tie.Need-push_rate-n2-requires
+push-rate-requires c κs = (omega (arith, c.requires.0, size_timer c.args.a c.if-rate-eq0.false, c.push_compare-n1.ensures.counted, size_compare NotEqual c.args.a.of (to_z w32 c.args.a.id)), c.requires.1)
 
-sub-push-two : tie.Need-overflow-sub-push-two
-sub-push-two c = omega (arith, c.before.before.before.before.before.before.push-compare.ensures.counted, size_compare NotEqual c.before.before.before.before.before.before.before.before.before.before.args.a.of (to_z w32 c.before.before.before.before.before.before.before.before.before.before.args.a.id))
+sub-push-two : tie.Need-overflow_sub-n1
+sub-push-two c = omega (arith, c.push_compare-n1.ensures.counted, size_compare NotEqual c.args.a.of (to_z w32 c.args.a.id))
 
-sub-push-two-2 : tie.Need-overflow-sub-push-two-2
+sub-push-two-2 : tie.Need-overflow_sub-n2
 unfolding size
-sub-push-two-2 c = omega (arith, c.before.before.push-rate.ensures.counted)
+sub-push-two-2 c = omega (arith, c.push_rate-n2.ensures.counted)
 
-push-two-requires : tie.Need-push-two-requires
+push-two-requires : tie.Need-push_two-requires
 unfolding size
-push-two-requires c κs = omega (arith, c.before.before.before.before.before.before.before.before.before.before.requires.0, size_timer c.before.before.before.before.before.before.before.before.before.before.args.a c.before.before.before.before.before.if1.false, c.before.before.before.before.before.before.push-compare.ensures.counted, size_compare NotEqual c.before.before.before.before.before.before.before.before.before.before.args.a.of (to_z w32 c.before.before.before.before.before.before.before.before.before.before.args.a.id), c.before.before.push-rate.ensures.counted)
+push-two-requires c κs = omega (arith, c.requires.0, size_timer c.args.a c.if-rate-eq0.false, c.push_compare-n1.ensures.counted, size_compare NotEqual c.args.a.of (to_z w32 c.args.a.id), c.push_rate-n2.ensures.counted)
 
-returns-2 : tie.Need-returns-2
-returns-2 c = rw (rate_some (with_zero NotEqual c.before.before.before.before.before.before.before.before.before.before.before.args.a.of (pos c.before.before.before.before.before.before.before.before.before.before.before.args.a.id)) c.before.before.before.before.before.before.before.before.before.before.before.args.a.rate c.before.before.before.before.before.before.if1.false) (two_put (rw (to_z_pos w32 {n = c.before.before.before.before.before.before.before.before.before.before.before.args.a.id} (omega arith)) at c.before.before.before.before.before.before.before.push-compare.ensures) c.before.before.before.push-rate.ensures c.push-two.ensures)
+returns-2 : tie.Need-returns
+returns-2 c = rw (rate_some (with_zero NotEqual c.args.a.of (pos c.args.a.id)) c.args.a.rate c.if-rate-eq0.false) (two_put (rw (to_z_pos w32 {n = c.args.a.id} (omega arith)) at c.push_compare-n1.ensures) c.push_rate-n2.ensures c.push_two.ensures)
 
-pub push-acquired-spec : {M : Type 1} → statement M
-push-acquired-spec =
+pub push_acquired_spec : {M : Type 1} → statement M
+push_acquired_spec =
     tie.close
     (tie.spec
     (λ c. search rules)

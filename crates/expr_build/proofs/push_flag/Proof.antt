@@ -7,7 +7,11 @@ use Rattle.expr_build.proofs.push_flag.Statement.{statement}
 use Rattle.expr_build.proofs.push_flag.Tie as tie
 
 returns : tie.Need-returns
-returns c = one_put (imm_put (rw (to_z-of_z {w = w32} c.before.before.before.before.before.before.ranges.z) at c.before.before.before.push-imm.ensures)) c.push-one.ensures
+returns c = one_put (imm_put (rw (to_z-of_z {w = w32} c.ranges.z) at c.push_imm-n1.ensures)) c.push_one.ensures
 
-pub push-flag-spec : {M : Type 1} → statement M
-push-flag-spec = tie.close (tie.spec (λ c κs. search rules) (λ c. search rules) (λ c κs. search rules) returns)
+pub push_flag_spec : {M : Type 1} → statement M
+push_flag_spec = tie.close (tie.spec
+    (λ c κs. search rules)
+    (λ c. search rules)
+    (λ c κs. search rules)
+    returns)

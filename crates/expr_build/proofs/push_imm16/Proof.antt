@@ -7,7 +7,10 @@ use Rattle.expr_build.proofs.push_imm16.Statement.{statement}
 use Rattle.expr_build.proofs.push_imm16.Tie as tie
 
 returns : tie.Need-returns
-returns c = imm16_put (rw (to_z_pos w32 {n = c.before.before.before.args.k} (omega (arith, c.before.before.before.requires))) at c.push-node.ensures)
+returns c = imm16_put (rw (to_z_pos w32 {n = c.args.k} (omega (arith, c.requires))) at c.push_node.ensures)
 
-pub push-imm16-spec : {M : Type 1} → statement M
-push-imm16-spec = tie.close (tie.spec (λ c. search rules) (λ c κs. search rules) returns)
+pub push_imm16_spec : {M : Type 1} → statement M
+push_imm16_spec = tie.close (tie.spec
+    (λ c. search rules)
+    (λ c κs. search rules)
+    returns)

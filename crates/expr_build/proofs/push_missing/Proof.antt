@@ -6,14 +6,17 @@ use native.Mathlib.Omega.{arith}
 use Rattle.expr_build.proofs.push_missing.Statement.{statement}
 use Rattle.expr_build.proofs.push_missing.Tie as tie
 
-push-acquired-requires : tie.Need-push-acquired-requires
-push-acquired-requires c κs = (omega (arith, c.before.before.requires.0, size_missing c.before.before.args.a), c.before.before.requires.1)
+push-acquired-requires : tie.Need-push_acquired-m-requires
+push-acquired-requires c κs = (omega (arith, c.requires.0, size_missing c.args.a), c.requires.1)
 
 negate-requires : tie.Need-negate-requires
-negate-requires c κs = last_put c.before.before.push-acquired.ensures (flips (acquired_flips c.before.before.before.before.before.args.a)) c.before.before.before.before.before.requires.0
+negate-requires c κs = last_put c.push_acquired-m.ensures (flips (acquired_flips c.args.a)) c.requires.0
 
 returns : tie.Need-returns
-returns c = c.negate.ensures _ _ (flips (acquired_flips c.before.before.before.before.before.before.args.a)) c.before.before.before.push-acquired.ensures
+returns c = c.negate.ensures _ _ (flips (acquired_flips c.args.a)) c.push_acquired-m.ensures
 
-pub push-missing-spec : {M : Type 1} → statement M
-push-missing-spec = tie.close (tie.spec push-acquired-requires negate-requires returns)
+pub push_missing_spec : {M : Type 1} → statement M
+push_missing_spec = tie.close (tie.spec
+    push-acquired-requires
+    negate-requires
+    returns)

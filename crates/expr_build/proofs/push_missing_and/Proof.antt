@@ -8,29 +8,29 @@ use Rattle.expr_build.proofs.push_missing_and.Statement.{statement}
 use Rattle.expr_build.proofs.push_missing_and.Tie as tie
 use Rattle.memory.specs.PutNodes.{size_pos}
 
-push-missing-requires : tie.Need-push-missing-requires
-push-missing-requires c κs = (omega (arith, c.before.before.requires.0, size_missing_least c.before.before.args.a c.before.before.args.codes.now c.before.before.args.len), c.before.before.requires.1)
+push-missing-requires : tie.Need-push_missing-n1-requires
+push-missing-requires c κs = (omega (arith, c.requires.0, size_missing_least c.args.a c.args.codes.now c.args.len), c.requires.1)
 
-returns : tie.Need-returns
-returns c = rw (missing_none c.before.before.before.before.args.a c.before.before.before.before.args.codes.now c.before.before.before.before.args.len c.if1.true) c.before.push-missing.ensures
+returns : tie.Need-returns-then-len-eq0
+returns c = rw (missing_none c.args.a c.args.codes.now c.args.len c.if-len-eq0.true) c.push_missing-n1.ensures
 
-push-tests-requires : tie.Need-push-tests-requires
-push-tests-requires c κs = ((omega (arith, c.before.before.if1.false), c.before.before.before.before.before.before.requires.2), omega (arith, c.before.before.before.before.before.before.requires.0, size_missing_some c.before.before.before.before.before.before.args.a c.before.before.before.before.before.before.args.codes.now c.before.before.before.before.before.before.args.len c.before.before.if1.false, c.before.before.before.push-missing.ensures.counted))
+push-tests-requires : tie.Need-push_tests-n2-requires
+push-tests-requires c κs = ((omega (arith, c.if-len-eq0.false), c.requires.2), omega (arith, c.requires.0, size_missing_some c.args.a c.args.codes.now c.args.len c.if-len-eq0.false, c.push_missing-n1.ensures.counted))
 
-sub-push-two : tie.Need-overflow-sub-push-two
-sub-push-two c = omega (arith, c.before.before.before.before.before.before.push-missing.ensures.counted, size_pos (negate (acquired_of c.before.before.before.before.before.before.before.before.before.args.a)))
+sub-push-two : tie.Need-overflow_sub-n1
+sub-push-two c = omega (arith, c.push_missing-n1.ensures.counted, size_pos (negate (acquired_of c.args.a)))
 
-sub-push-two-2 : tie.Need-overflow-sub-push-two-2
-sub-push-two-2 c = omega (arith, c.before.before.push-tests.ensures.counted, size_pos (join_codes c.before.before.before.before.before.before.before.before.before.args.codes.now c.before.before.before.before.before.before.before.before.before.args.len))
+sub-push-two-2 : tie.Need-overflow_sub-n2
+sub-push-two-2 c = omega (arith, c.push_tests-n2.ensures.counted, size_pos (join_codes c.args.codes.now c.args.len))
 
-push-two-requires : tie.Need-push-two-requires
-push-two-requires c κs = omega (arith, c.before.before.before.before.before.before.before.before.before.requires.0, size_missing_some c.before.before.before.before.before.before.before.before.before.args.a c.before.before.before.before.before.before.before.before.before.args.codes.now c.before.before.before.before.before.before.before.before.before.args.len c.before.before.before.before.before.if1.false, c.before.before.before.before.before.before.push-missing.ensures.counted, c.before.before.push-tests.ensures.counted)
+push-two-requires : tie.Need-push_two-requires
+push-two-requires c κs = omega (arith, c.requires.0, size_missing_some c.args.a c.args.codes.now c.args.len c.if-len-eq0.false, c.push_missing-n1.ensures.counted, c.push_tests-n2.ensures.counted)
 
-returns-2 : tie.Need-returns-2
-returns-2 c = rw (missing_some c.before.before.before.before.before.before.before.before.before.before.args.a c.before.before.before.before.before.before.before.before.before.before.args.codes.now c.before.before.before.before.before.before.before.before.before.before.args.len c.before.before.before.before.before.before.if1.false) (two_put c.before.before.before.before.before.before.before.push-missing.ensures c.before.before.before.push-tests.ensures c.push-two.ensures)
+returns-2 : tie.Need-returns
+returns-2 c = rw (missing_some c.args.a c.args.codes.now c.args.len c.if-len-eq0.false) (two_put c.push_missing-n1.ensures c.push_tests-n2.ensures c.push_two.ensures)
 
-pub push-missing-and-spec : {M : Type 1} → statement M
-push-missing-and-spec =
+pub push_missing_and_spec : {M : Type 1} → statement M
+push_missing_and_spec =
     tie.close
     (tie.spec
     push-missing-requires

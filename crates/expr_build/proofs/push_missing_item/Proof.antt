@@ -15,11 +15,15 @@ use Rattle.expr_build.proofs.push_missing_item.Statement.{statement}
 use Rattle.expr_build.proofs.push_missing_item.Tie as tie
 
 negate-requires : tie.Need-negate-requires
-negate-requires c κs = last_put (rw (to_z_pos w32 {n = c.before.before.before.before.before.before.args.item.0} (omega arith)) at c.before.before.push-compare.ensures) (flips (compared refl refl)) (omega (arith, c.before.before.before.before.before.before.requires, size_compare Equal Item (pos c.before.before.before.before.before.before.args.item.0)))
+negate-requires c κs = last_put (rw (to_z_pos w32 {n = c.args.item.0} (omega arith)) at c.push_compare-m.ensures) (flips (compared refl refl)) (omega (arith, c.requires, size_compare Equal Item (pos c.args.item.0)))
 
 returns : tie.Need-returns
-returns c = c.negate.ensures _ _ (flips (compared refl refl)) (rw (to_z_pos w32 {n = c.before.before.before.before.before.before.before.args.item.0} (omega arith)) at c.before.before.before.push-compare.ensures)
+returns c = c.negate.ensures _ _ (flips (compared refl refl)) (rw (to_z_pos w32 {n = c.args.item.0} (omega arith)) at c.push_compare-m.ensures)
 
-pub push-missing-item-spec : {M : Type 1} → statement M
-push-missing-item-spec =
-    tie.close (tie.spec (λ c. search rules) (λ c κs. search rules) negate-requires returns)
+pub push_missing_item_spec : {M : Type 1} → statement M
+push_missing_item_spec =
+    tie.close (tie.spec
+    (λ c. search rules)
+    (λ c κs. search rules)
+    negate-requires
+    returns)

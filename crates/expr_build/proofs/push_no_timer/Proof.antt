@@ -9,23 +9,23 @@ use borrow.Author.Rules.{rules}
 use Rattle.expr_build.proofs.push_no_timer.Statement.{statement}
 use Rattle.expr_build.proofs.push_no_timer.Tie as tie
 
-push-missing-item-requires-2 : tie.Need-push-missing-item-requires-2
-push-missing-item-requires-2 c κs = omega (arith, c.before.before.before.before.before.requires, c.before.before.push-missing-item.ensures.counted, size_compare Equal Item (pos c.before.before.before.before.before.args.ten.0))
+push-missing-item-requires-2 : tie.Need-push_missing_item-n2-requires
+push-missing-item-requires-2 c κs = omega (arith, c.requires, c.push_missing_item-n1.ensures.counted, size_compare Equal Item (pos c.args.ten.0))
 
-sub-push-two : tie.Need-overflow-sub-push-two
-sub-push-two c = omega (arith, c.before.before.before.before.before.push-missing-item.ensures.counted, size_compare Equal Item (pos c.before.before.before.before.before.before.before.before.args.ten.0))
+sub-push-two : tie.Need-overflow_sub-n1
+sub-push-two c = omega (arith, c.push_missing_item-n1.ensures.counted, size_compare Equal Item (pos c.args.ten.0))
 
-sub-push-two-2 : tie.Need-overflow-sub-push-two-2
-sub-push-two-2 c = omega (arith, c.before.before.push-missing-item2.ensures.counted, size_compare Equal Item (pos c.before.before.before.before.before.before.before.before.args.fifteen.0))
+sub-push-two-2 : tie.Need-overflow_sub-n2
+sub-push-two-2 c = omega (arith, c.push_missing_item-n2.ensures.counted, size_compare Equal Item (pos c.args.fifteen.0))
 
-push-two-requires : tie.Need-push-two-requires
-push-two-requires c κs = omega (arith, c.before.before.before.before.before.before.before.before.requires, c.before.before.before.before.before.push-missing-item.ensures.counted, size_compare Equal Item (pos c.before.before.before.before.before.before.before.before.args.ten.0), c.before.before.push-missing-item2.ensures.counted, size_compare Equal Item (pos c.before.before.before.before.before.before.before.before.args.fifteen.0))
+push-two-requires : tie.Need-push_two-requires
+push-two-requires c κs = omega (arith, c.requires, c.push_missing_item-n1.ensures.counted, size_compare Equal Item (pos c.args.ten.0), c.push_missing_item-n2.ensures.counted, size_compare Equal Item (pos c.args.fifteen.0))
 
 returns : tie.Need-returns
-returns c = two_put c.before.before.before.before.before.before.push-missing-item.ensures c.before.before.before.push-missing-item2.ensures c.push-two.ensures
+returns c = two_put c.push_missing_item-n1.ensures c.push_missing_item-n2.ensures c.push_two.ensures
 
-pub push-no-timer-spec : {M : Type 1} → statement M
-push-no-timer-spec =
+pub push_no_timer_spec : {M : Type 1} → statement M
+push_no_timer_spec =
     tie.close
     (tie.spec
     (λ c κs. search rules)

@@ -5,27 +5,27 @@ use borrow.Author.Rules.{rules}
 use Rattle.expr_build.proofs.push_rate.Statement.{statement}
 use Rattle.expr_build.proofs.push_rate.Tie as tie
 
-sub-push-one : tie.Need-overflow-sub-push-one
+sub-push-one : tie.Need-overflow_sub-n1
 unfolding size
 sub-push-one c = search rules
 
-push-one-requires : tie.Need-push-one-requires
+push-one-requires : tie.Need-push_one-n2-requires
 unfolding size
 push-one-requires c κs = search rules
 
-push-imm16-requires-2 : tie.Need-push-imm16-requires-2
+push-imm16-requires-2 : tie.Need-push_imm16-n3-requires
 unfolding size
 push-imm16-requires-2 c κs = search rules
 
-push-two-requires : tie.Need-push-two-requires
+push-two-requires : tie.Need-push_two-requires
 unfolding size
 push-two-requires c κs = search rules
 
 returns : tie.Need-returns
-returns c = two_put (one_put c.before.before.before.before.before.before.before.before.before.push-imm16.ensures c.before.before.before.before.before.before.push-one.ensures) c.before.before.before.push-imm162.ensures c.push-two.ensures
+returns c = two_put (one_put c.push_imm16-n1.ensures c.push_one-n2.ensures) c.push_imm16-n3.ensures c.push_two.ensures
 
-pub push-rate-spec : {M : Type 1} → statement M
-push-rate-spec =
+pub push_rate_spec : {M : Type 1} → statement M
+push_rate_spec =
     tie.close
     (tie.spec
     (λ c κs. search rules)

@@ -10,32 +10,32 @@ use borrow.Author.Rules.{rules}
 use Rattle.expr_build.proofs.push_subject.Statement.{statement}
 use Rattle.expr_build.proofs.push_subject.Tie as tie
 
-cast-push-compare : tie.Need-overflow-cast-push-compare
-cast-push-compare c = record { sfits = subject_low c.before.before.before.before.before.before.args.code _ (sym (ap subject_is c.before.before.before.about.given.1) ∙ c.before.before.before.before.before.subject-of.ensures) }
+cast-push-compare : tie.Need-overflow_cast-i
+cast-push-compare c = record { sfits = subject_low c.args.code _ (sym (ap subject_is c.in-Item.is) ∙ c.subject_of-about.ensures) }
 
-push-compare-requires : tie.Need-push-compare-requires
-push-compare-requires c κs = omega (arith, c.before.before.before.before.before.before.requires, size_item c.before.before.before.before.before.before.args.code _ c.before.before.before.before.before.subject-of.ensures _ (ap subject_is c.before.before.before.about.given.1))
+push-compare-requires : tie.Need-push_compare-requires
+push-compare-requires c κs = omega (arith, c.requires, size_item c.args.code _ c.subject_of-about.ensures _ (ap subject_is c.in-Item.is))
 
-cast-push-compare-2 : tie.Need-overflow-cast-push-compare-2
-cast-push-compare-2 c = record { sfits = subject_low c.before.before.before.before.before.before.args.code _ (sym (ap subject_is c.before.before.before.about2.given.1) ∙ c.before.before.before.before.before.subject-of.ensures) }
+cast-push-compare-2 : tie.Need-overflow_cast-a
+cast-push-compare-2 c = record { sfits = subject_low c.args.code _ (sym (ap subject_is c.in-Atc.is) ∙ c.subject_of-about.ensures) }
 
-push-compare-requires-2 : tie.Need-push-compare-requires-2
-push-compare-requires-2 c κs = omega (arith, c.before.before.before.before.before.before.requires, size_atc c.before.before.before.before.before.before.args.code _ c.before.before.before.before.before.subject-of.ensures _ (ap subject_is c.before.before.before.about2.given.1))
+push-compare-requires-2 : tie.Need-push_compare-requires-in-Atc
+push-compare-requires-2 c κs = omega (arith, c.requires, size_atc c.args.code _ c.subject_of-about.ensures _ (ap subject_is c.in-Atc.is))
 
-push-flag-requires : tie.Need-push-flag-requires
-push-flag-requires c κs = omega (arith, c.before.before.before.before.before.before.requires, size_a_flag c.before.before.before.before.before.before.args.code _ c.before.before.before.before.before.subject-of.ensures _ (ap subject_is c.before.before.before.about3.given.1))
+push-flag-requires : tie.Need-push_flag-requires
+push-flag-requires c κs = omega (arith, c.requires, size_a_flag c.args.code _ c.subject_of-about.ensures _ (ap subject_is c.in-Flag.is))
 
-returns : tie.Need-returns
-returns c = rw (about_item c.before.before.before.before.before.before.before.args.code _ c.before.before.before.before.before.before.subject-of.ensures _ (ap subject_is c.before.before.before.before.about.given.1)) (rw (to_z_pos w32 (subject_low c.before.before.before.before.before.before.before.args.code _ (sym (ap subject_is c.before.before.before.before.about.given.1) ∙ c.before.before.before.before.before.before.subject-of.ensures))) at c.push-compare.ensures)
+returns : tie.Need-returns-in-Item
+returns c = rw (about_item c.args.code _ c.subject_of-about.ensures _ (ap subject_is c.in-Item.is)) (rw (to_z_pos w32 (subject_low c.args.code _ (sym (ap subject_is c.in-Item.is) ∙ c.subject_of-about.ensures))) at c.push_compare.ensures)
 
-returns-2 : tie.Need-returns-2
-returns-2 c = rw (about_atc c.before.before.before.before.before.before.before.args.code _ c.before.before.before.before.before.before.subject-of.ensures _ (ap subject_is c.before.before.before.before.about2.given.1)) (rw (to_z_pos w32 (subject_low c.before.before.before.before.before.before.before.args.code _ (sym (ap subject_is c.before.before.before.before.about2.given.1) ∙ c.before.before.before.before.before.before.subject-of.ensures))) at c.push-compare2.ensures)
+returns-2 : tie.Need-returns-in-Atc
+returns-2 c = rw (about_atc c.args.code _ c.subject_of-about.ensures _ (ap subject_is c.in-Atc.is)) (rw (to_z_pos w32 (subject_low c.args.code _ (sym (ap subject_is c.in-Atc.is) ∙ c.subject_of-about.ensures))) at c.push_compare-in-Atc.ensures)
 
-returns-3 : tie.Need-returns-3
-returns-3 c = rw (about_flag c.before.before.before.before.before.before.before.args.code _ c.before.before.before.before.before.before.subject-of.ensures _ (ap subject_is c.before.before.before.before.about3.given.1)) (rw (to_z-of_z {w = w32} (record { sfits = (subject_low c.before.before.before.before.before.before.before.args.code _ (sym (ap subject_is c.before.before.before.before.about3.given.1) ∙ c.before.before.before.before.before.before.subject-of.ensures)) })) at c.push-flag.ensures)
+returns-3 : tie.Need-returns-in-Flag
+returns-3 c = rw (about_flag c.args.code _ c.subject_of-about.ensures _ (ap subject_is c.in-Flag.is)) (rw (to_z-of_z {w = w32} (record { sfits = (subject_low c.args.code _ (sym (ap subject_is c.in-Flag.is) ∙ c.subject_of-about.ensures)) })) at c.push_flag.ensures)
 
-pub push-subject-spec : {M : Type 1} → statement M
-push-subject-spec =
+pub push_subject_spec : {M : Type 1} → statement M
+push_subject_spec =
     tie.close
     (tie.spec
     (λ c κs. search rules)

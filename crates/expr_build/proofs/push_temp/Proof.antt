@@ -4,19 +4,19 @@ use borrow.Author.Rules.{rules}
 use Rattle.expr_build.proofs.push_temp.Statement.{statement}
 use Rattle.expr_build.proofs.push_temp.Tie as tie
 
-sub-push-one : tie.Need-overflow-sub-push-one
+sub-push-one : tie.Need-overflow_sub-n1
 unfolding size
 sub-push-one c = search rules
 
-push-one-requires : tie.Need-push-one-requires
+push-one-requires : tie.Need-push_one-requires
 unfolding size
 push-one-requires c κs = search rules
 
 returns : tie.Need-returns
-returns c = one_put c.before.before.before.push-imm16.ensures c.push-one.ensures
+returns c = one_put c.push_imm16-n1.ensures c.push_one.ensures
 
-pub push-temp-spec : {M : Type 1} → statement M
-push-temp-spec =
+pub push_temp_spec : {M : Type 1} → statement M
+push_temp_spec =
     tie.close
     (tie.spec
     (λ c κs. search rules)

@@ -42,7 +42,7 @@ negate-node-negate-node-requires t c κs =
     let f = c.flipped in
     let h = c.requires.1 in
     let g = sides (get_or a.ws.now (3 * a.i + 1) 0) (get_or a.ws.now (3 * a.i + 2) 0) f.result (omega (arith, c.if-code-lt6.false)) refl refl f.ensures h.laid in
-    (omega (arith, g.left-low, c.requires.0), record { first = h.first; expr = g.one; laid = g.left; low = omega (arith, g.left-low, h.low) })
+    (omega (arith, g.left_low, c.requires.0), record { first = h.first; expr = g.one; laid = g.left; low = omega (arith, g.left_low, h.low) })
 
 negate-node-negate-node-requires-2 : (t : ℕ) → negate-node-lts.Need-negate_node-requires-2 (negate-node-claims t) (negate-node-at t) negate-node.Post
 negate-node-negate-node-requires-2 t c κs =
@@ -50,7 +50,7 @@ negate-node-negate-node-requires-2 t c κs =
     let f = c.flipped in
     let h = c.requires.1 in
     let g = sides (get_or a.ws.now (3 * a.i + 1) 0) (get_or a.ws.now (3 * a.i + 2) 0) f.result (omega (arith, c.if-code-lt6.false)) refl refl f.ensures h.laid in
-    (omega (arith, g.right-low, c.requires.0), record { first = get_or a.ws.now (3 * a.i + 1) 0 + 1; expr = g.other; laid = g.right c.negate_node.new.0 (c.negate_node.ensures h.first g.one g.left); low = omega (arith, g.right-low, h.low) })
+    (omega (arith, g.right_low, c.requires.0), record { first = get_or a.ws.now (3 * a.i + 1) 0 + 1; expr = g.other; laid = g.right c.negate_node.new.ws (c.negate_node.ensures h.first g.one g.left); low = omega (arith, g.right_low, h.low) })
 
 negate-node-returns-2 : (t : ℕ) → negate-node-lts.Need-returns (negate-node-claims t) (negate-node-at t) negate-node.Post
 negate-node-returns-2 t c = λ k e h.
@@ -58,7 +58,7 @@ negate-node-returns-2 t c = λ k e h.
     let f = c.flipped in
     let g = sides (get_or a.ws.now (3 * a.i + 1) 0) (get_or a.ws.now (3 * a.i + 2) 0) f.result (omega (arith, c.if-code-lt6.false)) refl refl f.ensures h in
     let p = c.negate_node.ensures k g.one g.left in
-    g.done c.negate_node.new.0 c.negate_node-2.new.0 p (c.negate_node-2.ensures (get_or a.ws.now (3 * a.i + 1) 0 + 1) g.other (g.right c.negate_node.new.0 p))
+    g.done c.negate_node.new.ws c.negate_node-2.new.ws p (c.negate_node-2.ensures (get_or a.ws.now (3 * a.i + 1) 0 + 1) g.other (g.right c.negate_node.new.ws p))
 
 pub +negate_node_spec : {M : Type 1} → statement M
 +negate_node_spec = close μ-negate-node λ t. negate-node-lts.spec

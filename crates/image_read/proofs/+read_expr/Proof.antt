@@ -100,68 +100,33 @@ read-expr-push-node-requires t c κs =
 
 read-expr-returns : (t : ℕ) → read-expr-lts.Need-returns-in-Got-a (read-expr-claims t) (read-expr-at t) read-expr.Post
 read-expr-returns t c =
-    let c3 = c.before.before.before in
-    let c7 = c3.before.before.before.before in
-    let c9 = c7.before in
-    let c12 = c9.before.before.before in
-    let c14 = c12.before in
-    let c16 = c14.before.before in
-    let c18 = c16.before in
-    let c20 = c18.before.before in
-    let args = c20.args in
-    told_two args.s.now args.at args.n args.depth _ c16.in-Got.p (headed args.s.now args.at args.n args.depth _ c18.read_head-head.ensures _ _ c16.in-Got.is) _ c14.kind_of-k.ensures args.ws.now args.val.now _ c12.in-Two.is _ _ _ _ (done args.s.now args.ws.now args.val.now c16.in-Got.p _ _ _ _ _ c9.read_expr-a.ensures _ _ c7.in-Got-a.is) _ _ _ _ _ _ c3.read_expr-b.ensures c.push_two.ensures
+    let args = c.args in
+    told_two args.s.now args.at args.n args.depth _ c.in-Got.p (headed args.s.now args.at args.n args.depth _ c.read_head-head.ensures _ _ c.in-Got.is) _ c.kind_of-k.ensures args.ws.now args.val.now _ c.in-Two.is _ _ _ _ (done args.s.now args.ws.now args.val.now c.in-Got.p _ _ _ _ _ c.read_expr-a.ensures _ _ c.in-Got-a.is) _ _ _ _ _ _ c.read_expr-b.ensures c.push_two.ensures
 
 read-expr-returns-2 : (t : ℕ) → read-expr-lts.Need-returns-in-No-a (read-expr-claims t) (read-expr-at t) read-expr.Post
 read-expr-returns-2 t c =
-    let c3 = c.before in
-    let c6 = c3.before.before.before in
-    let c8 = c6.before in
-    let c10 = c8.before.before in
-    let c12 = c10.before in
-    let c14 = c12.before.before in
-    let args = c14.args in
-    told_two_no args.s.now args.at args.n args.depth _ c10.in-Got.p (headed args.s.now args.at args.n args.depth _ c12.read_head-head.ensures _ _ c10.in-Got.is) _ c8.kind_of-k.ensures args.ws.now args.val.now _ c6.in-Two.is _ _ _ c3.read_expr-a.ensures _ _ _ c.in-No-a.is
+    let args = c.args in
+    told_two_no args.s.now args.at args.n args.depth _ c.in-Got.p (headed args.s.now args.at args.n args.depth _ c.read_head-head.ensures _ _ c.in-Got.is) _ c.kind_of-k.ensures args.ws.now args.val.now _ c.in-Two.is _ _ _ c.read_expr-a.ensures _ _ _ c.in-No-a.is
 
 read-expr-returns-3 : (t : ℕ) → read-expr-lts.Need-returns-in-One (read-expr-claims t) (read-expr-at t) read-expr.Post
 read-expr-returns-3 t c =
-    let c3 = c.before.before.before in
-    let c6 = c3.before.before.before in
-    let c8 = c6.before in
-    let c10 = c8.before.before in
-    let c12 = c10.before in
-    let c14 = c12.before.before in
-    let args = c14.args in
-    told_one args.s.now args.at args.n args.depth _ c10.in-Got.p (headed args.s.now args.at args.n args.depth _ c12.read_head-head.ensures _ _ c10.in-Got.is) _ c8.kind_of-k.ensures args.ws.now args.val.now _ c6.in-One.is _ _ _ _ _ _ c3.read_expr-a-in-One.ensures c.push_one.ensures
+    let args = c.args in
+    told_one args.s.now args.at args.n args.depth _ c.in-Got.p (headed args.s.now args.at args.n args.depth _ c.read_head-head.ensures _ _ c.in-Got.is) _ c.kind_of-k.ensures args.ws.now args.val.now _ c.in-One.is _ _ _ _ _ _ c.read_expr-a-in-One.ensures c.push_one.ensures
 
 read-expr-returns-4 : (t : ℕ) → read-expr-lts.Need-returns-in-Imm16 (read-expr-claims t) (read-expr-at t) read-expr.Post
 read-expr-returns-4 t c =
-    let c3 = c.before.before.before in
-    let c5 = c3.before in
-    let c7 = c5.before.before in
-    let c9 = c7.before in
-    let c11 = c9.before.before in
-    let args = c11.args in
-    told_imm16 args.s.now args.at args.n args.depth _ c7.in-Got.p (headed args.s.now args.at args.n args.depth _ c9.read_head-head.ensures _ _ c7.in-Got.is) _ c5.kind_of-k.ensures args.ws.now args.val.now _ _ _ c3.in-Imm16.is c.read_imm.ensures
+    let args = c.args in
+    told_imm16 args.s.now args.at args.n args.depth _ c.in-Got.p (headed args.s.now args.at args.n args.depth _ c.read_head-head.ensures _ _ c.in-Got.is) _ c.kind_of-k.ensures args.ws.now args.val.now _ _ _ c.in-Imm16.is c.read_imm.ensures
 
 read-expr-returns-5 : (t : ℕ) → read-expr-lts.Need-returns-in-Imm32 (read-expr-claims t) (read-expr-at t) read-expr.Post
 read-expr-returns-5 t c =
-    let c3 = c.before.before.before in
-    let c5 = c3.before in
-    let c7 = c5.before.before in
-    let c9 = c7.before in
-    let c11 = c9.before.before in
-    let args = c11.args in
-    told_imm32 args.s.now args.at args.n args.depth _ c7.in-Got.p (headed args.s.now args.at args.n args.depth _ c9.read_head-head.ensures _ _ c7.in-Got.is) _ c5.kind_of-k.ensures args.ws.now args.val.now _ _ _ c3.in-Imm32.is c.read_imm-in-Imm32.ensures
+    let args = c.args in
+    told_imm32 args.s.now args.at args.n args.depth _ c.in-Got.p (headed args.s.now args.at args.n args.depth _ c.read_head-head.ensures _ _ c.in-Got.is) _ c.kind_of-k.ensures args.ws.now args.val.now _ _ _ c.in-Imm32.is c.read_imm-in-Imm32.ensures
 
 read-expr-returns-6 : (t : ℕ) → read-expr-lts.Need-returns-in-Other (read-expr-claims t) (read-expr-at t) read-expr.Post
 read-expr-returns-6 t c =
-    let c3 = c.before.before.before in
-    let c5 = c3.before in
-    let c7 = c5.before.before in
-    let c9 = c7.before in
-    let c11 = c9.before.before in
-    let args = c11.args in
-    told_other args.s.now args.at args.n args.depth _ c7.in-Got.p (headed args.s.now args.at args.n args.depth _ c9.read_head-head.ensures _ _ c7.in-Got.is) _ c5.kind_of-k.ensures args.ws.now args.val.now _ _ _ c3.in-Other.is c.push_node.ensures
+    let args = c.args in
+    told_other args.s.now args.at args.n args.depth _ c.in-Got.p (headed args.s.now args.at args.n args.depth _ c.read_head-head.ensures _ _ c.in-Got.is) _ c.kind_of-k.ensures args.ws.now args.val.now _ _ _ c.in-Other.is c.push_node.ensures
 
 read-expr-returns-7 : (t : ℕ) → read-expr-lts.Need-returns-in-No (read-expr-claims t) (read-expr-at t) read-expr.Post
 read-expr-returns-7 t c =

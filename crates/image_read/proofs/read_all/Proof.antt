@@ -19,36 +19,18 @@ read-blocks-requires c κs =
 
 returns-2 : tie.Need-returns-then-e-s
 returns-2 c =
-    let c4 = c.before.before in
-    let c9 = c4.before.before.before.before.before in
-    let c10 = c9.before in
-    let c12 = c10.before.before in
-    let c14 = c12.before in
-    let c16 = c14.before.before in
-    let args = c16.args in
-    image_left args.s.now (memory_in args.ws.now args.val.now args.cw.now args.bw.now 0 0 0) args.at _ c14.read_number-count.ensures _ _ c12.in-Got.is c10.if-c-gt-MOST_BLOCKS.false _ c9.low_word-b.ensures _ _ _ _ _ c4.read_blocks-r.ensures _ _ _ _ _ _ _ c.in-Got-r.is c.if-e-s.true
+    let args = c.args in
+    image_left args.s.now (memory_in args.ws.now args.val.now args.cw.now args.bw.now 0 0 0) args.at _ c.read_number-count.ensures _ _ c.in-Got.is c.if-c-gt-MOST_BLOCKS.false _ c.low_word-b.ensures _ _ _ _ _ c.read_blocks-r.ensures _ _ _ _ _ _ _ c.in-Got-r.is c.if-e-s.true
 
 returns-3 : tie.Need-returns-else-e-s
 returns-3 c =
-    let c4 = c.before.before in
-    let c9 = c4.before.before.before.before.before in
-    let c10 = c9.before in
-    let c12 = c10.before.before in
-    let c14 = c12.before in
-    let c16 = c14.before.before in
-    let args = c16.args in
-    image_done args.s.now (memory_in args.ws.now args.val.now args.cw.now args.bw.now 0 0 0) args.at _ c14.read_number-count.ensures _ _ c12.in-Got.is c10.if-c-gt-MOST_BLOCKS.false _ c9.low_word-b.ensures _ _ _ _ _ c4.read_blocks-r.ensures _ _ _ c.in-Got-r.is c.if-e-s.false
+    let args = c.args in
+    image_done args.s.now (memory_in args.ws.now args.val.now args.cw.now args.bw.now 0 0 0) args.at _ c.read_number-count.ensures _ _ c.in-Got.is c.if-c-gt-MOST_BLOCKS.false _ c.low_word-b.ensures _ _ _ _ _ c.read_blocks-r.ensures _ _ _ c.in-Got-r.is c.if-e-s.false
 
 returns-4 : tie.Need-returns-in-No
 returns-4 c =
-    let c3 = c.before in
-    let c8 = c3.before.before.before.before.before in
-    let c9 = c8.before in
-    let c11 = c9.before.before in
-    let c13 = c11.before in
-    let c15 = c13.before.before in
-    let args = c15.args in
-    image_no args.s.now (memory_in args.ws.now args.val.now args.cw.now args.bw.now 0 0 0) args.at _ c13.read_number-count.ensures _ _ c11.in-Got.is c9.if-c-gt-MOST_BLOCKS.false _ c8.low_word-b.ensures _ _ _ _ _ c3.read_blocks-r.ensures _ _ _ _ _ c.in-No.is
+    let args = c.args in
+    image_no args.s.now (memory_in args.ws.now args.val.now args.cw.now args.bw.now 0 0 0) args.at _ c.read_number-count.ensures _ _ c.in-Got.is c.if-c-gt-MOST_BLOCKS.false _ c.low_word-b.ensures _ _ _ _ _ c.read_blocks-r.ensures _ _ _ _ _ c.in-No.is
 
 returns-5 : tie.Need-returns-in-Bad
 returns-5 c =

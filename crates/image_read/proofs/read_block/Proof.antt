@@ -7,28 +7,18 @@ use Rattle.image_read.proofs.read_block.Tie as tie
 
 returns : tie.Need-returns-in-0
 returns c =
-    let c4 = c.before.before.before.before in
-    let c6 = c4.before in
-    let c8 = c6.before.before in
-    let args = c8.args in
-    placeholder_done args.s.now args.ws.now args.val.now args.cw.now args.bw.now args.k.nodes args.k.commands args.k.blocks args.blocks args.at _ c6.read_number-kind.ensures _ _ c4.in-Got.is _ _ c8.requires.0 c8.requires.1 c.in-0.is c.push_block.ensures
+    let args = c.args in
+    placeholder_done args.s.now args.ws.now args.val.now args.cw.now args.bw.now args.k.nodes args.k.commands args.k.blocks args.blocks args.at _ c.read_number-kind.ensures _ _ c.in-Got.is _ _ c.requires.0 c.requires.1 c.in-0.is c.push_block.ensures
 
 returns-2 : tie.Need-returns-in-1
 returns-2 c =
-    let c5 = c.before.before.before.before.before in
-    let c7 = c5.before.before in
-    let c9 = c7.before in
-    let c11 = c9.before.before in
-    let args = c11.args in
-    code_told args.s.now args.ws.now args.val.now args.cw.now args.bw.now args.k.nodes args.k.commands args.k.blocks args.blocks args.at _ c9.read_number-kind.ensures _ _ c7.in-Got.is _ _ _ _ _ c5.in-1.is c.read_code.ensures
+    let args = c.args in
+    code_told args.s.now args.ws.now args.val.now args.cw.now args.bw.now args.k.nodes args.k.commands args.k.blocks args.blocks args.at _ c.read_number-kind.ensures _ _ c.in-Got.is _ _ _ _ _ c.in-1.is c.read_code.ensures
 
 returns-3 : tie.Need-returns-in_default
 returns-3 c =
-    let c4 = c.before.before.before.before in
-    let c6 = c4.before in
-    let c8 = c6.before.before in
-    let args = c8.args in
-    data_done args.s.now args.ws.now args.val.now args.cw.now args.bw.now args.k.nodes args.k.commands args.k.blocks args.blocks args.at _ c6.read_number-kind.ensures _ _ c4.in-Got.is _ _ c8.requires.0 c8.requires.1 c.in_default.in_default-own.rest.0.1 c.in_default.in_default-own.rest.1 c.push_block-in_default.ensures
+    let args = c.args in
+    data_done args.s.now args.ws.now args.val.now args.cw.now args.bw.now args.k.nodes args.k.commands args.k.blocks args.blocks args.at _ c.read_number-kind.ensures _ _ c.in-Got.is _ _ c.requires.0 c.requires.1 c.in_default.in_default-own.rest.0.1 c.in_default.in_default-own.rest.1 c.push_block-in_default.ensures
 
 returns-4 : tie.Need-returns-in-Bad
 returns-4 c =

@@ -24,12 +24,8 @@ loop-holds c =
 
 returns : tie.Need-returns-in-No invariant-loop decreases-loop
 returns c =
-    let c3 = c.before in
-    let c8 = c3.before.before.before.before.before in
-    let c9 = c8.before in
-    let c11 = c9.before.before in
-    let args = c11.args in
-    blocks_no args.s.now args.ws.now args.val.now args.cw.now args.bw.now args.count args.at _ _ _ _ _ _ _ _ c8.loop-i-test.true c9.loop-i.invariant.1 _ _ _ _ _ c3.read_block-r.ensures _ _ _ _ _ c.in-No.is
+    let args = c.args in
+    blocks_no args.s.now args.ws.now args.val.now args.cw.now args.bw.now args.count args.at _ _ _ _ _ _ _ _ c.loop-i-test.true c.loop-i.invariant.1 _ _ _ _ _ c.read_block-r.ensures _ _ _ _ _ c.in-No.is
 
 loop-again : tie.Need-loop-i-preserved invariant-loop decreases-loop
 loop-again c =

@@ -7,53 +7,33 @@ use Rattle.image_read.proofs.read_command.Tie as tie
 
 returns : tie.Need-returns-in-0
 returns c =
-    let c4 = c.before.before.before.before in
-    let c6 = c4.before in
-    let c8 = c6.before.before in
-    let args = c8.args in
-    return_done args.s.now args.ws.now args.val.now args.cw.now args.n args.m args.blocks args.at _ c6.read_number-code.ensures _ _ c4.in-Got.is _ _ c8.requires.0 c.in-0.is c.push_command.ensures
+    let args = c.args in
+    return_done args.s.now args.ws.now args.val.now args.cw.now args.n args.m args.blocks args.at _ c.read_number-code.ensures _ _ c.in-Got.is _ _ c.requires.0 c.in-0.is c.push_command.ensures
 
 returns-2 : tie.Need-returns-in-1
 returns-2 c =
-    let c4 = c.before.before.before.before in
-    let c6 = c4.before in
-    let c8 = c6.before.before in
-    let args = c8.args in
-    goto_told args.s.now args.ws.now args.val.now args.cw.now args.n args.m args.blocks args.at _ c6.read_number-code.ensures _ _ c4.in-Got.is _ _ c8.requires.0 c.in-1.is c.read_jump.ensures
+    let args = c.args in
+    goto_told args.s.now args.ws.now args.val.now args.cw.now args.n args.m args.blocks args.at _ c.read_number-code.ensures _ _ c.in-Got.is _ _ c.requires.0 c.in-1.is c.read_jump.ensures
 
 returns-3 : tie.Need-returns-in-2
 returns-3 c =
-    let c4 = c.before.before.before.before in
-    let c6 = c4.before.before in
-    let c8 = c6.before in
-    let c10 = c8.before.before in
-    let args = c10.args in
-    set_told args.s.now args.ws.now args.val.now args.cw.now args.n args.m args.blocks args.at _ c8.read_number-code.ensures _ _ c6.in-Got.is _ _ _ _ c4.in-2.is c.read_set.ensures
+    let args = c.args in
+    set_told args.s.now args.ws.now args.val.now args.cw.now args.n args.m args.blocks args.at _ c.read_number-code.ensures _ _ c.in-Got.is _ _ _ _ c.in-2.is c.read_set.ensures
 
 returns-4 : tie.Need-returns-in-3
 returns-4 c =
-    let c4 = c.before.before.before.before in
-    let c6 = c4.before.before in
-    let c8 = c6.before in
-    let c10 = c8.before.before in
-    let args = c10.args in
-    if_told args.s.now args.ws.now args.val.now args.cw.now args.n args.m args.blocks args.at _ c8.read_number-code.ensures _ _ c6.in-Got.is _ _ _ _ c4.in-3.is c.read_if.ensures
+    let args = c.args in
+    if_told args.s.now args.ws.now args.val.now args.cw.now args.n args.m args.blocks args.at _ c.read_number-code.ensures _ _ c.in-Got.is _ _ _ _ c.in-3.is c.read_if.ensures
 
 returns-5 : tie.Need-returns-in-4
 returns-5 c =
-    let c4 = c.before.before.before.before in
-    let c6 = c4.before in
-    let c8 = c6.before.before in
-    let args = c8.args in
-    endif_told args.s.now args.ws.now args.val.now args.cw.now args.n args.m args.blocks args.at _ c6.read_number-code.ensures _ _ c4.in-Got.is _ _ c8.requires.0 c.in-4.is c.read_jump-in-4.ensures
+    let args = c.args in
+    endif_told args.s.now args.ws.now args.val.now args.cw.now args.n args.m args.blocks args.at _ c.read_number-code.ensures _ _ c.in-Got.is _ _ c.requires.0 c.in-4.is c.read_jump-in-4.ensures
 
 returns-6 : tie.Need-returns-in_default
 returns-6 c =
-    let c4 = c.before.before.before.before in
-    let c6 = c4.before in
-    let c8 = c6.before.before in
-    let args = c8.args in
-    other_done args.s.now args.ws.now args.val.now args.cw.now args.n args.m args.blocks args.at _ c6.read_number-code.ensures _ _ c4.in-Got.is _ _ c8.requires.0 c.in_default.in_default-own.rest.0.0.0.0.1 c.in_default.in_default-own.rest.0.0.0.1 c.in_default.in_default-own.rest.0.0.1 c.in_default.in_default-own.rest.0.1 c.in_default.in_default-own.rest.1 c.push_command-in_default.ensures
+    let args = c.args in
+    other_done args.s.now args.ws.now args.val.now args.cw.now args.n args.m args.blocks args.at _ c.read_number-code.ensures _ _ c.in-Got.is _ _ c.requires.0 c.in_default.in_default-own.rest.0.0.0.0.1 c.in_default.in_default-own.rest.0.0.0.1 c.in_default.in_default-own.rest.0.0.1 c.in_default.in_default-own.rest.0.1 c.in_default.in_default-own.rest.1 c.push_command-in_default.ensures
 
 returns-7 : tie.Need-returns-in-Bad
 returns-7 c =

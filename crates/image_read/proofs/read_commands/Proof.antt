@@ -24,12 +24,8 @@ loop-holds c =
 
 returns : tie.Need-returns-in-No invariant-loop decreases-loop
 returns c =
-    let c3 = c.before in
-    let c7 = c3.before.before.before.before in
-    let c8 = c7.before in
-    let c10 = c8.before.before in
-    let args = c10.args in
-    commands_no args.s.now args.ws.now args.val.now args.cw.now args.n args.m args.count args.blocks args.at _ _ _ _ _ _ c7.loop-i-test.true c8.loop-i.invariant.1 _ _ _ _ c3.read_command-r.ensures _ _ _ _ c.in-No.is
+    let args = c.args in
+    commands_no args.s.now args.ws.now args.val.now args.cw.now args.n args.m args.count args.blocks args.at _ _ _ _ _ _ c.loop-i-test.true c.loop-i.invariant.1 _ _ _ _ c.read_command-r.ensures _ _ _ _ c.in-No.is
 
 loop-again : tie.Need-loop-i-preserved invariant-loop decreases-loop
 loop-again c =

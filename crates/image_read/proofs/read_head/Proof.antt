@@ -13,11 +13,8 @@ returns c =
 
 returns-2 : tie.Need-returns-then-depth-ge64
 returns-2 c =
-    let c3 = c.before.before.before in
-    let c5 = c3.before in
-    let c7 = c5.before.before in
-    let args = c7.args in
-    head_deep args.s.now args.at args.n args.depth _ c5.read_number-code.ensures _ _ c3.in-Got.is c.if-n-depth-ge-NODE_LIMIT.false c.if-depth-ge64.true
+    let args = c.args in
+    head_deep args.s.now args.at args.n args.depth _ c.read_number-code.ensures _ _ c.in-Got.is c.if-n-depth-ge-NODE_LIMIT.false c.if-depth-ge64.true
 
 low-word-requires : tie.Need-low_word-requires
 low-word-requires c κs =
@@ -26,11 +23,8 @@ low-word-requires c κs =
 
 returns-3 : tie.Need-returns-else-depth-ge64
 returns-3 c =
-    let c4 = c.before.before.before.before in
-    let c6 = c4.before in
-    let c8 = c6.before.before in
-    let args = c8.args in
-    head_done args.s.now args.at args.n args.depth _ c6.read_number-code.ensures _ _ c4.in-Got.is _ c.low_word.ensures c.if-n-depth-ge-NODE_LIMIT.false c.if-depth-ge64.false
+    let args = c.args in
+    head_done args.s.now args.at args.n args.depth _ c.read_number-code.ensures _ _ c.in-Got.is _ c.low_word.ensures c.if-n-depth-ge-NODE_LIMIT.false c.if-depth-ge64.false
 
 returns-4 : tie.Need-returns-in-Bad
 returns-4 c =

@@ -11,22 +11,13 @@ sub-push-command c = omega (arith, (is_term c.args.s.now _ _ c.args.at _ _ _ _ c
 
 returns : tie.Need-returns-in-Got-b
 returns c =
-    let c3 = c.before.before.before in
-    let c5 = c3.before in
-    let c7 = c5.before.before in
-    let c9 = c7.before in
-    let c13 = c9.before.before.before.before in
-    let args = c13.args in
-    if_done args.s.now args.ws.now args.val.now args.cw.now args.n args.m args.blocks args.at _ _ _ _ (is_term args.s.now _ _ args.at _ _ _ _ c9.read_expr-a.ensures _ _ c7.in-Got.is) _ c5.read_block_no-b.ensures _ _ _ _ c3.in-Got-b.is c.push_command.ensures
+    let args = c.args in
+    if_done args.s.now args.ws.now args.val.now args.cw.now args.n args.m args.blocks args.at _ _ _ _ (is_term args.s.now _ _ args.at _ _ _ _ c.read_expr-a.ensures _ _ c.in-Got.is) _ c.read_block_no-b.ensures _ _ _ _ c.in-Got-b.is c.push_command.ensures
 
 returns-2 : tie.Need-returns-in-No-b
 returns-2 c =
-    let c3 = c.before in
-    let c5 = c3.before.before in
-    let c7 = c5.before in
-    let c11 = c7.before.before.before.before in
-    let args = c11.args in
-    if_no_2 args.s.now args.ws.now args.val.now args.cw.now args.n args.m args.blocks args.at _ _ _ _ (is_term args.s.now _ _ args.at _ _ _ _ c7.read_expr-a.ensures _ _ c5.in-Got.is) _ c3.read_block_no-b.ensures _ _ _ _ c.in-No-b.is
+    let args = c.args in
+    if_no_2 args.s.now args.ws.now args.val.now args.cw.now args.n args.m args.blocks args.at _ _ _ _ (is_term args.s.now _ _ args.at _ _ _ _ c.read_expr-a.ensures _ _ c.in-Got.is) _ c.read_block_no-b.ensures _ _ _ _ c.in-No-b.is
 
 returns-3 : tie.Need-returns-in-No
 returns-3 c =

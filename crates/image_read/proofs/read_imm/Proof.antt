@@ -14,9 +14,7 @@ signed-requires c κs = omega (arith, imm_low _ _ _ _ c.read_number-v.ensures _ 
 
 returns : tie.Need-returns-in-Got
 returns c =
-    let c5 = c.before.before.before.before.before in
-    let c7 = c5.before in
-    imm_told _ _ _ _ c7.read_number-v.ensures _ _ _ _ _ _ _ c5.in-Got.is (to_z-of_z {w = w32} {z = c.signed.result} (record { sfits = c.signed.type_inv }) ∙ c.signed.ensures) c.push_node-m.ensures
+    imm_told _ _ _ _ c.read_number-v.ensures _ _ _ _ _ _ _ c.in-Got.is (to_z-of_z {w = w32} {z = c.signed.result} (record { sfits = c.signed.type_inv }) ∙ c.signed.ensures) c.push_node-m.ensures
 
 returns-2 : tie.Need-returns-in-Bad
 returns-2 c = imm_bad _ _ _ _ c.read_number-v.ensures _ _ _ _ c.in-Bad.is

@@ -7,21 +7,13 @@ use Rattle.image_read.proofs.read_links.Tie as tie
 
 returns : tie.Need-returns-in-Got-y
 returns c =
-    let c3 = c.before in
-    let c5 = c3.before.before in
-    let c7 = c5.before in
-    let c9 = c7.before.before in
-    let args = c9.args in
-    links_done args.s.now args.blocks args.at _ c7.read_link-x.ensures _ _ c5.in-Got.is _ c3.read_link-y.ensures _ _ c.in-Got-y.is
+    let args = c.args in
+    links_done args.s.now args.blocks args.at _ c.read_link-x.ensures _ _ c.in-Got.is _ c.read_link-y.ensures _ _ c.in-Got-y.is
 
 returns-2 : tie.Need-returns-in-No-y
 returns-2 c =
-    let c3 = c.before in
-    let c5 = c3.before.before in
-    let c7 = c5.before in
-    let c9 = c7.before.before in
-    let args = c9.args in
-    links_no_2 args.s.now args.blocks args.at _ c7.read_link-x.ensures _ _ c5.in-Got.is _ c3.read_link-y.ensures _ c.in-No-y.is
+    let args = c.args in
+    links_no_2 args.s.now args.blocks args.at _ c.read_link-x.ensures _ _ c.in-Got.is _ c.read_link-y.ensures _ c.in-No-y.is
 
 returns-3 : tie.Need-returns-in-No
 returns-3 c =

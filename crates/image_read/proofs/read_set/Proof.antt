@@ -11,13 +11,8 @@ sub-push-command c = omega (arith, (is_term c.args.s.now _ _ c.in-Got.p _ _ _ _ 
 
 returns : tie.Need-returns-then-z-ne0
 returns c =
-    let c4 = c.before.before.before.before in
-    let c6 = c4.before in
-    let c10 = c6.before.before.before.before in
-    let c12 = c10.before in
-    let c14 = c12.before.before in
-    let args = c14.args in
-    set_other_lem args.s.now args.ws.now args.val.now args.cw.now args.n args.m args.at _ c12.read_number-target.ensures _ _ c10.in-Got.is _ _ _ _ (is_term args.s.now _ _ c10.in-Got.p _ _ _ _ c6.read_expr-a.ensures _ _ c4.in-Got-a.is) _ _ c.if-z-ne0.true c.push_command.ensures
+    let args = c.args in
+    set_other_lem args.s.now args.ws.now args.val.now args.cw.now args.n args.m args.at _ c.read_number-target.ensures _ _ c.in-Got.is _ _ _ _ (is_term args.s.now _ _ c.in-Got.p _ _ _ _ c.read_expr-a.ensures _ _ c.in-Got-a.is) _ _ c.if-z-ne0.true c.push_command.ensures
 
 read-expr-requires-2 : tie.Need-read_expr-b-requires
 read-expr-requires-2 c κs = omega (arith, (is_term c.args.s.now _ _ c.in-Got.p _ _ _ _ c.read_expr-a.ensures _ _ c.in-Got-a.is).low)
@@ -30,37 +25,18 @@ sub-push-command-3 c = omega (arith, (is_term c.args.s.now _ _ c.in-Got-a.p1 _ _
 
 returns-2 : tie.Need-returns-in-Got-b
 returns-2 c =
-    let c3 = c.before.before.before in
-    let c5 = c3.before in
-    let c8 = c5.before.before.before in
-    let c10 = c8.before.before in
-    let c12 = c10.before in
-    let c16 = c12.before.before.before.before in
-    let c18 = c16.before in
-    let c20 = c18.before.before in
-    let args = c20.args in
-    set_variable_lem args.s.now args.ws.now args.val.now args.cw.now args.n args.m args.at _ c18.read_number-target.ensures _ _ c16.in-Got.is _ _ _ _ (is_term args.s.now _ _ c16.in-Got.p _ _ _ _ c12.read_expr-a.ensures _ _ c10.in-Got-a.is) _ _ _ _ (is_term args.s.now _ _ c10.in-Got-a.p1 _ _ _ _ c5.read_expr-b.ensures _ _ c3.in-Got-b.is) _ _ c8.if-z-ne0.false c.push_command-in-Got-b.ensures
+    let args = c.args in
+    set_variable_lem args.s.now args.ws.now args.val.now args.cw.now args.n args.m args.at _ c.read_number-target.ensures _ _ c.in-Got.is _ _ _ _ (is_term args.s.now _ _ c.in-Got.p _ _ _ _ c.read_expr-a.ensures _ _ c.in-Got-a.is) _ _ _ _ (is_term args.s.now _ _ c.in-Got-a.p1 _ _ _ _ c.read_expr-b.ensures _ _ c.in-Got-b.is) _ _ c.if-z-ne0.false c.push_command-in-Got-b.ensures
 
 returns-3 : tie.Need-returns-in-No-b
 returns-3 c =
-    let c3 = c.before in
-    let c6 = c3.before.before.before in
-    let c8 = c6.before.before in
-    let c10 = c8.before in
-    let c14 = c10.before.before.before.before in
-    let c16 = c14.before in
-    let c18 = c16.before.before in
-    let args = c18.args in
-    set_no_2 args.s.now args.ws.now args.val.now args.cw.now args.n args.m args.at _ c16.read_number-target.ensures _ _ c14.in-Got.is _ _ _ _ (is_term args.s.now _ _ c14.in-Got.p _ _ _ _ c10.read_expr-a.ensures _ _ c8.in-Got-a.is) _ _ _ _ c6.if-z-ne0.false (no_term args.s.now _ _ c8.in-Got-a.p1 _ _ _ _ c3.read_expr-b.ensures _ c.in-No-b.is)
+    let args = c.args in
+    set_no_2 args.s.now args.ws.now args.val.now args.cw.now args.n args.m args.at _ c.read_number-target.ensures _ _ c.in-Got.is _ _ _ _ (is_term args.s.now _ _ c.in-Got.p _ _ _ _ c.read_expr-a.ensures _ _ c.in-Got-a.is) _ _ _ _ c.if-z-ne0.false (no_term args.s.now _ _ c.in-Got-a.p1 _ _ _ _ c.read_expr-b.ensures _ c.in-No-b.is)
 
 returns-4 : tie.Need-returns-in-No
 returns-4 c =
-    let c3 = c.before in
-    let c7 = c3.before.before.before.before in
-    let c9 = c7.before in
-    let c11 = c9.before.before in
-    let args = c11.args in
-    set_no args.s.now args.ws.now args.val.now args.cw.now args.n args.m args.at _ c9.read_number-target.ensures _ _ c7.in-Got.is _ _ _ _ (no_term args.s.now _ _ c7.in-Got.p _ _ _ _ c3.read_expr-a.ensures _ c.in-No.is)
+    let args = c.args in
+    set_no args.s.now args.ws.now args.val.now args.cw.now args.n args.m args.at _ c.read_number-target.ensures _ _ c.in-Got.is _ _ _ _ (no_term args.s.now _ _ c.in-Got.p _ _ _ _ c.read_expr-a.ensures _ c.in-No.is)
 
 returns-5 : tie.Need-returns-in-Bad
 returns-5 c =

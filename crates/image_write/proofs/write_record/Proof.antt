@@ -10,14 +10,18 @@ use Rattle.image_write.proofs.write_record.Tie as tie
 abbrev me : tie.Start → Memory
 me s = memory_in s.args.ws.now s.args.val.now s.args.cw.now s.args.bw.now s.args.counts.nodes s.args.counts.commands s.args.counts.blocks
 
-write-short-requires : tie.Need-write-short-requires
-write-short-requires c κs = room_first (blocks_image_in (me c.before.before) c.before.before.args.counts.blocks 0) (room_as (record_image_lem (me c.before.before)) c.before.before.requires.1)
+write-short-requires : tie.Need-write_short-p-requires
+write-short-requires c κs = room_first (blocks_image_in (me c.before.before) c.args.counts.blocks 0) (room_as (record_image_lem (me c.before.before)) c.requires.1)
 
-write-blocks-requires : tie.Need-write-blocks-requires
-write-blocks-requires c κs = (c.before.before.before.before.before.before.requires.0, room_next c.before.before.before.write-short.ensures (room_as (record_image_lem (me c.before.before.before.before.before.before)) c.before.before.before.before.before.before.requires.1))
+write-blocks-requires : tie.Need-write_blocks-requires
+write-blocks-requires c κs = (c.requires.0, room_next c.write_short-p.ensures (room_as (record_image_lem (me c.before.before.before.before.before.before)) c.requires.1))
 
 returns : tie.Need-returns
-returns c = stored_as (record_image_lem (me c.before.before.before.before.before.before.before.before.before)) (stored_on c.before.before.before.before.before.before.write-short.ensures c.before.before.write-blocks.ensures)
+returns c = stored_as (record_image_lem (me c.before.before.before.before.before.before.before.before.before)) (stored_on c.write_short-p.ensures c.write_blocks.ensures)
 
-pub write-record-spec : {M : Type 1} → statement M
-write-record-spec = tie.close (tie.spec write-short-requires write-blocks-requires (λ c. search rules) returns)
+pub write_record_spec : {M : Type 1} → statement M
+write_record_spec = tie.close (tie.spec
+    write-short-requires
+    write-blocks-requires
+    (λ c. search rules)
+    returns)

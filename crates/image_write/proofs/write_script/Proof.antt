@@ -19,21 +19,29 @@ me s = memory_in s.args.ws.now s.args.val.now s.args.cw.now s.args.bw.now s.args
 fits : (s : tie.Start) (p : Plain (me s)) → most_bytes s.args.counts.blocks s.args.counts.commands s.args.counts.nodes ≤ length s.args.out.now → length (image p.blocks) ≤ length s.args.out.now
 fits s p l = omega (arith, record_short (me s) p.blocks _ p.judged)
 
-write-record-requires : tie.Need-write-record-requires
+write-record-requires : tie.Need-write_record-end-requires
 write-record-requires c κs =
     let s = c.before.before.before.before.before.before in
-    let p : Plain (me s) = c.before.before.is_plain.ensures c.before.if2.true in
-    (fine_kept (plain_accepted (me s) p), fine_room (plain_accepted (me s) p) s.args.out.now (fits s p (omega (arith, c.before.before.before.before.most_bytes.ensures, c.before.before.before.if1.true))))
+    let p : Plain (me s) = c.is_plain.ensures c.if-is_plain.true in
+    (fine_kept (plain_accepted (me s) p), fine_room (plain_accepted (me s) p) s.args.out.now (fits s p (omega (arith, c.most_bytes.ensures, c.if-most_bytes-out.true))))
 
-same_length : tie.Need-same-length
-same_length c = stored_length c.before.before.write-record.ensures
+same_length : tie.Need-shape_of-out-then-is_plain
+same_length c = stored_length c.write_record-end.ensures
 
-returns : tie.Need-returns
+returns : tie.Need-returns-then-is_plain
 returns c =
     let s = c.before.before.before.before.before.before.before.before.before in
-    let p : Plain (me s) = c.before.before.before.before.before.is_plain.ensures c.before.before.before.before.if2.true in
-    let l = fits s p (omega (arith, c.before.before.before.before.before.before.before.most_bytes.ensures, c.before.before.before.before.before.before.if1.true)) in
-    call_fine (plain_accepted (me s) p) s.args.out.now l c.before.before.write-record.ensures
+    let p : Plain (me s) = c.is_plain.ensures c.if-is_plain.true in
+    let l = fits s p (omega (arith, c.most_bytes.ensures, c.if-most_bytes-out.true)) in
+    call_fine (plain_accepted (me s) p) s.args.out.now l c.write_record-end.ensures
 
-pub write-script-spec : {M : Type 1} → statement M
-write-script-spec = tie.close (tie.spec (λ c κs. search rules) (λ c κs. search rules) write-record-requires same_length returns (λ c κs. search rules) (λ c. search rules) (λ c. search rules))
+pub write_script_spec : {M : Type 1} → statement M
+write_script_spec = tie.close (tie.spec
+    (λ c κs. search rules)
+    (λ c κs. search rules)
+    write-record-requires
+    same_length
+    returns
+    (λ c κs. search rules)
+    (λ c. search rules)
+    (λ c. search rules))

@@ -5,11 +5,14 @@ use borrow.Author.Rules.{rules}
 use Rattle.image_write.proofs.write_term.Statement.{statement}
 use Rattle.image_write.proofs.write_term.Tie as tie
 
-write-operand-requires : tie.Need-write-operand-requires
-write-operand-requires c κs = (c.before.before.requires.0.nodes, room_as (root_image_lem c.before.before.args.ws.now c.before.before.args.val.now c.before.before.args.counts.nodes c.before.before.args.i) c.before.before.requires.1)
+write-operand-requires : tie.Need-write_operand-requires
+write-operand-requires c κs = (c.requires.0.nodes, room_as (root_image_lem c.args.ws.now c.args.val.now c.args.counts.nodes c.args.i) c.requires.1)
 
 returns : tie.Need-returns
-returns c = stored_as (root_image_lem c.before.before.before.before.before.args.ws.now c.before.before.before.before.before.args.val.now c.before.before.before.before.before.args.counts.nodes c.before.before.before.before.before.args.i) c.before.before.write-operand.ensures
+returns c = stored_as (root_image_lem c.args.ws.now c.args.val.now c.args.counts.nodes c.args.i) c.write_operand.ensures
 
-pub write-term-spec : {M : Type 1} → statement M
-write-term-spec = tie.close (tie.spec write-operand-requires (λ c. search rules) returns)
+pub write_term_spec : {M : Type 1} → statement M
+write_term_spec = tie.close (tie.spec
+    write-operand-requires
+    (λ c. search rules)
+    returns)

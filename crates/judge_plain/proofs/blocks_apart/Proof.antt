@@ -9,26 +9,26 @@ use borrow.Author.Rules.{rules}
 use Rattle.judge_plain.proofs.blocks_apart.Statement.{statement}
 use Rattle.judge_plain.proofs.blocks_apart.Tie as tie
 
-abbrev invariant-loop : tie.invariant-loop
+abbrev invariant-loop : tie.invariant-loop-i
 invariant-loop bw counts n most end₀ i₀ end i = (i ≤ n) × Chain (Within bw counts) i end
 
-abbrev decreases-loop : tie.decreases-loop
+abbrev decreases-loop : tie.decreases-loop-i
 decreases-loop bw counts n most end₀ i₀ end i = n - i
 
-loop-holds : tie.Need-loop-init invariant-loop decreases-loop
+loop-holds : tie.Need-loop-i-init invariant-loop decreases-loop
 loop-holds c = (omega arith, chain_none)
 
-returns : tie.Need-returns invariant-loop decreases-loop
+returns : tie.Need-returns-then-most-end invariant-loop decreases-loop
 returns c = λ e. never e
 
-loop-again : tie.Need-loop-preserved invariant-loop decreases-loop
-loop-again c = (omega arith, apart_more c.before.before.before.before.before.before.args.bw.now c.before.before.before.before.before.before.args.counts c.before.before.before.loop.invariant.1 c.before.block-end.ensures (omega (arith, c.if1.false, c.before.before.before.before.index-of2.ensures)))
+loop-again : tie.Need-loop-i-preserved invariant-loop decreases-loop
+loop-again c = (omega arith, apart_more c.args.bw.now c.args.counts c.loop-i.invariant.1 c.block_end-end.ensures (omega (arith, c.if-most-end.false, c.index_of-most.ensures)))
 
-returns-2 : tie.Need-returns-2 invariant-loop decreases-loop
-returns-2 c = λ e. apart_done c.before.before.before.before.args.bw.now c.before.before.before.before.args.counts c.before.loop.invariant.1 (omega (arith, c.before.loop.invariant.0, c.loop-test.false, c.before.before.before.index_of.ensures))
+returns-2 : tie.Need-returns invariant-loop decreases-loop
+returns-2 c = λ e. apart_done c.args.bw.now c.args.counts c.loop-i.invariant.1 (omega (arith, c.loop-i.invariant.0, c.loop-i-test.false, c.index_of-n.ensures))
 
-pub blocks-apart-spec : {M : Type 1} → statement M
-blocks-apart-spec =
+pub blocks_apart_spec : {M : Type 1} → statement M
+blocks_apart_spec =
     tie.close
     (tie.spec
     invariant-loop

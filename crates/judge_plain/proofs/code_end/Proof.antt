@@ -6,23 +6,23 @@ use borrow.Author.Rules.{rules}
 use Rattle.judge_plain.proofs.code_end.Statement.{statement}
 use Rattle.judge_plain.proofs.code_end.Tie as tie
 
-returns : tie.Need-returns
-returns c = λ q. absurd (omega (arith, q, c.before.before.before.requires.2.commands))
+returns : tie.Need-returns-then-counts-bw
+returns c = λ q. absurd (omega (arith, q, c.requires.2.commands))
 
-returns-2 : tie.Need-returns-2
-returns-2 c = λ q. absurd (omega (arith, q, c.before.before.before.before.before.before.requires.2.commands))
+returns-2 : tie.Need-returns-then-counts-bw-2
+returns-2 c = λ q. absurd (omega (arith, q, c.requires.2.commands))
 
-returns-3 : tie.Need-returns-3
-returns-3 c = λ q. code c.before.before.before.before.before.before.before.before.before.requires.1 (record { next = c.before.before.before.before.before.before.if1.false; else = c.before.before.before.if2.false }) (none (omega (arith, c.before.element.ensures.0, c.if3.true)) refl)
+returns-3 : tie.Need-returns-then-held-eq0
+returns-3 c = λ q. code c.requires.1 (record { next = c.if-counts-bw.false; else = c.if-counts-bw-2.false }) (none (omega (arith, c.element-held.ensures.0, c.if-held-eq0.true)) refl)
 
-returns-4 : tie.Need-returns-4
-returns-4 c = λ q. absurd (omega (arith, q, c.before.before.before.before.before.before.before.before.before.before.before.before.requires.2.commands))
+returns-4 : tie.Need-returns-then-first-end
+returns-4 c = λ q. absurd (omega (arith, q, c.requires.2.commands))
 
-returns-5 : tie.Need-returns-5
-returns-5 c = λ q. code c.before.before.before.before.before.before.before.before.before.before.before.before.requires.1 (record { next = c.before.before.before.before.before.before.before.before.before.if1.false; else = c.before.before.before.before.before.before.if2.false }) (some (omega (arith, c.before.element2.ensures.0, c.if4.false)) (omega (arith, c.before.before.before.before.element.ensures.0, c.before.element2.ensures.0)))
+returns-5 : tie.Need-returns
+returns-5 c = λ q. code c.requires.1 (record { next = c.if-counts-bw.false; else = c.if-counts-bw-2.false }) (some (omega (arith, c.element-first.ensures.0, c.if-first-end.false)) (omega (arith, c.element-held.ensures.0, c.element-first.ensures.0)))
 
-pub code-end-spec : {M : Type 1} → statement M
-code-end-spec =
+pub code_end_spec : {M : Type 1} → statement M
+code_end_spec =
     tie.close
     (tie.spec
     (λ c. search rules)

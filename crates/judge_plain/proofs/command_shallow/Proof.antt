@@ -5,23 +5,23 @@ use borrow.Author.Rules.{rules}
 use Rattle.judge_plain.proofs.command_shallow.Statement.{statement}
 use Rattle.judge_plain.proofs.command_shallow.Tie as tie
 
-returns : tie.Need-returns
-returns c = λ e. low_few c.before.before.before.args.sizes.now c.before.before.before.args.cw.now c.before.before.before.args.counts c.before.before.before.args.ws.now c.before.command-nodes.ensures c.if1.true
+returns : tie.Need-returns-then-command_nodes-lt64
+returns c = λ e. low_few c.args.sizes.now c.args.cw.now c.args.counts c.args.ws.now c.command_nodes.ensures c.if-command_nodes-lt64.true
 
-set-shallow-requires : tie.Need-set-shallow-requires
-set-shallow-requires c κs = omega (arith, c.before.before.before.before.before.requires.1.kept.commands, c.before.before.before.before.before.requires.0)
+set-shallow-requires : tie.Need-set_shallow-requires
+set-shallow-requires c κs = omega (arith, c.requires.1.kept.commands, c.requires.0)
 
-returns-2 : tie.Need-returns-2
-returns-2 c = λ e. low_set c.before.before.before.before.before.before.args.sizes.now c.before.before.before.before.before.before.args.cw.now c.before.before.before.before.before.before.args.counts c.before.before.before.before.before.before.args.ws.now c.before.if2.true (c.set-shallow.ensures e)
+returns-2 : tie.Need-returns-then-k-eq2
+returns-2 c = λ e. low_set c.args.sizes.now c.args.cw.now c.args.counts c.args.ws.now c.if-k-eq2.true (c.set_shallow.ensures e)
 
-returns-3 : tie.Need-returns-3
-returns-3 c = λ e. low_if c.before.before.before.before.before.before.before.before.before.args.sizes.now c.before.before.before.before.before.before.before.before.before.args.cw.now c.before.before.before.before.before.before.before.before.before.args.counts c.before.before.before.before.before.before.before.before.before.args.ws.now c.before.before.before.if3.true c.before.index_of.ensures (c.is-shallow.ensures e)
+returns-3 : tie.Need-returns-then-k-eq3
+returns-3 c = λ e. low_if c.args.sizes.now c.args.cw.now c.args.counts c.args.ws.now c.if-k-eq3.true c.index_of.ensures (c.is_shallow.ensures e)
 
-returns-4 : tie.Need-returns-4
-returns-4 c = λ e. low_rest c.before.before.before.before.before.before.args.sizes.now c.before.before.before.before.before.before.args.cw.now c.before.before.before.before.before.before.args.counts c.before.before.before.before.before.before.args.ws.now c.before.if2.false c.if3.false
+returns-4 : tie.Need-returns
+returns-4 c = λ e. low_rest c.args.sizes.now c.args.cw.now c.args.counts c.args.ws.now c.if-k-eq2.false c.if-k-eq3.false
 
-pub command-shallow-spec : {M : Type 1} → statement M
-command-shallow-spec =
+pub command_shallow_spec : {M : Type 1} → statement M
+command_shallow_spec =
     tie.close
     (tie.spec
     (λ c κs. search rules)

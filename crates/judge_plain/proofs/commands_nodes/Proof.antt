@@ -8,29 +8,29 @@ use borrow.Author.Rules.{rules}
 use Rattle.judge_plain.proofs.commands_nodes.Statement.{statement}
 use Rattle.judge_plain.proofs.commands_nodes.Tie as tie
 
-abbrev invariant-loop : tie.invariant-loop
+abbrev invariant-loop : tie.invariant-loop-i
 invariant-loop sizes cw counts end n₀ most₀ i₀ n most i = (i ≤ end) × SumCount sizes cw counts i n most
 
-abbrev decreases-loop : tie.decreases-loop
+abbrev decreases-loop : tie.decreases-loop-i
 decreases-loop sizes cw counts end n₀ most₀ i₀ n most i = end - i
 
-loop-holds : tie.Need-loop-init invariant-loop decreases-loop
-loop-holds c = (omega arith, sum_none c.before.before.args.sizes.now c.before.before.args.cw.now c.before.before.args.counts)
+loop-holds : tie.Need-loop-i-init invariant-loop decreases-loop
+loop-holds c = (omega arith, sum_none c.args.sizes.now c.args.cw.now c.args.counts)
 
-returns : tie.Need-returns invariant-loop decreases-loop
-returns c = λ q. absurd (omega (arith, q, c.before.before.before.before.before.before.requires.kept.nodes))
+returns : tie.Need-returns-then-r-ge-TOO_MANY invariant-loop decreases-loop
+returns c = λ q. absurd (omega (arith, q, c.requires.kept.nodes))
 
-add-n : tie.Need-overflow-add-n invariant-loop decreases-loop
-add-n c = omega (arith, c.before.before.before.loop.invariant.1.few, c.if1.false, c.before.before.before.before.before.before.requires.kept.commands, c.before.before.loop-test.true, c.before.before.before.before.index_of.ensures)
+add-n : tie.Need-overflow_add-n invariant-loop decreases-loop
+add-n c = omega (arith, c.loop-i.invariant.1.few, c.if-r-ge-TOO_MANY.false, c.requires.kept.commands, c.loop-i-test.true, c.index_of-end.ensures)
 
-loop-again : tie.Need-loop-preserved invariant-loop decreases-loop
-loop-again c = (omega arith, sum_more c.before.before.before.before.before.before.args.sizes.now c.before.before.before.before.before.before.args.cw.now c.before.before.before.before.before.before.args.counts c.before.before.before.loop.invariant.1 c.before.command-nodes.ensures (omega (arith, c.if1.false)))
+loop-again : tie.Need-loop-i-preserved invariant-loop decreases-loop
+loop-again c = (omega arith, sum_more c.args.sizes.now c.args.cw.now c.args.counts c.loop-i.invariant.1 c.command_nodes-r.ensures (omega (arith, c.if-r-ge-TOO_MANY.false)))
 
-returns-2 : tie.Need-returns-2 invariant-loop decreases-loop
-returns-2 c = λ q. let e : c.before.loop.i ≡ c.before.before.before.before.args.counts.commands = omega (arith, c.before.loop.invariant.0, c.loop-test.false, c.before.before.index_of.ensures) in rw e at c.before.loop.invariant.1
+returns-2 : tie.Need-returns invariant-loop decreases-loop
+returns-2 c = λ q. let e : c.loop-i.i ≡ c.args.counts.commands = omega (arith, c.loop-i.invariant.0, c.loop-i-test.false, c.index_of-end.ensures) in rw e at c.loop-i.invariant.1
 
-pub commands-nodes-spec : {M : Type 1} → statement M
-commands-nodes-spec =
+pub commands_nodes_spec : {M : Type 1} → statement M
+commands_nodes_spec =
     tie.close
     (tie.spec
     invariant-loop

@@ -6,10 +6,10 @@ use Rattle.judge_plain.proofs.if_nodes.Statement.{statement}
 use Rattle.judge_plain.proofs.if_nodes.Tie as tie
 
 returns : tie.Need-returns
-returns c = let s = c.before.before.before.before.before in tail_if s.args.sizes.now s.args.cw.now s.args.counts s.requires.1.kept s.args.i c.before.before.term-nodes.ensures c.named-block.ensures refl
+returns c = let s = c.before in tail_if s.args.sizes.now s.args.cw.now s.args.counts s.requires.1.kept s.args.i c.term_nodes-a.ensures c.named_block-b.ensures refl
 
-pub if-nodes-spec : {M : Type 1} → statement M
-if-nodes-spec =
+pub if_nodes_spec : {M : Type 1} → statement M
+if_nodes_spec =
     tie.close
     (tie.spec
     (λ c. search rules)

@@ -5,17 +5,17 @@ use borrow.Author.Rules.{rules}
 use Rattle.judge_plain.proofs.set_nodes.Statement.{statement}
 use Rattle.judge_plain.proofs.set_nodes.Tie as tie
 
-returns : tie.Need-returns
-returns c = let s = c.before.before.before.before.before.before.before in set_both s.args.sizes.now s.args.cw.now s.args.counts s.requires.1.kept s.args.i c.before.before.before.before.if1.true c.before.before.term-nodes.ensures c.term-nodes2.ensures refl
+returns : tie.Need-returns-then-target-eq0
+returns c = let s = c.before in set_both s.args.sizes.now s.args.cw.now s.args.counts s.requires.1.kept s.args.i c.if-target-eq0.true c.term_nodes-a.ensures c.term_nodes-b.ensures refl
 
-returns-2 : tie.Need-returns-2
-returns-2 c = let s = c.before.before.before.before.before.before in set_value s.args.sizes.now s.args.cw.now s.args.counts s.requires.1.kept s.args.i c.before.before.if2.true c.term-nodes3.ensures
+returns-2 : tie.Need-returns-then-target-eq1
+returns-2 c = let s = c.before in set_value s.args.sizes.now s.args.cw.now s.args.counts s.requires.1.kept s.args.i c.if-target-eq1.true c.term_nodes.ensures
 
-returns-3 : tie.Need-returns-3
-returns-3 c = let s = c.before.before.before.before in tail_past s.args.sizes.now s.args.cw.now s.args.counts s.requires.1.kept s.args.i
+returns-3 : tie.Need-returns
+returns-3 c = let s = c.before in tail_past s.args.sizes.now s.args.cw.now s.args.counts s.requires.1.kept s.args.i
 
-pub set-nodes-spec : {M : Type 1} → statement M
-set-nodes-spec =
+pub set_nodes_spec : {M : Type 1} → statement M
+set_nodes_spec =
     tie.close
     (tie.spec
     (λ c. search rules)

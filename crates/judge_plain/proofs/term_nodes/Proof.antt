@@ -4,14 +4,14 @@ use borrow.Author.Rules.{rules}
 use Rattle.judge_plain.proofs.term_nodes.Statement.{statement}
 use Rattle.judge_plain.proofs.term_nodes.Tie as tie
 
-returns : tie.Need-returns
-returns c = term_there _ _ _ _ _ c.before.before.before.if1.true c.before.before.index_of.ensures c.element.ensures.0 c.element.ensures.1
+returns : tie.Need-returns-then-i-nodes
+returns c = term_there _ _ _ _ _ c.if-i-nodes.true c.index_of.ensures c.element.ensures.0 c.element.ensures.1
 
-returns-2 : tie.Need-returns-2
-returns-2 c = term_absent _ _ _ c.before.before.requires.0
+returns-2 : tie.Need-returns
+returns-2 c = term_absent _ _ _ c.requires.0
 
-pub term-nodes-spec : {M : Type 1} → statement M
-term-nodes-spec =
+pub term_nodes_spec : {M : Type 1} → statement M
+term_nodes_spec =
     tie.close
     (tie.spec
     (λ c κs. search rules)

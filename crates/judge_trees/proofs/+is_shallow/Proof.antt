@@ -42,28 +42,23 @@ is-shallow-returns-3 t c = λ e. never e
 
 is-shallow-returns-4 : (t : ℕ) → is-shallow-lts.Need-returns-else-not-is_shallow (is-shallow-claims t) (is-shallow-at t) is-shallow.Post
 is-shallow-returns-4 t c =
-    let s = c.before.before.before.before.before.before.before.before.before.before.before.before in
-    λ e. shallow_two s.args.ws.now s.args.levels (s.args.levels - 1) s.args.i c.kind_of-kind.ensures (omega (arith, c.if-levels-eq0.false)) c.in-Two.is c.index_of.ensures c.index_of-in-Two.ensures (c.is_shallow.ensures (not-false c.is_shallow.result c.if-not-is_shallow.false)) (c.is_shallow-in-Two.ensures e)
+    λ e. shallow_two c.args.ws.now c.args.levels (c.args.levels - 1) c.args.i c.kind_of-kind.ensures (omega (arith, c.if-levels-eq0.false)) c.in-Two.is c.index_of.ensures c.index_of-in-Two.ensures (c.is_shallow.ensures c.if-not-is_shallow.false) (c.is_shallow-in-Two.ensures e)
 
 is-shallow-returns-5 : (t : ℕ) → is-shallow-lts.Need-returns-in-One (is-shallow-claims t) (is-shallow-at t) is-shallow.Post
 is-shallow-returns-5 t c =
-    let s = c.before.before.before.before.before.before.before.before in
-    λ e. shallow_one s.args.ws.now s.args.levels (s.args.levels - 1) s.args.i c.kind_of-kind.ensures (omega (arith, c.if-levels-eq0.false)) c.in-One.is c.index_of-in-One.ensures (c.is_shallow-in-One.ensures e)
+    λ e. shallow_one c.args.ws.now c.args.levels (c.args.levels - 1) c.args.i c.kind_of-kind.ensures (omega (arith, c.if-levels-eq0.false)) c.in-One.is c.index_of-in-One.ensures (c.is_shallow-in-One.ensures e)
 
 is-shallow-returns-6 : (t : ℕ) → is-shallow-lts.Need-returns-in-Imm16 (is-shallow-claims t) (is-shallow-at t) is-shallow.Post
 is-shallow-returns-6 t c =
-    let s = c.before.before.before.before.before in
-    λ e. shallow_imm16 s.args.ws.now s.args.levels (s.args.levels - 1) s.args.i c.kind_of-kind.ensures (omega (arith, c.if-levels-eq0.false)) c.in-Imm16.is
+    λ e. shallow_imm16 c.args.ws.now c.args.levels (c.args.levels - 1) c.args.i c.kind_of-kind.ensures (omega (arith, c.if-levels-eq0.false)) c.in-Imm16.is
 
 is-shallow-returns-7 : (t : ℕ) → is-shallow-lts.Need-returns-in-Imm32 (is-shallow-claims t) (is-shallow-at t) is-shallow.Post
 is-shallow-returns-7 t c =
-    let s = c.before.before.before.before.before in
-    λ e. shallow_imm32 s.args.ws.now s.args.levels (s.args.levels - 1) s.args.i c.kind_of-kind.ensures (omega (arith, c.if-levels-eq0.false)) c.in-Imm32.is
+    λ e. shallow_imm32 c.args.ws.now c.args.levels (c.args.levels - 1) c.args.i c.kind_of-kind.ensures (omega (arith, c.if-levels-eq0.false)) c.in-Imm32.is
 
 is-shallow-returns-8 : (t : ℕ) → is-shallow-lts.Need-returns-in-Other (is-shallow-claims t) (is-shallow-at t) is-shallow.Post
 is-shallow-returns-8 t c =
-    let s = c.before.before.before.before.before in
-    λ e. shallow_other s.args.ws.now s.args.levels (s.args.levels - 1) s.args.i c.kind_of-kind.ensures (omega (arith, c.if-levels-eq0.false)) c.in-Other.is
+    λ e. shallow_other c.args.ws.now c.args.levels (c.args.levels - 1) c.args.i c.kind_of-kind.ensures (omega (arith, c.if-levels-eq0.false)) c.in-Other.is
 
 pub +is_shallow_spec : {M : Type 1} → statement M
 +is_shallow_spec = close μ-is-shallow λ t. is-shallow-lts.spec

@@ -18,16 +18,16 @@ loop-holds : tie.Need-loop-i-init invariant-loop decreases-loop
 loop-holds c = growing_start c.args.ws.now c.args.val.now
 
 size-of-requires : tie.Need-size_of-s-requires invariant-loop decreases-loop
-size-of-requires c κs = (omega (arith, c.before.before.before.before.requires.0), growing_before c.before.before.before.before.args.ws.now c.before.before.before.before.args.val.now c.before.before.loop.invariant)
+size-of-requires c κs = (omega (arith, c.requires.0), growing_before c.args.ws.now c.args.val.now c.loop-i.invariant)
 
 returns : tie.Need-returns-then-s-ge-NO invariant-loop decreases-loop
 returns c = λ e. never e
 
 cast-sizes : tie.Need-overflow_cast-sizes invariant-loop decreases-loop
-cast-sizes c = omega (arith, (c.before.type_size.ensures (omega (arith, c.if-s-ge-NO.false))).few, c.before.before.before.before.before.before.requires.0, c.before.before.before.loop-test.true)
+cast-sizes c = omega (arith, (c.size_of-s.ensures (omega (arith, c.if-s-ge-NO.false))).few, c.requires.0, c.loop-i-test.true)
 
 loop-again : tie.Need-loop-i-preserved invariant-loop decreases-loop
-loop-again c = growing_more c.before.before.before.before.before.before.args.ws.now c.before.before.before.before.before.before.args.val.now c.before.before.before.before.loop.invariant c.before.type_size.result c.before.before.before.before.before.before.requires.1 c.before.before.before.loop-test.true (c.before.type_size.ensures (omega (arith, c.if-s-ge-NO.false)))
+loop-again c = growing_more c.args.ws.now c.args.val.now c.loop-i.invariant c.size_of-s.result c.requires.1 c.loop-i-test.true (c.size_of-s.ensures (omega (arith, c.if-s-ge-NO.false)))
 
 returns-2 : tie.Need-returns invariant-loop decreases-loop
 returns-2 c = λ e. growing_done c.args.ws.now c.args.val.now c.loop-i.invariant c.loop-i-test.false

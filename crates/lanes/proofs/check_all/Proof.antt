@@ -5,7 +5,7 @@ use Rattle.model.specs.Save.{Save}
 use Rattle.model.specs.Sheet.{Sheet}
 use Rattle.model.specs.Memory.{Memory, script_of}
 use Rattle.model.specs.RecordCalls.{call_in}
-use Rattle.model.specs.Laws.Checks.{answered, is_true, is_false}
+use Rattle.model.proofs.Laws.Checks.{answered, is_true, is_false}
 use Rattle.memory.specs.View.{memory_of}
 use Rattle.checks.specs.Calls.{save_of}
 use Rattle.shop.specs.Shapes.{sheet_of}

@@ -3,7 +3,7 @@ use native.Mathlib.Omega.{arith}
 use mathlib.Core.Bool.{Bool}
 use lib.ListN.{length}
 use Rattle.model.specs.Save.{Save}
-use Rattle.model.specs.Laws.Checks.{is_true, is_false}
+use Rattle.model.proofs.Laws.Checks.{is_true, is_false}
 use Rattle.checks.specs.Calls.{save_of}
 use Rattle.lanes.specs.Calls.{lengths_are}
 use Rattle.lanes.proofs.Saves.{saves_bad, saves_fit, product_low}

@@ -45,7 +45,7 @@ walk-all-requires c κs =
     let a = c.before.before.before.before.before.before.before.before in
     let p = walk_passed_in (sheet a) (memory a) a.args.start.0 a.args.k (save a) a.requires in (
       call_ready (memory a) (sheet a) a.args.start.0 p.call,
-      saves_lie a.args.attached.now a.args.sheet a.args.items.now a.args.atcs.now a.args.flags.now a.args.times.now a.args.vars.now a.args.k p.lengths p.few-saves,
+      saves_lie a.args.attached.now a.args.sheet a.args.items.now a.args.atcs.now a.args.flags.now a.args.times.now a.args.vars.now a.args.k p.lengths p.few_saves,
       (call_safe (sheet a) (memory a) a.args.start.0 a.args.k (save a) p.call).1,
     )
 

@@ -1,7 +1,7 @@
 -- `store_lane` meets its contract: a lane that stopped, a place below 0 or past the save, and a write. Assumes nothing.
 use mir.Facts.{to_z-of_z, Fits-nat_abs}
 use mir.Syntax.{w32}
-use Rattle.model.specs.Laws.Signed.{not_negative}
+use Rattle.model.proofs.Laws.Signed.{not_negative}
 use Rattle.lanes_block.specs.Laws.{stored_stop, stored_negative, stored_in_lem, stored_out}
 use borrow.Author.Rules.{rules}
 use Rattle.lanes_block.proofs.store_lane.Statement.{statement}

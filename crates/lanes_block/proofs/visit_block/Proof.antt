@@ -2,7 +2,7 @@
 use Prim.Native.Nat.{ℕ}
 use Rattle.lanes_block.specs.Flows.{visited}
 use borrow.Author.Rules.{rules}
-use Rattle.model.specs.Laws.Places.{all_one}
+use Rattle.model.proofs.Laws.Places.{all_one}
 use Rattle.lanes_block.proofs.visit_block.Statement.{statement}
 use Rattle.lanes_block.proofs.visit_block.Tie as tie
 

@@ -1,4 +1,3 @@
-
 -- `evaluate_lanes` meets its contract: by the kind found at the node, lane by lane. The measure is b, the node whose operand is read. Assumes nothing.
 use Rattle.model.specs.Save.{Save}
 use Rattle.model.specs.Memory.{Nodes, nodes_in, left_at, right_at}
@@ -66,9 +65,8 @@ evaluate-lanes-returns : (t : ℕ) → evaluate-lanes-lts.Need-returns-then-i-b 
 evaluate-lanes-returns t c = let s = c.before.before.before.before.before in λ k. out_done s.args.w.items s.args.w.atcs (save t s) s.args.vs.now s.args.ls.now s.args.w.lanes (nodes t s k) s.args.b s.args.i c.if-i-b.true c.stop_lanes.ensures
 
 evaluate-lanes-evaluate-lanes-requires : (t : ℕ) → evaluate-lanes-lts.Need-evaluate_lanes-requires (evaluate-lanes-claims t) (evaluate-lanes-at t) evaluate-lanes.Post
-evaluate-lanes-evaluate-lanes-requires t c κs = let s = c.before.before.before.before.before.before.before.before.before.before in
-    let p : s.args.b ≡ t = s.requires.0 in
-    let l = c.if-i-b.false in (omega (arith, l), (omega (arith, s.requires.1.0, l), s.requires.1.1))
+evaluate-lanes-evaluate-lanes-requires t c κs = let p : c.args.b ≡ t = c.requires.0 in
+    let l = c.if-i-b.false in (omega (arith, l), (omega (arith, c.requires.1.0, l), c.requires.1.1))
 
 evaluate-lanes-apply-two-lanes-requires :
     (t : ℕ) → evaluate-lanes-lts.Need-apply_two_lanes-requires (evaluate-lanes-claims t) (evaluate-lanes-at t) evaluate-lanes.Post
@@ -76,9 +74,8 @@ evaluate-lanes-apply-two-lanes-requires t c κs = c.requires.1.1.few
 
 evaluate-lanes-evaluate-lanes-requires-2 :
     (t : ℕ) → evaluate-lanes-lts.Need-evaluate_lanes-requires-in-Nothing (evaluate-lanes-claims t) (evaluate-lanes-at t) evaluate-lanes.Post
-evaluate-lanes-evaluate-lanes-requires-2 t c κs = let s = c.before.before.before.before.before.before.before.before.before.before.before.before.before.before.before.before in
-    let p : s.args.b ≡ t = s.requires.0 in
-    let l = c.if-i-b.false in (omega (arith, l), (omega (arith, s.requires.1.0, l), s.requires.1.1))
+evaluate-lanes-evaluate-lanes-requires-2 t c κs = let p : c.args.b ≡ t = c.requires.0 in
+    let l = c.if-i-b.false in (omega (arith, l), (omega (arith, c.requires.1.0, l), c.requires.1.1))
 
 evaluate-lanes-apply-two-lanes-requires-2 :
     (t : ℕ) → evaluate-lanes-lts.Need-apply_two_lanes-requires-in-Nothing (evaluate-lanes-claims t) (evaluate-lanes-at t) evaluate-lanes.Post
@@ -86,9 +83,8 @@ evaluate-lanes-apply-two-lanes-requires-2 t c κs = c.requires.1.1.few
 
 evaluate-lanes-evaluate-lanes-requires-3 :
     (t : ℕ) → evaluate-lanes-lts.Need-evaluate_lanes-requires-in-Nothing-number_below (evaluate-lanes-claims t) (evaluate-lanes-at t) evaluate-lanes.Post
-evaluate-lanes-evaluate-lanes-requires-3 t c κs = let s = c.before.before.before.before.before.before.before.before.before.before.before.before in
-    let p : s.args.b ≡ t = s.requires.0 in
-    let l = c.if-i-b.false in (omega (arith, l), (omega (arith, s.requires.1.0, l), s.requires.1.1))
+evaluate-lanes-evaluate-lanes-requires-3 t c κs = let p : c.args.b ≡ t = c.requires.0 in
+    let l = c.if-i-b.false in (omega (arith, l), (omega (arith, c.requires.1.0, l), c.requires.1.1))
 
 evaluate-lanes-stop-each-requires : (t : ℕ) → evaluate-lanes-lts.Need-stop_each-requires (evaluate-lanes-claims t) (evaluate-lanes-at t) evaluate-lanes.Post
 evaluate-lanes-stop-each-requires t c κs = c.requires.1.1.few
@@ -101,20 +97,17 @@ evaluate-lanes-apply-one-lanes-requires t c κs = c.requires.1.1
 evaluate-lanes-returns-2 : (t : ℕ) → evaluate-lanes-lts.Need-returns-in-Is (evaluate-lanes-claims t) (evaluate-lanes-at t) evaluate-lanes.Post
 evaluate-lanes-returns-2 t c = let s = c.before.before.before.before.before.before.before.before.before.before.before.before.before.before.before.before.before.before in
     let l = c.evaluate_lanes in
-    let l' = l.new.1.1.1.1.1.1.1.1.1.1.1 in
     λ k. two_done s.args.w.items s.args.w.atcs (save t s) s.args.vs.now s.args.ls.now s.args.w.lanes (nodes t s k) s.args.b s.args.i
-    c.if-i-b.false _ c.kind_of.ensures {rs = s.args.rs.now} {rs₁ = l'.1.0} {rs₂ = l'.1.0} {xs = l'.0} _ c.in-Two.is (l.ensures k)
-    (same_done s.args.w.items s.args.w.atcs (save t s) s.args.vs.now s.args.ls.now s.args.w.lanes (nodes t s k) s.args.b s.args.i {rs = l'.1.0} _ (imm_found (tree_below (nodes t s k) s.args.i (right_at (nodes t s k) s.args.i)) (to_z-of_z {w = w32} (record { sfits = c.in-Is.known_told-in-Is-1-own.given.0.1 })) c.in-Is.is (c.number_below.ensures k)) s.requires.1.1.few c.repeated.ensures)
+    c.if-i-b.false _ c.kind_of.ensures {rs = s.args.rs.now} {rs₁ = l.new.rs} {rs₂ = l.new.rs} {xs = l.new.xs} _ c.in-Two.is (l.ensures k)
+    (same_done s.args.w.items s.args.w.atcs (save t s) s.args.vs.now s.args.ls.now s.args.w.lanes (nodes t s k) s.args.b s.args.i {rs = l.new.rs} _ (imm_found (tree_below (nodes t s k) s.args.i (right_at (nodes t s k) s.args.i)) (to_z-of_z {w = w32} (record { sfits = c.in-Is.known_told-in-Is-1-own.given.0.1 })) c.in-Is.is (c.number_below.ensures k)) s.requires.1.1.few c.repeated.ensures)
     c.apply_two_lanes.ensures
 
 evaluate-lanes-returns-3 : (t : ℕ) → evaluate-lanes-lts.Need-returns-in-Nothing (evaluate-lanes-claims t) (evaluate-lanes-at t) evaluate-lanes.Post
 evaluate-lanes-returns-3 t c = let s = c.before.before.before.before.before.before.before.before.before.before.before.before.before.before.before.before.before.before.before.before in
     let l = c.evaluate_lanes in
-    let l' = l.new.1.1.1.1.1.1.1.1.1.1.1 in
     let r = c.evaluate_lanes-in-Nothing in
-    let r' = r.new.1.1.1.1.1.1.1.1.1.1.1 in
     λ k. two_done s.args.w.items s.args.w.atcs (save t s) s.args.vs.now s.args.ls.now s.args.w.lanes (nodes t s k) s.args.b s.args.i
-    c.if-i-b.false _ c.kind_of.ensures {rs = s.args.rs.now} {rs₁ = l'.1.0} {rs₂ = r'.1.0} {xs = l'.0} {ys = r'.0} _ c.in-Two.is (l.ensures k) (r.ensures k) c.apply_two_lanes-in-Nothing.ensures
+    c.if-i-b.false _ c.kind_of.ensures {rs = s.args.rs.now} {rs₁ = l.new.rs} {rs₂ = r.new.rs} {xs = l.new.xs} {ys = r.new.xs} _ c.in-Two.is (l.ensures k) (r.ensures k) c.apply_two_lanes-in-Nothing.ensures
 
 evaluate-lanes-returns-4 : (t : ℕ) → evaluate-lanes-lts.Need-returns-in-Is-number_below (evaluate-lanes-claims t) (evaluate-lanes-at t) evaluate-lanes.Post
 evaluate-lanes-returns-4 t c = let s = c.before.before.before.before.before.before.before.before.before.before.before.before.before.before in
@@ -124,9 +117,8 @@ evaluate-lanes-returns-4 t c = let s = c.before.before.before.before.before.befo
 evaluate-lanes-returns-5 : (t : ℕ) → evaluate-lanes-lts.Need-returns-in-Nothing-number_below (evaluate-lanes-claims t) (evaluate-lanes-at t) evaluate-lanes.Post
 evaluate-lanes-returns-5 t c = let s = c.before.before.before.before.before.before.before.before.before.before.before.before.before.before.before.before.before in
     let l = c.evaluate_lanes-in-Nothing-number_below in
-    let l' = l.new.1.1.1.1.1.1.1.1.1.1.1 in
     λ k. one_done s.args.w.items s.args.w.atcs (save t s) s.args.vs.now s.args.ls.now s.args.w.lanes (nodes t s k) s.args.b s.args.i
-    c.if-i-b.false _ c.kind_of.ensures {rs = s.args.rs.now} {rs₁ = l'.1.0} {xs = l'.0} _ c.in-One.is (l.ensures k) c.stop_each.ensures c.apply_one_lanes.ensures
+    c.if-i-b.false _ c.kind_of.ensures {rs = s.args.rs.now} {rs₁ = l.new.rs} {xs = l.new.xs} _ c.in-One.is (l.ensures k) c.stop_each.ensures c.apply_one_lanes.ensures
 
 evaluate-lanes-returns-6 : (t : ℕ) → evaluate-lanes-lts.Need-returns-in-Imm16 (evaluate-lanes-claims t) (evaluate-lanes-at t) evaluate-lanes.Post
 evaluate-lanes-returns-6 t c = let s = c.before.before.before.before.before.before.before.before.before.before.before in λ k. imm16_done s.args.w.items s.args.w.atcs (save t s) s.args.vs.now s.args.ls.now s.args.w.lanes (nodes t s k) s.args.b s.args.i

@@ -1,4 +1,3 @@
-
 -- `apply_in` meets its contract: each arm is its operator. Assumes nothing.
 use mathlib.Core.Path.{◌≡◌, ◌∙◌}
 use lib.IntN.{ℤ}

@@ -1,4 +1,3 @@
-
 -- `apply_one_lanes` meets its contract: Not is a comparison with 0, and the loop of the rest asks for no operator. Assumes nothing.
 use mathlib.Core.List.{List}
 use lib.IntN.{ℤ, pos}
@@ -11,7 +10,7 @@ use Rattle.lanes_expr.specs.Each.{Each, each_as}
 use lib.ListN.{get_or}
 use mathlib.Core.Path.{ap, ◌≡◌, ◌∙◌}
 use borrow.Author.Rules.{rules}
-use Rattle.model.specs.Laws.Places.{all_one}
+use Rattle.model.proofs.Laws.Places.{all_one}
 use Rattle.lanes_expr.proofs.apply_one_lanes.Statement.{statement}
 use Rattle.lanes_expr.proofs.apply_one_lanes.Tie as tie
 

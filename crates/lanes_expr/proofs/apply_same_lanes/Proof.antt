@@ -1,4 +1,3 @@
-
 -- `apply_same_lanes` meets its contract: each arm is its operator. Assumes nothing.
 use mathlib.Core.Path.{◌≡◌, ◌∙◌}
 use mathlib.Core.List.{List}

@@ -1,4 +1,3 @@
-
 -- `apply_two_lanes` meets its contract: each arm's loop has the operator of the arm. Assumes nothing.
 use mathlib.Core.Path.{◌≡◌}
 use mathlib.Core.List.{List}

@@ -1,4 +1,3 @@
-
 -- `byte_in` meets its contract: the place read is that of the element in the lane's part. Assumes nothing.
 use mathlib.Core.Path.{sym, ◌∙◌}
 use mir.Syntax.{w32}
@@ -10,13 +9,13 @@ use Rattle.lanes_expr.proofs.byte_in.Statement.{statement}
 use Rattle.lanes_expr.proofs.byte_in.Tie as tie
 
 shared-slice-read-signed-of : tie.Need-bounds-list-i
-shared-slice-read-signed-of c = let p = placed _ _ c.args.x c.in-At.i (sym c.in-At.is ∙ (rw (to_z-of_z c.ranges.x) at c.before.before.before.before.IsPlace-in.ensures)) in omega (arith, c.requires)
+shared-slice-read-signed-of c = let p = placed _ _ c.args.x c.in-At.i (sym c.in-At.is ∙ (rw (to_z-of_z c.ranges.x) at c.place_in-p.ensures)) in omega (arith, c.requires)
 
 returns : tie.Need-returns-in-At
-returns c = to_z-of_z {w = w32} (record { sfits = c.signed_of.type_inv }) ∙ c.signed_of.ensures ∙ nat_placed c.args.list.now (placed _ _ c.args.x c.in-At.i (sym c.in-At.is ∙ (rw (to_z-of_z c.ranges.x) at c.before.before.before.before.before.IsPlace-in.ensures)))
+returns c = to_z-of_z {w = w32} (record { sfits = c.signed_of.type_inv }) ∙ c.signed_of.ensures ∙ nat_placed c.args.list.now (placed _ _ c.args.x c.in-At.i (sym c.in-At.is ∙ (rw (to_z-of_z c.ranges.x) at c.place_in-p.ensures)))
 
 returns-2 : tie.Need-returns-in-Nothing
-returns-2 c = nat_past _ _ c.args.x c.args.list.now (sym c.in-Nothing.is ∙ (rw (to_z-of_z c.ranges.x) at c.before.before.IsPlace-in.ensures))
+returns-2 c = nat_past _ _ c.args.x c.args.list.now (sym c.in-Nothing.is ∙ (rw (to_z-of_z c.ranges.x) at c.place_in-p.ensures))
 
 pub byte_in_spec : {M : Type 1} → statement M
 byte_in_spec =

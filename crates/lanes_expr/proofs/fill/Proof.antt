@@ -1,4 +1,3 @@
-
 -- `fill` meets its contract. The loop's invariant: the first j places hold the number. Assumes nothing.
 use lib.IntN.{pos}
 use mir.Syntax.{w32}

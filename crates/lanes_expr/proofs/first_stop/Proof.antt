@@ -1,4 +1,3 @@
-
 -- `first_stop` meets its contract: a refusal that is not 0 stands. Assumes nothing.
 use mathlib.Core.Path.{◌≡◌, refl}
 use Prim.Native.Nat.{ℕ, zero, suc}

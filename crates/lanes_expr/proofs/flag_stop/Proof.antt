@@ -1,4 +1,3 @@
-
 -- `flag_stop` meets its contract: by the test that it makes. Assumes nothing.
 use mathlib.Core.Path.{◌≡◌, sym, ap, ◌∙◌}
 use mathlib.Core.Bool.{Bool, true, false, cond}

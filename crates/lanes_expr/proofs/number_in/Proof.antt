@@ -1,4 +1,3 @@
-
 -- `number_in` meets its contract: the place read is that of the element in the lane's part. Assumes nothing.
 use mathlib.Core.Path.{sym, ◌∙◌}
 use mir.Syntax.{w32}
@@ -10,16 +9,16 @@ use Rattle.lanes_expr.proofs.number_in.Statement.{statement}
 use Rattle.lanes_expr.proofs.number_in.Tie as tie
 
 mul-result : tie.Need-offset_bounds-list-i
-mul-result c = let p = placed _ _ c.args.x c.in-At.i (sym c.in-At.is ∙ (rw (to_z-of_z c.ranges.x) at c.before.before.before.IsPlace-in.ensures)) in record { fits = omega (arith, c.requires, c.well_formed.0.1) }
+mul-result c = let p = placed _ _ c.args.x c.in-At.i (sym c.in-At.is ∙ (rw (to_z-of_z c.ranges.x) at c.place_in-p.ensures)) in record { fits = omega (arith, c.requires, c.well_formed.0.1) }
 
 shared-slice-copy-out-result : tie.Need-bounds-list-i
-shared-slice-copy-out-result c = let p = placed _ _ c.args.x c.in-At.i (sym c.in-At.is ∙ (rw (to_z-of_z c.ranges.x) at c.before.before.before.IsPlace-in.ensures)) in omega (arith, c.requires)
+shared-slice-copy-out-result c = let p = placed _ _ c.args.x c.in-At.i (sym c.in-At.is ∙ (rw (to_z-of_z c.ranges.x) at c.place_in-p.ensures)) in omega (arith, c.requires)
 
 returns : tie.Need-returns-in-At
-returns c = to_z-of_z {w = w32} (record { sfits = c.result-1.given }) ∙ int_placed c.args.list.now (placed _ _ c.args.x c.in-At.i (sym c.in-At.is ∙ (rw (to_z-of_z c.ranges.x) at c.before.before.before.before.IsPlace-in.ensures)))
+returns c = to_z-of_z {w = w32} (record { sfits = c.result-1.given }) ∙ int_placed c.args.list.now (placed _ _ c.args.x c.in-At.i (sym c.in-At.is ∙ (rw (to_z-of_z c.ranges.x) at c.place_in-p.ensures)))
 
 returns-2 : tie.Need-returns-in-Nothing
-returns-2 c = int_past _ _ c.args.x c.args.list.now (sym c.in-Nothing.is ∙ (rw (to_z-of_z c.ranges.x) at c.before.before.IsPlace-in.ensures))
+returns-2 c = int_past _ _ c.args.x c.args.list.now (sym c.in-Nothing.is ∙ (rw (to_z-of_z c.ranges.x) at c.place_in-p.ensures))
 
 pub number_in_spec : {M : Type 1} → statement M
 number_in_spec =

@@ -1,8 +1,7 @@
-
 -- `place_in` meets its contract: a number below the width names a place behind the part's start. Assumes nothing.
 use mir.Syntax.{w32}
 use mir.Facts.{to_z-of_z, Fits-nat_abs}
-use Rattle.model.specs.Laws.Signed.{not_negative}
+use Rattle.model.proofs.Laws.Signed.{not_negative}
 use Rattle.lanes_expr.proofs.Places.{place_negative, place_low, place_high}
 use borrow.Author.Rules.{rules}
 use Rattle.lanes_expr.proofs.place_in.Statement.{statement}

@@ -1,4 +1,3 @@
-
 -- `repeated` meets its contract. Assumes nothing.
 use lib.IntN.{ℤ}
 use lib.ListN.{replicate}

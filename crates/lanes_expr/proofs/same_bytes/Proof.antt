@@ -1,4 +1,3 @@
-
 -- `same_bytes` meets its contract. The loop's invariant: the first j lanes were read. Assumes nothing.
 use lib.IntN.{pos}
 use mir.Syntax.{w32}

@@ -1,4 +1,3 @@
-
 -- `stop_each` meets its contract: an operator that reads no flag stops no lane. Assumes nothing.
 use mathlib.Core.Path.{sym, ap, ◌∙◌}
 use lib.ListN.{get_or}

@@ -1,4 +1,3 @@
-
 -- `stop_lanes` meets its contract. The loop's invariant: the first j lanes have stopped. Assumes nothing.
 use Rattle.lanes_expr.specs.Lanes.{first_of2}
 use Rattle.lanes_expr.specs.Each.{Each, each_none, each_more, each_all}

@@ -1,4 +1,3 @@
-
 -- `stop_outside` meets its contract. The loop's invariant: of the first j lanes, those whose number is no flag have stopped. Assumes nothing.
 use mathlib.Core.Path.{ap, ◌∙◌}
 use lib.ListN.{get_or}

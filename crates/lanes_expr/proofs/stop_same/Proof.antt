@@ -1,4 +1,3 @@
-
 -- `stop_same` meets its contract: the loop is left out where no lane stops. Assumes nothing.
 use mathlib.Core.Path.{sym, ap, ◌∙◌}
 use mir.Facts.{to_z-of_z}

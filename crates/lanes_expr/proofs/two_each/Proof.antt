@@ -1,4 +1,3 @@
-
 -- `two_each` meets its contract. The loop's invariant: the operator was applied at the first j places. Assumes nothing.
 use lib.IntN.{pos}
 use mir.Syntax.{w32}

@@ -4,7 +4,10 @@ use Rattle.lanes_falls.proofs.falls_from.Statement.{statement}
 use Rattle.lanes_falls.proofs.falls_from.Tie as tie
 
 returns : tie.Need-returns
-returns c = λ ws val. c.sweep-from.ensures ws val c.before.before.before.args.counts.nodes c.before.before.before.args.counts.commands
+returns c = λ ws val. c.sweep_from.ensures ws val c.args.counts.nodes c.args.counts.commands
 
-pub falls-from-spec : {M : Type 1} → statement M
-falls-from-spec = tie.close (tie.spec (λ c. search rules) (λ c κs. search rules) returns)
+pub falls_from_spec : {M : Type 1} → statement M
+falls_from_spec = tie.close (tie.spec
+    (λ c. search rules)
+    (λ c κs. search rules)
+    returns)

@@ -4,11 +4,15 @@ use borrow.Author.Rules.{rules}
 use Rattle.lanes_falls.proofs.link_below.Statement.{statement}
 use Rattle.lanes_falls.proofs.link_below.Tie as tie
 
-returns : tie.Need-returns
-returns c = link_none _ _ _ c.if1.true
+returns : tie.Need-returns-then-w-eq0
+returns c = link_none _ _ _ c.if-w-eq0.true
 
-returns-2 : tie.Need-returns-2
-returns-2 c = link_some _ _ c.before.before.if1.false c.mark-below.ensures
+returns-2 : tie.Need-returns
+returns-2 c = link_some _ _ c.if-w-eq0.false c.mark_below.ensures
 
-pub link-below-spec : {M : Type 1} → statement M
-link-below-spec = tie.close (tie.spec returns (λ c. search rules) (λ c κs. search rules) returns-2)
+pub link_below_spec : {M : Type 1} → statement M
+link_below_spec = tie.close (tie.spec
+    returns
+    (λ c. search rules)
+    (λ c κs. search rules)
+    returns-2)

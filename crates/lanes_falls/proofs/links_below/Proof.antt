@@ -5,27 +5,27 @@ use borrow.Author.Rules.{rules}
 use Rattle.lanes_falls.proofs.links_below.Statement.{statement}
 use Rattle.lanes_falls.proofs.links_below.Tie as tie
 
-returns : tie.Need-returns
-returns c = links_none c.before.before.args.cw.now c.before.before.args.bw.now c.before.before.args.b _ _ c.if1.true
+returns : tie.Need-returns-then-bw-b-ne1
+returns c = links_none c.args.cw.now c.args.bw.now c.args.b _ _ c.if-bw-b-ne1.true
 
-returns-2 : tie.Need-returns-2
-returns-2 c = next_high c.before.before.before.before.before.before.args.cw.now c.before.before.before.before.before.before.args.bw.now c.before.before.before.before.before.before.args.b _ c.before.before.before.before.if1.false _ _ (not-true _ c.if2.true) c.before.link-below.ensures
+returns-2 : tie.Need-returns-then-not-link_below
+returns-2 c = next_high c.args.cw.now c.args.bw.now c.args.b _ c.if-bw-b-ne1.false _ _ c.if-not-link_below.true c.link_below.ensures
 
-returns-3 : tie.Need-returns-3
-returns-3 c = other_high c.before.before.before.before.before.before.before.before.before.before.args.cw.now c.before.before.before.before.before.before.before.before.before.before.args.bw.now c.before.before.before.before.before.before.before.before.before.before.args.b _ c.before.before.before.before.before.before.before.before.if1.false _ _ _ (not-false _ c.before.before.before.before.if2.false) (not-true _ c.if3.true) c.before.before.before.before.before.link-below.ensures c.before.link-below2.ensures
+returns-3 : tie.Need-returns-then-not-link_below-2
+returns-3 c = other_high c.args.cw.now c.args.bw.now c.args.b _ c.if-bw-b-ne1.false _ _ _ c.if-not-link_below.false c.if-not-link_below-2.true c.link_below.ensures c.link_below-2.ensures
 
-targets-below-requires : tie.Need-targets-below-requires
+targets-below-requires : tie.Need-targets_below-requires
 targets-below-requires c κs =
-    let s = c.before.before.before.before.before.before.before.before.before.before.before.before.before in
-    (s.requires.0, s.requires.2 c.before.before.before.before.before.before.before.before.before.before.before.if1.false)
-
-returns-4 : tie.Need-returns-4
-returns-4 c =
     let s = c.before.before.before.before.before.before.before.before.before.before.before.before.before.before in
-    links_all s.args.cw.now s.args.bw.now s.args.b _ c.before.before.before.before.before.before.before.before.before.before.before.before.if1.false _ _ _ _ (not-false _ c.before.before.before.before.before.before.before.before.if2.false) (not-false _ c.before.before.before.before.if3.false) c.before.before.before.before.before.before.before.before.before.link-below.ensures c.before.before.before.before.before.link-below2.ensures c.targets-below.ensures
+    (s.requires.0, s.requires.2 c.if-bw-b-ne1.false)
 
-pub links-below-spec : {M : Type 1} → statement M
-links-below-spec =
+returns-4 : tie.Need-returns
+returns-4 c =
+    let s = c.before.before.before.before.before.before.before.before.before.before.before.before.before.before.before in
+    links_all s.args.cw.now s.args.bw.now s.args.b _ c.if-bw-b-ne1.false _ _ _ _ c.if-not-link_below.false c.if-not-link_below-2.false c.link_below.ensures c.link_below-2.ensures c.targets_below.ensures
+
+pub links_below_spec : {M : Type 1} → statement M
+links_below_spec =
     tie.close
     (tie.spec
     (λ c. search rules)

@@ -4,11 +4,15 @@ use borrow.Author.Rules.{rules}
 use Rattle.lanes_falls.proofs.mark_below.Statement.{statement}
 use Rattle.lanes_falls.proofs.mark_below.Tie as tie
 
-returns : tie.Need-returns
-returns c = marking_high _ _ _ c.if1.true
+returns : tie.Need-returns-then-k-n
+returns c = marking_high _ _ _ c.if-k-n.true
 
-returns-2 : tie.Need-returns-2
-returns-2 c = marking_one _ _ _ _ c.index_of.ensures c.before.if1.false
+returns-2 : tie.Need-returns
+returns-2 c = marking_one _ _ _ _ c.index_of-i.ensures c.if-k-n.false
 
-pub mark-below-spec : {M : Type 1} → statement M
-mark-below-spec = tie.close (tie.spec returns (λ c κs. search rules) (λ c. search rules) returns-2)
+pub mark_below_spec : {M : Type 1} → statement M
+mark_below_spec = tie.close (tie.spec
+    returns
+    (λ c κs. search rules)
+    (λ c. search rules)
+    returns-2)

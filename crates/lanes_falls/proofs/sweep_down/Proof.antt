@@ -7,35 +7,35 @@ use borrow.Author.Rules.{rules}
 use Rattle.lanes_falls.proofs.sweep_down.Statement.{statement}
 use Rattle.lanes_falls.proofs.sweep_down.Tie as tie
 
-abbrev invariant-loop : tie.invariant-loop
+abbrev invariant-loop : tie.invariant-loop-n
 invariant-loop cw bw blocks marks₀ n₀ marks n = Sweeps cw bw blocks n marks₀ marks
 
-abbrev decreases-loop : tie.decreases-loop
+abbrev decreases-loop : tie.decreases-loop-n
 decreases-loop cw bw blocks marks₀ n₀ marks n = n
 
-loop-holds : tie.Need-loop-init invariant-loop decreases-loop
+loop-holds : tie.Need-loop-n-init invariant-loop decreases-loop
 loop-holds c = sweeps_start _ _ _ _
 
-element-copy-out-if1 : tie.Need-element-copy-out-if1 invariant-loop decreases-loop
-element-copy-out-if1 c = sweep_room c.before.before.before.requires c.before.before.loop.invariant c.before.loop-test.true c.index_of.ensures
+element-copy-out-if1 : tie.Need-bounds-marks-b invariant-loop decreases-loop
+element-copy-out-if1 c = sweep_room c.requires c.loop-n.invariant c.loop-n-test.true c.index_of-b.ensures
 
-links-below-requires : tie.Need-links-below-requires invariant-loop decreases-loop
-links-below-requires c κs = sweep_asks c.before.before.before.before.before.before.requires c.before.before.before.before.before.loop.invariant c.before.before.before.before.loop-test.true c.before.before.before.index_of.ensures
+links-below-requires : tie.Need-links_below-requires invariant-loop decreases-loop
+links-below-requires c κs = sweep_asks c.requires c.loop-n.invariant c.loop-n-test.true c.index_of-b.ensures
 
-returns : tie.Need-returns invariant-loop decreases-loop
-returns c = sweeps_out _ _ _ _ c.before.before.before.before.before.before.before.loop.invariant c.before.before.before.before.before.before.loop-test.true c.before.before.before.before.before.index_of.ensures c.before.before.before.if1.true c.before.links-below.ensures (not-true _ c.if2.true)
+returns : tie.Need-returns-then-not-links_below invariant-loop decreases-loop
+returns c = sweeps_out _ _ _ _ c.loop-n.invariant c.loop-n-test.true c.index_of-b.ensures c.if-marks-b.true c.links_below.ensures c.if-not-links_below.true
 
-loop-again : tie.Need-loop-preserved invariant-loop decreases-loop
-loop-again c = sweeps_on _ _ _ _ c.before.before.before.before.before.before.before.loop.invariant c.before.before.before.before.before.before.loop-test.true c.before.before.before.before.before.index_of.ensures c.before.before.before.if1.true c.before.links-below.ensures (not-false _ c.if2.false)
+loop-again : tie.Need-loop-n-preserved-else-not-links_below invariant-loop decreases-loop
+loop-again c = sweeps_on _ _ _ _ c.loop-n.invariant c.loop-n-test.true c.index_of-b.ensures c.if-marks-b.true c.links_below.ensures c.if-not-links_below.false
 
-loop-again-2 : tie.Need-loop-preserved-2 invariant-loop decreases-loop
-loop-again-2 c = sweeps_past _ _ _ _ c.before.before.before.before.loop.invariant c.before.before.before.loop-test.true c.before.before.index_of.ensures c.if1.false
+loop-again-2 : tie.Need-loop-n-preserved invariant-loop decreases-loop
+loop-again-2 c = sweeps_past _ _ _ _ c.loop-n.invariant c.loop-n-test.true c.index_of-b.ensures c.if-marks-b.false
 
-returns-2 : tie.Need-returns-2 invariant-loop decreases-loop
-returns-2 c = sweeps_done _ _ _ _ _ _ c.before.loop.invariant c.loop-test.false
+returns-2 : tie.Need-returns invariant-loop decreases-loop
+returns-2 c = sweeps_done _ _ _ _ _ _ c.loop-n.invariant c.loop-n-test.false
 
-pub sweep-down-spec : {M : Type 1} → statement M
-sweep-down-spec =
+pub sweep_down_spec : {M : Type 1} → statement M
+sweep_down_spec =
     tie.close
     (tie.spec
     invariant-loop

@@ -7,29 +7,29 @@ use borrow.Author.Rules.{rules}
 use Rattle.lanes_falls.proofs.targets_below.Statement.{statement}
 use Rattle.lanes_falls.proofs.targets_below.Tie as tie
 
-abbrev invariant-loop : tie.invariant-loop
+abbrev invariant-loop : tie.invariant-loop-i
 invariant-loop cw first held marks₀ n f count i₀ marks i = TargetsLeft cw n first held f count i marks₀ marks
 
-abbrev decreases-loop : tie.decreases-loop
+abbrev decreases-loop : tie.decreases-loop-i
 decreases-loop cw first held marks₀ n f count i₀ marks i = count - i
 
-loop-holds : tie.Need-loop-init invariant-loop decreases-loop
-loop-holds c = targets_start _ _ _ _ _ _ _ c.before.index_of.ensures c.index-of2.ensures
+loop-holds : tie.Need-loop-i-init invariant-loop decreases-loop
+loop-holds c = targets_start _ _ _ _ _ _ _ c.index_of-f.ensures c.index_of-count.ensures
 
-target-below-requires : tie.Need-target-below-requires invariant-loop decreases-loop
-target-below-requires c κs = (c.before.before.before.before.before.requires.0, targets_room _ _ _ _ _ _ _ _ c.before.before.loop.invariant c.before.loop-test.true c.before.before.before.before.before.requires.1)
+target-below-requires : tie.Need-target_below-requires invariant-loop decreases-loop
+target-below-requires c κs = (c.requires.0, targets_room _ _ _ _ _ _ _ _ c.loop-i.invariant c.loop-i-test.true c.requires.1)
 
-returns : tie.Need-returns invariant-loop decreases-loop
-returns c = targets_stop _ _ _ _ _ _ _ _ c.before.before.before.before.loop.invariant _ c.before.before.before.loop-test.true (not-true _ c.if1.true) c.before.target_below.ensures
+returns : tie.Need-returns-then-not-target_below invariant-loop decreases-loop
+returns c = targets_stop _ _ _ _ _ _ _ _ c.loop-i.invariant _ c.loop-i-test.true c.if-not-target_below.true c.target_below.ensures
 
-loop-again : tie.Need-loop-preserved invariant-loop decreases-loop
-loop-again c = targets_step _ _ _ _ _ _ _ _ c.before.before.before.before.loop.invariant _ c.before.before.before.loop-test.true (not-false _ c.if1.false) c.before.target_below.ensures
+loop-again : tie.Need-loop-i-preserved invariant-loop decreases-loop
+loop-again c = targets_step _ _ _ _ _ _ _ _ c.loop-i.invariant _ c.loop-i-test.true c.if-not-target_below.false c.target_below.ensures
 
-returns-2 : tie.Need-returns-2 invariant-loop decreases-loop
-returns-2 c = targets_done _ _ _ _ _ _ _ _ c.before.loop.invariant c.loop-test.false
+returns-2 : tie.Need-returns invariant-loop decreases-loop
+returns-2 c = targets_done _ _ _ _ _ _ _ _ c.loop-i.invariant c.loop-i-test.false
 
-pub targets-below-spec : {M : Type 1} → statement M
-targets-below-spec =
+pub targets_below_spec : {M : Type 1} → statement M
+targets_below_spec =
     tie.close
     (tie.spec
     invariant-loop

@@ -14,9 +14,9 @@ use Rattle.model.specs.Requirement.{Requirement, sorted}
 use Rattle.model.specs.Shop.{Slot, Timer, plain, five, ten, fifteen, timer_of, limit_of, slot_ok}
 use Rattle.model.specs.Script.{Block, block_at}
 use Rattle.model.specs.Compile.{acquired_expr, blocks_for, enable_blocks, join_tests, last_of, limit_blocks, redirect, root_of, slot_blocks, slots_blocks, test, unique_blocks}
-use Rattle.model.specs.Laws.Compiled.{Linked, last_of_is}
-use Rattle.model.specs.Laws.FitBlocks.{from_slots}
-use Rattle.model.specs.Laws.Checked.{SheetLow}
+use Rattle.model.proofs.Laws.Compiled.{Linked, last_of_is}
+use Rattle.model.proofs.Laws.FitBlocks.{from_slots}
+use Rattle.model.proofs.Laws.Checked.{SheetLow}
 use Rattle.reclaim_model.specs.Rename.{links_of, targets, Every}
 use Rattle.reclaim_model.specs.Laws.Lower.{above_slots, after_links}
 use Rattle.reclaim_model.specs.Laws.Reached.{root, onward, every_at}

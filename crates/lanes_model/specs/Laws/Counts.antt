@@ -3,7 +3,7 @@ use Rattle.std.specs.Prelude.{◌≡◌, refl, Bool, true, false, cond, not, ◌
 use Rattle.std.proofs.Common.{sym, true≢false, inl, inr, arith, eqb-true, eq-eqb, ne_eqb}
 use mathlib.Core.List.Memᴰ
 use mathlib.Core.List.{List, [], ◌∷◌, Memᴰ}
-use Rattle.model.specs.Laws.Checks.{and_left, and_right}
+use Rattle.model.proofs.Laws.Checks.{and_left, and_right}
 use Rattle.lanes_model.specs.Walk.{count_below}
 
 -- those that are not k

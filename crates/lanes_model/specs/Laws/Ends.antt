@@ -13,7 +13,7 @@ use Rattle.model.specs.Script.{Block, Script}
 use Rattle.model.specs.Judge.{script_refusal}
 use Rattle.model.specs.Memory.{Memory, script_of}
 use Rattle.model.specs.Run.{Outcome, next, done, halt, step, Ran, one_more, run, run_by}
-use Rattle.model.specs.Laws.Checks.{setup_inside, shared_passed}
+use Rattle.model.proofs.Laws.Checks.{setup_inside, shared_passed}
 use Rattle.reclaim_model.specs.Rename.{Every}
 use Rattle.reclaim_model.specs.Laws.Reached.{root, onward}
 use Rattle.lanes_model.specs.Falls.{Link, LedTo, Falls}

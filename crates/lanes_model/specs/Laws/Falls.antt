@@ -11,9 +11,9 @@ use Rattle.std.proofs.Math.ListN.{get_or, get_or-eq_default}
 use Rattle.std.proofs.lemmas.List.{length-replicate}
 use Rattle.model.specs.Sheet.{all}
 use Rattle.model.specs.Script.{Block, placeholder, block_at}
-use Rattle.model.specs.Laws.Checks.{and_left, and_right}
-use Rattle.model.specs.Laws.Places.{marks_stay, all_one}
-use Rattle.model.specs.Laws.Normal.{both_ways_lem}
+use Rattle.model.proofs.Laws.Checks.{and_left, and_right}
+use Rattle.model.proofs.Laws.Places.{marks_stay, all_one}
+use Rattle.model.proofs.Laws.Normal.{both_ways_lem}
 use Rattle.reclaim_model.specs.Rename.{links_of}
 use Rattle.reclaim_model.specs.Reclaim.{mark_roots}
 use Rattle.reclaim_model.specs.Laws.Reached.{root, onward, no_links, length_roots, root_marked}

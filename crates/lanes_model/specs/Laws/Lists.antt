@@ -16,10 +16,10 @@ use Rattle.model.specs.Run.{run_call}
 use Rattle.model.specs.Judge.{call_refusal, shared_refusal}
 use Rattle.model.specs.Compile.{Call, redirect, root_of, slots_blocks}
 use Rattle.model.specs.Lists.{after_all, last_at, now_at}
-use Rattle.model.specs.Laws.Checks as Checks
-use Rattle.model.specs.Laws.Compiled.{fresh_linked, last_of_is}
-use Rattle.model.specs.Laws.FitBlocks.{length_padded}
-use Rattle.model.specs.Laws.Checked.{sheet_low}
+use Rattle.model.proofs.Laws.Checks as Checks
+use Rattle.model.proofs.Laws.Compiled.{fresh_linked, last_of_is}
+use Rattle.model.proofs.Laws.FitBlocks.{length_padded}
+use Rattle.model.proofs.Laws.Checked.{sheet_low}
 use Rattle.reclaim_model.specs.Rename.{links_of, rename_block}
 use Rattle.reclaim_model.specs.Reclaim.{rank}
 use Rattle.reclaim_model.specs.Changes.{BornScript, birth_at, compile_refusal_born, appended_born, lives, kept_only, Change, changes}

@@ -12,7 +12,7 @@ use Rattle.std.proofs.lemmas.Bool.{eqb-false}
 use Rattle.model.specs.Save.{Save}
 use Rattle.model.specs.Script.{Block}
 use Rattle.model.specs.Run.{Outcome, next, done, halt, step, Ran, one_more, run, run_by}
-use Rattle.model.specs.Laws.Bools.{clash, or_cases, never_true}
+use Rattle.model.proofs.Laws.Bools.{clash, or_cases, never_true}
 use Rattle.reclaim_model.specs.Laws.Reached.{root, onward}
 use Rattle.reclaim_model.specs.Rename.{Every}
 use Rattle.lanes_model.specs.Falls.{Link, LedTo, Falls}

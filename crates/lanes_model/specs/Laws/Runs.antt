@@ -10,7 +10,7 @@ use borrow.Author.Tests.{eq-eqb, ne_eqb}
 use Rattle.model.specs.Save.{Save}
 use Rattle.model.specs.Script.{Block}
 use Rattle.model.specs.Run.{Outcome, next, done, halt, step, Ran, one_more, run, run_by}
-use Rattle.model.specs.Laws.Bools.{or_no}
+use Rattle.model.proofs.Laws.Bools.{or_no}
 use Rattle.reclaim_model.specs.Laws.Reached.{root, onward}
 use Rattle.lanes_model.specs.Falls.{Link, LedTo, Falls}
 use Rattle.lanes_model.specs.Lanes.{State, at, ended, Lane, moved, is_at, step_state, step_lane, any_at, Walk, one_read, walk, start_lane, walk_all, ran_of}

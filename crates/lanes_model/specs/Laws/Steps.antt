@@ -9,7 +9,7 @@ use Rattle.model.specs.Refusal.{budget_spent, met_other, no_flag, no_next}
 use Rattle.model.specs.Expr.{Expr, two, one, imm16, imm32, other, Value, ok, stop, and_then, readable, eval}
 use Rattle.model.specs.Script.{Command, return, goto, set_variable, set_other, if_else, end_if, other_command, Block, placeholder, code, data_block, block_at}
 use Rattle.model.specs.Run.{Outcome, next, done, halt, follow, store, or_halt, execute, enter, step, step_by}
-use Rattle.model.specs.Laws.Sound.{SoundBlocks}
+use Rattle.model.proofs.Laws.Sound.{SoundBlocks}
 use Rattle.reclaim_model.specs.Rename.{with_link, targets, links_of, Every}
 use Rattle.reclaim_model.specs.Laws.Reached.{root, onward, every_at, every_of}
 use Rattle.reclaim_model.specs.Laws.Reclaimed.{links_below, sound_at}

@@ -11,9 +11,9 @@ use Rattle.model.specs.Memory.{Memory, script_of}
 use Rattle.model.specs.Record.{judged_record}
 use Rattle.model.specs.RecordCalls.{call_in, record_refusal, run_in}
 use Rattle.model.specs.Run.{Ran, run, run_call, run_checked_by}
-use Rattle.model.specs.Laws.Checks.{and_left, and_right, first_passed, passed, setup_inside, shared_passed}
-use Rattle.model.specs.Laws.Judged.{accepted_held}
-use Rattle.model.specs.Laws.Refused.{accepts}
+use Rattle.model.proofs.Laws.Checks.{and_left, and_right, first_passed, passed, setup_inside, shared_passed}
+use Rattle.model.proofs.Laws.Judged.{accepted_held}
+use Rattle.model.proofs.Laws.Refused.{accepts}
 use Rattle.memory.specs.RecordLaws.{proper_record}
 use Rattle.memory.specs.Transfer.{accepted_script}
 use Rattle.lanes_model.specs.Falls.{Falls, Link, falls}

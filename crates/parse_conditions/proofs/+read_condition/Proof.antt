@@ -40,34 +40,34 @@ read-condition-below t =
 abbrev read-condition-claims : ℕ → read-condition-lts.Claims
 read-condition-claims t = (kind-of-reads.Asked, kind-of-reads.Learnt, is-join-reads.Asked, is-join-reads.Learnt, index-of-reads.Asked, index-of-reads.Learnt, read-condition-below t, read-condition.Post, is-not-reads.Asked, is-not-reads.Learnt, read-leaf-reads.Asked, read-leaf-reads.Learnt)
 
-read-condition-returns : (t : ℕ) → read-condition-lts.Need-returns (read-condition-claims t) (read-condition-at t) read-condition.Post
+read-condition-returns : (t : ℕ) → read-condition-lts.Need-returns-then-b-i (read-condition-claims t) (read-condition-at t) read-condition.Post
 read-condition-returns t c =
     let start = c.before.before.before.before.before in
     read_out start.args.ws.now start.args.val.now start.args.known start.args.b start.args.i start.args.neg start.args.r _ _ _ _
-    start.requires.1.1 c.if1.true
+    start.requires.1.1 c.if-b-i.true
 
-read-condition-read-condition-requires : (t : ℕ) → read-condition-lts.Need-read-condition-requires (read-condition-claims t) (read-condition-at t) read-condition.Post
+read-condition-read-condition-requires : (t : ℕ) → read-condition-lts.Need-read_condition-mid-requires (read-condition-claims t) (read-condition-at t) read-condition.Post
 read-condition-read-condition-requires t c κs = (
-  omega (arith, c.before.before.before.before.before.before.before.before.before.before.before.before.before.before.before.requires.0, c.before.before.before.before.before.before.before.before.before.before.if1.false),
+  omega (arith, c.requires.0, c.if-b-i.false),
   (
-    omega (arith, c.before.before.before.before.before.before.before.before.before.before.before.before.before.before.before.requires.1.0, c.before.before.before.before.before.before.before.before.before.before.if1.false),
-    c.before.before.before.before.before.before.before.before.before.before.before.before.before.before.before.requires.1.1,
+    omega (arith, c.requires.1.0, c.if-b-i.false),
+    c.requires.1.1,
   ),
 )
 
-read-condition-same-length : (t : ℕ) → read-condition-lts.Need-same-length (read-condition-claims t) (read-condition-at t) read-condition.Post
-read-condition-same-length t c = c.before.before.before.before.before.before.before.before.keys.given
+read-condition-same-length : (t : ℕ) → read-condition-lts.Need-shape_of-keys-then-mid (read-condition-claims t) (read-condition-at t) read-condition.Post
+read-condition-same-length t c = c.keys-1.given
 
-read-condition-same-length-2 : (t : ℕ) → read-condition-lts.Need-same-length-2 (read-condition-claims t) (read-condition-at t) read-condition.Post
-read-condition-same-length-2 t c = c.before.before.before.before.before.before.kids.given
+read-condition-same-length-2 : (t : ℕ) → read-condition-lts.Need-shape_of-kids-then-mid (read-condition-claims t) (read-condition-at t) read-condition.Post
+read-condition-same-length-2 t c = c.kids-1.given
 
-read-condition-same-length-3 : (t : ℕ) → read-condition-lts.Need-same-length-3 (read-condition-claims t) (read-condition-at t) read-condition.Post
-read-condition-same-length-3 t c = c.before.before.before.before.companions.given
+read-condition-same-length-3 : (t : ℕ) → read-condition-lts.Need-shape_of-companions-then-mid (read-condition-claims t) (read-condition-at t) read-condition.Post
+read-condition-same-length-3 t c = c.companions-1.given
 
-read-condition-same-length-4 : (t : ℕ) → read-condition-lts.Need-same-length-4 (read-condition-claims t) (read-condition-at t) read-condition.Post
-read-condition-same-length-4 t c = c.before.before.list.given
+read-condition-same-length-4 : (t : ℕ) → read-condition-lts.Need-shape_of-list-then-mid (read-condition-claims t) (read-condition-at t) read-condition.Post
+read-condition-same-length-4 t c = c.list-1.given
 
-read-condition-returns-2 : (t : ℕ) → read-condition-lts.Need-returns-2 (read-condition-claims t) (read-condition-at t) read-condition.Post
+read-condition-returns-2 : (t : ℕ) → read-condition-lts.Need-returns-then-mid (read-condition-claims t) (read-condition-at t) read-condition.Post
 read-condition-returns-2 t c =
     let x9 = c.before.before.before.before.before.before.before.before.before in
     let x14 = x9.before.before.before.before.before in
@@ -75,40 +75,40 @@ read-condition-returns-2 t c =
     let x17 = x16.before in
     let x18 = x17.before in
     let x20 = x18.before.before in
-    let start = x20.before.before.before.before.before in
+    let start = x20.before.before.before.before.before.before in
     join_full start.args.ws.now start.args.val.now start.args.known start.args.b start.args.i start.args.neg start.args.r _ _
-    x20.if1.false _ x18.kind-of.ensures (sym x17.is_join.ensures ∙ x16.if2.true) _ _ x14.index_of.ensures refl _ _ _ _ _ x9.read-condition.ensures
-    c.if3.true
+    x20.if-b-i.false _ x18.kind_of-k.ensures (sym x17.is_join.ensures ∙ x16.if-is_join.true) _ _ x14.index_of-l.ensures refl _ _ _ _ _ x9.read_condition-mid.ensures
+    c.if-mid.true
 
 read-condition-read-condition-requires-2 :
-    (t : ℕ) → read-condition-lts.Need-read-condition-requires-2 (read-condition-claims t) (read-condition-at t) read-condition.Post
+    (t : ℕ) → read-condition-lts.Need-read_condition-requires (read-condition-claims t) (read-condition-at t) read-condition.Post
 read-condition-read-condition-requires-2 t c κs = (
-  omega (arith, c.before.before.before.before.before.before.before.before.before.before.before.before.before.before.before.before.before.before.before.before.before.before.before.before.before.before.before.before.before.before.before.requires.0, c.before.before.before.before.before.before.before.before.before.before.before.before.before.before.before.before.before.before.before.before.before.before.before.before.before.before.if1.false),
+  omega (arith, c.requires.0, c.if-b-i.false),
   (
-    omega (arith, c.before.before.before.before.before.before.before.before.before.before.before.before.before.before.before.before.before.before.before.before.before.before.before.before.before.before.before.before.before.before.before.requires.1.0, c.before.before.before.before.before.before.before.before.before.before.before.before.before.before.before.before.before.before.before.before.before.before.before.before.before.before.if1.false),
-    (c.before.before.before.before.before.before.before.before.before.before.before.before.before.before.before.read-condition.ensures.added c.before.before.before.before.before.before.if3.false).place,
+    omega (arith, c.requires.1.0, c.if-b-i.false),
+    (c.read_condition-mid.ensures.added c.if-mid.false).place,
   ),
 )
 
-read-condition-same-length-5 : (t : ℕ) → read-condition-lts.Need-same-length-5 (read-condition-claims t) (read-condition-at t) read-condition.Post
+read-condition-same-length-5 : (t : ℕ) → read-condition-lts.Need-shape_of-keys-then-is_join (read-condition-claims t) (read-condition-at t) read-condition.Post
 read-condition-same-length-5 t c =
     let x7 = c.before.before.before.before.before.before.before in
     let start = x7.before.before.before.before.before.before.before.before.before.before.before.before.before.before.before.before in
-    x7.keys2.given ∙ start.keys.given
+    x7.keys-then-is_join-1.given ∙ start.keys-1.given
 
-read-condition-same-length-6 : (t : ℕ) → read-condition-lts.Need-same-length-6 (read-condition-claims t) (read-condition-at t) read-condition.Post
+read-condition-same-length-6 : (t : ℕ) → read-condition-lts.Need-shape_of-kids-then-is_join (read-condition-claims t) (read-condition-at t) read-condition.Post
 read-condition-same-length-6 t c =
     let x5 = c.before.before.before.before.before in
     let start = x5.before.before.before.before.before.before.before.before.before.before.before.before.before.before.before.before in
-    x5.kids2.given ∙ start.kids.given
+    x5.kids-then-is_join-1.given ∙ start.kids-1.given
 
-read-condition-same-length-7 : (t : ℕ) → read-condition-lts.Need-same-length-7 (read-condition-claims t) (read-condition-at t) read-condition.Post
-read-condition-same-length-7 t c = c.before.before.before.companions2.given ∙ c.before.before.before.before.before.before.before.before.before.before.before.before.before.before.before.before.before.before.before.companions.given
+read-condition-same-length-7 : (t : ℕ) → read-condition-lts.Need-shape_of-companions-then-is_join (read-condition-claims t) (read-condition-at t) read-condition.Post
+read-condition-same-length-7 t c = c.companions-then-is_join-1.given ∙ c.companions-1.given
 
-read-condition-same-length-8 : (t : ℕ) → read-condition-lts.Need-same-length-8 (read-condition-claims t) (read-condition-at t) read-condition.Post
-read-condition-same-length-8 t c = c.before.list2.given ∙ c.before.before.before.before.before.before.before.before.before.before.before.before.before.before.before.before.before.list.given
+read-condition-same-length-8 : (t : ℕ) → read-condition-lts.Need-shape_of-list-then-is_join (read-condition-claims t) (read-condition-at t) read-condition.Post
+read-condition-same-length-8 t c = c.list-then-is_join-1.given ∙ c.list-1.given
 
-read-condition-returns-3 : (t : ℕ) → read-condition-lts.Need-returns-3 (read-condition-claims t) (read-condition-at t) read-condition.Post
+read-condition-returns-3 : (t : ℕ) → read-condition-lts.Need-returns-then-is_join (read-condition-claims t) (read-condition-at t) read-condition.Post
 read-condition-returns-3 t c =
     let x8 = c.before.before.before.before.before.before.before.before in
     let x13 = x8.before.before.before.before.before in
@@ -119,34 +119,34 @@ read-condition-returns-3 t c =
     let x32 = x31.before in
     let x33 = x32.before in
     let x35 = x33.before.before in
-    let start = x35.before.before.before.before.before in
+    let start = x35.before.before.before.before.before.before in
     read_join start.args.ws.now start.args.val.now start.args.known start.args.b start.args.i start.args.neg start.args.r _ _
-    x35.if1.false _ x33.kind-of.ensures (sym x32.is_join.ensures ∙ x31.if2.true) _ _ x29.index_of.ensures x13.index-of2.ensures _ _ _ _ _
-    x24.read-condition.ensures _ _ _ _ _ x15.if3.false x8.read-condition2.ensures
+    x35.if-b-i.false _ x33.kind_of-k.ensures (sym x32.is_join.ensures ∙ x31.if-is_join.true) _ _ x29.index_of-l.ensures x13.index_of-q.ensures _ _ _ _ _
+    x24.read_condition-mid.ensures _ _ _ _ _ x15.if-mid.false x8.read_condition.ensures
 
 read-condition-read-condition-requires-3 :
-    (t : ℕ) → read-condition-lts.Need-read-condition-requires-3 (read-condition-claims t) (read-condition-at t) read-condition.Post
+    (t : ℕ) → read-condition-lts.Need-read_condition-requires-then-is_not (read-condition-claims t) (read-condition-at t) read-condition.Post
 read-condition-read-condition-requires-3 t c κs = (
-  omega (arith, c.before.before.before.before.before.before.before.before.before.before.before.before.before.before.before.before.before.requires.0, c.before.before.before.before.before.before.before.before.before.before.before.before.if1.false),
+  omega (arith, c.requires.0, c.if-b-i.false),
   (
-    omega (arith, c.before.before.before.before.before.before.before.before.before.before.before.before.before.before.before.before.before.requires.1.0, c.before.before.before.before.before.before.before.before.before.before.before.before.if1.false),
-    c.before.before.before.before.before.before.before.before.before.before.before.before.before.before.before.before.before.requires.1.1,
+    omega (arith, c.requires.1.0, c.if-b-i.false),
+    c.requires.1.1,
   ),
 )
 
-read-condition-same-length-9 : (t : ℕ) → read-condition-lts.Need-same-length-9 (read-condition-claims t) (read-condition-at t) read-condition.Post
-read-condition-same-length-9 t c = c.before.before.before.before.before.before.before.keys3.given
+read-condition-same-length-9 : (t : ℕ) → read-condition-lts.Need-shape_of-keys-then-is_not (read-condition-claims t) (read-condition-at t) read-condition.Post
+read-condition-same-length-9 t c = c.keys-then-is_not-1.given
 
-read-condition-same-length-10 : (t : ℕ) → read-condition-lts.Need-same-length-10 (read-condition-claims t) (read-condition-at t) read-condition.Post
-read-condition-same-length-10 t c = c.before.before.before.before.before.kids3.given
+read-condition-same-length-10 : (t : ℕ) → read-condition-lts.Need-shape_of-kids-then-is_not (read-condition-claims t) (read-condition-at t) read-condition.Post
+read-condition-same-length-10 t c = c.kids-then-is_not-1.given
 
-read-condition-same-length-11 : (t : ℕ) → read-condition-lts.Need-same-length-11 (read-condition-claims t) (read-condition-at t) read-condition.Post
-read-condition-same-length-11 t c = c.before.before.before.companions3.given
+read-condition-same-length-11 : (t : ℕ) → read-condition-lts.Need-shape_of-companions-then-is_not (read-condition-claims t) (read-condition-at t) read-condition.Post
+read-condition-same-length-11 t c = c.companions-then-is_not-1.given
 
-read-condition-same-length-12 : (t : ℕ) → read-condition-lts.Need-same-length-12 (read-condition-claims t) (read-condition-at t) read-condition.Post
-read-condition-same-length-12 t c = c.before.list3.given
+read-condition-same-length-12 : (t : ℕ) → read-condition-lts.Need-shape_of-list-then-is_not (read-condition-claims t) (read-condition-at t) read-condition.Post
+read-condition-same-length-12 t c = c.list-then-is_not-1.given
 
-read-condition-returns-4 : (t : ℕ) → read-condition-lts.Need-returns-4 (read-condition-claims t) (read-condition-at t) read-condition.Post
+read-condition-returns-4 : (t : ℕ) → read-condition-lts.Need-returns-then-is_not (read-condition-claims t) (read-condition-at t) read-condition.Post
 read-condition-returns-4 t c =
     let x8 = c.before.before.before.before.before.before.before.before in
     let x13 = x8.before.before.before.before.before in
@@ -154,23 +154,23 @@ read-condition-returns-4 t c =
     let x16 = x15.before in
     let x19 = x16.before.before.before in
     let x21 = x19.before.before in
-    let start = x21.before.before.before.before.before in
+    let start = x21.before.before.before.before.before.before in
     read_not start.args.ws.now start.args.val.now start.args.known start.args.b start.args.i start.args.neg start.args.r _ _
-    x21.if1.false _ x19.kind-of.ensures (sym x16.is-not.ensures ∙ x15.if4.true) _ _ _ _ _ _ x13.index-of3.ensures x8.read-condition3.ensures
+    x21.if-b-i.false _ x19.kind_of-k.ensures (sym x16.is_not.ensures ∙ x15.if-is_not.true) _ _ _ _ _ _ x13.index_of-l-then-is_not.ensures x8.read_condition-then-is_not.ensures
 
-read-condition-same-length-13 : (t : ℕ) → read-condition-lts.Need-same-length-13 (read-condition-claims t) (read-condition-at t) read-condition.Post
-read-condition-same-length-13 t c = c.before.before.before.before.before.before.before.keys4.given
+read-condition-same-length-13 : (t : ℕ) → read-condition-lts.Need-shape_of-keys (read-condition-claims t) (read-condition-at t) read-condition.Post
+read-condition-same-length-13 t c = c.keys-2-1.given
 
-read-condition-same-length-14 : (t : ℕ) → read-condition-lts.Need-same-length-14 (read-condition-claims t) (read-condition-at t) read-condition.Post
-read-condition-same-length-14 t c = c.before.before.before.before.before.kids4.given
+read-condition-same-length-14 : (t : ℕ) → read-condition-lts.Need-shape_of-kids (read-condition-claims t) (read-condition-at t) read-condition.Post
+read-condition-same-length-14 t c = c.kids-2-1.given
 
-read-condition-same-length-15 : (t : ℕ) → read-condition-lts.Need-same-length-15 (read-condition-claims t) (read-condition-at t) read-condition.Post
-read-condition-same-length-15 t c = c.before.before.before.companions4.given
+read-condition-same-length-15 : (t : ℕ) → read-condition-lts.Need-shape_of-companions (read-condition-claims t) (read-condition-at t) read-condition.Post
+read-condition-same-length-15 t c = c.companions-2-1.given
 
-read-condition-same-length-16 : (t : ℕ) → read-condition-lts.Need-same-length-16 (read-condition-claims t) (read-condition-at t) read-condition.Post
-read-condition-same-length-16 t c = c.before.list4.given
+read-condition-same-length-16 : (t : ℕ) → read-condition-lts.Need-shape_of-list (read-condition-claims t) (read-condition-at t) read-condition.Post
+read-condition-same-length-16 t c = c.list-2-1.given
 
-read-condition-returns-5 : (t : ℕ) → read-condition-lts.Need-returns-5 (read-condition-claims t) (read-condition-at t) read-condition.Post
+read-condition-returns-5 : (t : ℕ) → read-condition-lts.Need-returns (read-condition-claims t) (read-condition-at t) read-condition.Post
 read-condition-returns-5 t c =
     let x8 = c.before.before.before.before.before.before.before.before in
     let x13 = x8.before.before.before.before.before in
@@ -179,13 +179,14 @@ read-condition-returns-5 t c =
     let x16 = x15.before in
     let x17 = x16.before in
     let x19 = x17.before.before in
-    let start = x19.before.before.before.before.before in
+    let start = x19.before.before.before.before.before.before in
     read_single start.args.ws.now start.args.val.now start.args.known start.args.b start.args.i start.args.neg start.args.r _ _
-    x19.if1.false _ x17.kind-of.ensures (sym x16.is_join.ensures ∙ x15.if2.false) (sym x14.is-not.ensures ∙ x13.if4.false) _ _ _ _ _
-    x8.read-leaf.ensures
+    x19.if-b-i.false _ x17.kind_of-k.ensures (sym x16.is_join.ensures ∙ x15.if-is_join.false) (sym x14.is_not.ensures ∙ x13.if-is_not.false) _ _ _ _ _
+    x8.read_leaf.ensures
 
-pub +read-condition-spec : {M : Type 1} → statement M
-+read-condition-spec = close μ-read-condition λ t. read-condition-lts.spec (read-condition-claims t)
+pub +read_condition_spec : {M : Type 1} → statement M
++read_condition_spec = close μ-read-condition λ t. read-condition-lts.spec
+    (read-condition-claims t)
     (read-condition-at t)
     read-condition.Post
     (read-condition-returns t)

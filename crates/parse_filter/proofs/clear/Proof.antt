@@ -5,115 +5,84 @@ use Rattle.parse_filter.proofs.Walking.{cell_at, part_at, Clearing, clearing_sta
 use Rattle.parse_filter.proofs.clear.Statement.{statement}
 use Rattle.parse_filter.proofs.clear.Tie as tie
 
-abbrev invariant-loop : tie.invariant-loop
+abbrev invariant-loop : tie.invariant-loop-c
 invariant-loop cells list companions seen₀ first c₀ seen c = Clearing companions cells list seen₀ first seen c
 
-abbrev decreases-loop : tie.decreases-loop
+abbrev decreases-loop : tie.decreases-loop-c
 decreases-loop cells list companions seen₀ first c₀ seen c = c
 
-loop-holds : tie.Need-loop-init invariant-loop decreases-loop
+loop-holds : tie.Need-loop-c-init invariant-loop decreases-loop
 loop-holds c =
-    let s = c.before.before.before.before in
-    clearing_start s.args.companions.now s.args.cells.now s.args.list.now s.args.seen.now s.args.first s.requires
+    clearing_start c.args.companions.now c.args.cells.now c.args.list.now c.args.seen.now c.args.first c.requires
 
-sub-j : tie.Need-overflow-sub-j invariant-loop decreases-loop
-sub-j c = omega (arith, c.loop-test.true)
+sub-j : tie.Need-overflow_sub-j invariant-loop decreases-loop
+sub-j c = omega (arith, c.loop-c-test.true)
 
-mul-index-of : tie.Need-overflow-mul-index-of invariant-loop decreases-loop
+mul-index-of : tie.Need-overflow_mul-j invariant-loop decreases-loop
 mul-index-of c =
-    let l = c.before.before in
-    let s = l.before.before.before.before.before in
-    omega (arith, (cell_at _ _ _ _ _ s.requires l.loop.c (omega (arith, c.before.loop-test.true)) l.loop.invariant.low).row)
+    omega (arith, (cell_at _ _ _ _ _ c.requires c.loop-c.c (omega (arith, c.loop-c-test.true)) c.loop-c.invariant.low).row)
 
-add-index-of : tie.Need-overflow-add-index-of invariant-loop decreases-loop
+add-index-of : tie.Need-overflow_add-j invariant-loop decreases-loop
 add-index-of c =
-    let l = c.before.before in
-    let s = l.before.before.before.before.before in
-    omega (arith, (cell_at _ _ _ _ _ s.requires l.loop.c (omega (arith, c.before.loop-test.true)) l.loop.invariant.low).row)
+    omega (arith, (cell_at _ _ _ _ _ c.requires c.loop-c.c (omega (arith, c.loop-c-test.true)) c.loop-c.invariant.low).row)
 
-mul-index-of-2 : tie.Need-overflow-mul-index-of-2 invariant-loop decreases-loop
+mul-index-of-2 : tie.Need-offset_bounds-cells-j invariant-loop decreases-loop
 mul-index-of-2 c =
-    let l = c.before.before in
-    let s = l.before.before.before.before.before in
-    omega (arith, (cell_at _ _ _ _ _ s.requires l.loop.c (omega (arith, c.before.loop-test.true)) l.loop.invariant.low).row)
+    omega (arith, (cell_at _ _ _ _ _ c.requires c.loop-c.c (omega (arith, c.loop-c-test.true)) c.loop-c.invariant.low).row)
 
-shared-slice-read-index-of : tie.Need-shared-slice-read-index-of invariant-loop decreases-loop
+shared-slice-read-index-of : tie.Need-bounds-cells-j invariant-loop decreases-loop
 shared-slice-read-index-of c =
-    let l = c.before.before.before in
-    let s = l.before.before.before.before.before in
-    omega (arith, (cell_at _ _ _ _ _ s.requires l.loop.c (omega (arith, c.before.before.loop-test.true)) l.loop.invariant.low).row)
+    omega (arith, (cell_at _ _ _ _ _ c.requires c.loop-c.c (omega (arith, c.loop-c-test.true)) c.loop-c.invariant.low).row)
 
-mul-index-of-3 : tie.Need-overflow-mul-index-of-3 invariant-loop decreases-loop
+mul-index-of-3 : tie.Need-overflow_mul-j-in-loop-c invariant-loop decreases-loop
 mul-index-of-3 c =
-    let l = c.before.before.before.before in
-    let s = l.before.before.before.before.before in
-    omega (arith, (cell_at _ _ _ _ _ s.requires l.loop.c (omega (arith, c.before.before.before.loop-test.true)) l.loop.invariant.low).row)
+    omega (arith, (cell_at _ _ _ _ _ c.requires c.loop-c.c (omega (arith, c.loop-c-test.true)) c.loop-c.invariant.low).row)
 
-add-index-of-2 : tie.Need-overflow-add-index-of-2 invariant-loop decreases-loop
+add-index-of-2 : tie.Need-overflow_add-j-in-loop-c invariant-loop decreases-loop
 add-index-of-2 c =
-    let l = c.before.before.before.before in
-    let s = l.before.before.before.before.before in
-    omega (arith, (cell_at _ _ _ _ _ s.requires l.loop.c (omega (arith, c.before.before.before.loop-test.true)) l.loop.invariant.low).row)
+    omega (arith, (cell_at _ _ _ _ _ c.requires c.loop-c.c (omega (arith, c.loop-c-test.true)) c.loop-c.invariant.low).row)
 
-mul-index-of-4 : tie.Need-overflow-mul-index-of-4 invariant-loop decreases-loop
+mul-index-of-4 : tie.Need-offset_bounds-cells-j-in-loop-c invariant-loop decreases-loop
 mul-index-of-4 c =
-    let l = c.before.before.before.before in
-    let s = l.before.before.before.before.before in
-    omega (arith, (cell_at _ _ _ _ _ s.requires l.loop.c (omega (arith, c.before.before.before.loop-test.true)) l.loop.invariant.low).row)
+    omega (arith, (cell_at _ _ _ _ _ c.requires c.loop-c.c (omega (arith, c.loop-c-test.true)) c.loop-c.invariant.low).row)
 
-shared-slice-read-index-of-2 : tie.Need-shared-slice-read-index-of-2 invariant-loop decreases-loop
+shared-slice-read-index-of-2 : tie.Need-bounds-cells-j-in-loop-c invariant-loop decreases-loop
 shared-slice-read-index-of-2 c =
-    let l = c.before.before.before.before.before in
-    let s = l.before.before.before.before.before in
-    omega (arith, (cell_at _ _ _ _ _ s.requires l.loop.c (omega (arith, c.before.before.before.before.loop-test.true)) l.loop.invariant.low).row)
+    omega (arith, (cell_at _ _ _ _ _ c.requires c.loop-c.c (omega (arith, c.loop-c-test.true)) c.loop-c.invariant.low).row)
 
-sub-clear-part : tie.Need-overflow-sub-clear-part invariant-loop decreases-loop
-sub-clear-part c = omega (arith, c.before.before.before.before.before.loop-test.true)
+sub-clear-part : tie.Need-overflow_sub-c invariant-loop decreases-loop
+sub-clear-part c = omega (arith, c.loop-c-test.true)
 
-clear-part-requires : tie.Need-clear-part-requires invariant-loop decreases-loop
+clear-part-requires : tie.Need-clear_part-requires invariant-loop decreases-loop
 clear-part-requires c κs =
-    let l = c.before.before.before.before.before.before in
-    let s = l.before.before.before.before.before in
-    rw (l.loop.invariant.size, c.before.before.index_of.ensures, c.index-of2.ensures) (part_at _ _ _ _ _ s.requires l.loop.c (omega (arith, c.before.before.before.before.before.loop-test.true)) l.loop.invariant.low)
+    rw (c.loop-c.invariant.size, c.index_of.ensures, c.index_of-in-loop-c.ensures) (part_at _ _ _ _ _ c.requires c.loop-c.c (omega (arith, c.loop-c-test.true)) c.loop-c.invariant.low)
 
-mul-index-of-5 : tie.Need-overflow-mul-index-of-5 invariant-loop decreases-loop
+mul-index-of-5 : tie.Need-overflow_mul-j-in-loop-c-2 invariant-loop decreases-loop
 mul-index-of-5 c =
-    let l = c.before.before.before.before.before.before.before.before.before in
-    let s = l.before.before.before.before.before in
-    omega (arith, (cell_at _ _ _ _ _ s.requires l.loop.c (omega (arith, c.before.before.before.before.before.before.before.before.loop-test.true)) l.loop.invariant.low).row)
+    omega (arith, (cell_at _ _ _ _ _ c.requires c.loop-c.c (omega (arith, c.loop-c-test.true)) c.loop-c.invariant.low).row)
 
-mul-index-of-6 : tie.Need-overflow-mul-index-of-6 invariant-loop decreases-loop
+mul-index-of-6 : tie.Need-offset_bounds-cells-j-in-loop-c-2 invariant-loop decreases-loop
 mul-index-of-6 c =
-    let l = c.before.before.before.before.before.before.before.before.before in
-    let s = l.before.before.before.before.before in
-    omega (arith, (cell_at _ _ _ _ _ s.requires l.loop.c (omega (arith, c.before.before.before.before.before.before.before.before.loop-test.true)) l.loop.invariant.low).row)
+    omega (arith, (cell_at _ _ _ _ _ c.requires c.loop-c.c (omega (arith, c.loop-c-test.true)) c.loop-c.invariant.low).row)
 
-shared-slice-read-index-of-3 : tie.Need-shared-slice-read-index-of-3 invariant-loop decreases-loop
+shared-slice-read-index-of-3 : tie.Need-bounds-cells-j-in-loop-c-2 invariant-loop decreases-loop
 shared-slice-read-index-of-3 c =
-    let l = c.before.before.before.before.before.before.before.before.before.before in
-    let s = l.before.before.before.before.before in
-    omega (arith, (cell_at _ _ _ _ _ s.requires l.loop.c (omega (arith, c.before.before.before.before.before.before.before.before.before.loop-test.true)) l.loop.invariant.low).row)
+    omega (arith, (cell_at _ _ _ _ _ c.requires c.loop-c.c (omega (arith, c.loop-c-test.true)) c.loop-c.invariant.low).row)
 
-loop-less : tie.Need-loop-smaller invariant-loop decreases-loop
+loop-less : tie.Need-loop-c-smaller invariant-loop decreases-loop
 loop-less c =
-    let l = c.before.before.before.before.before.before.before.before.before.before.before in
-    let s = l.before.before.before.before.before in
-    rw c.index-of3.ensures (cell_at _ _ _ _ _ s.requires l.loop.c (omega (arith, c.before.before.before.before.before.before.before.before.before.before.loop-test.true)) l.loop.invariant.low).lower
+    rw c.index_of-c.ensures (cell_at _ _ _ _ _ c.requires c.loop-c.c (omega (arith, c.loop-c-test.true)) c.loop-c.invariant.low).lower
 
-loop-again : tie.Need-loop-preserved invariant-loop decreases-loop
+loop-again : tie.Need-loop-c-preserved invariant-loop decreases-loop
 loop-again c =
-    let l = c.before.before.before.before.before.before.before.before.before.before.before in
-    let s = l.before.before.before.before.before in
-    clearing_on _ _ _ _ _ s.requires _ l.loop.c l.loop.invariant c.before.before.before.before.before.before.before.before.before.before.loop-test.true _ _ _ c.before.before.before.before.before.before.before.index_of.ensures c.before.before.before.before.before.index-of2.ensures c.index-of3.ensures _ c.before.before.before.seen.given c.before.before.before.before.clear-part.ensures
+    clearing_on _ _ _ _ _ c.requires _ c.loop-c.c c.loop-c.invariant c.loop-c-test.true _ _ _ c.index_of.ensures c.index_of-in-loop-c.ensures c.index_of-c.ensures _ c.seen-1.given c.clear_part.ensures
 
-same_length : tie.Need-same-length invariant-loop decreases-loop
-same_length c = c.before.loop.invariant.size
+same_length : tie.Need-shape_of-seen invariant-loop decreases-loop
+same_length c = c.loop-c.invariant.size
 
 returns : tie.Need-returns invariant-loop decreases-loop
 returns c =
-    let l = c.before in
-    let s = l.before.before.before.before.before in
-    clearing_end _ _ _ _ _ s.requires _ l.loop.c l.loop.invariant c.loop-test.false
+    clearing_end _ _ _ _ _ c.requires _ c.loop-c.c c.loop-c.invariant c.loop-c-test.false
 
 pub clear_spec : {M : Type 1} → statement M
 clear_spec =

@@ -10,62 +10,53 @@ use Rattle.parse_filter.proofs.Marking.{part_none, unmarks_none, signed_place, c
 use Rattle.parse_filter.proofs.clear_part.Statement.{statement}
 use Rattle.parse_filter.proofs.clear_part.Tie as tie
 
-abbrev invariant-loop : tie.invariant-loop
+abbrev invariant-loop : tie.invariant-loop-j
 invariant-loop list companions seen₀ from to neg j₀ seen j = ((from ≤ j) × (j ≤ to)) × (Unmarks seen₀ (signed_part companions list neg from j) seen × (length seen ≡ length seen₀))
 
-abbrev decreases-loop : tie.decreases-loop
+abbrev decreases-loop : tie.decreases-loop-j
 decreases-loop list companions seen₀ from to neg j₀ seen j = to - j
 
-loop-holds : tie.Need-loop-init invariant-loop decreases-loop
+loop-holds : tie.Need-loop-j-init invariant-loop decreases-loop
 loop-holds c =
-    let s = c.before.before.before in
-    ((omega arith, s.requires.low), (rw part_none (unmarks_none s.args.seen.now), refl))
+    ((omega arith, c.requires.low), (rw part_none (unmarks_none c.args.seen.now), refl))
 
-shared-slice-read-signed-entry : tie.Need-shared-slice-read-signed-entry invariant-loop decreases-loop
+shared-slice-read-signed-entry : tie.Need-bounds-list-j invariant-loop decreases-loop
 shared-slice-read-signed-entry c =
-    let s = c.before.before.before.before.before.before in
-    omega (arith, c.before.loop-test.true, s.requires.high)
+    omega (arith, c.loop-j-test.true, c.requires.high)
 
-signed-entry-requires : tie.Need-signed-entry-requires invariant-loop decreases-loop
+signed-entry-requires : tie.Need-signed_entry-requires invariant-loop decreases-loop
 signed-entry-requires c κs =
-    let l = c.before.before in
-    let s = l.before.before.before.before in
-    s.requires.other l.loop.j l.loop.invariant.0.0 c.before.loop-test.true
+    c.requires.other c.loop-j.j c.loop-j.invariant.0.0 c.loop-j-test.true
 
-slice-write-seen : tie.Need-slice-write-seen invariant-loop decreases-loop
+slice-write-seen : tie.Need-bounds-seen-index_of invariant-loop decreases-loop
 slice-write-seen c =
-    let l = c.before.before.before.before in
-    let s = l.before.before.before.before in
-    rw (c.index_of.ensures, c.before.signed-entry.ensures, l.loop.invariant.1.1)
-    (signed_place s.args.companions.now s.args.list.now (length s.args.seen.now) s.args.from s.args.to s.args.neg l.loop.j s.requires l.loop.invariant.0.0 c.before.before.before.loop-test.true)
+    rw (c.index_of.ensures, c.signed_entry.ensures, c.loop-j.invariant.1.1)
+    (signed_place c.args.companions.now c.args.list.now (length c.args.seen.now) c.args.from c.args.to c.args.neg c.loop-j.j c.requires c.loop-j.invariant.0.0 c.loop-j-test.true)
 
-loop-less : tie.Need-loop-smaller invariant-loop decreases-loop
-loop-less c = omega (arith, c.before.before.before.loop-test.true)
+loop-less : tie.Need-loop-j-smaller invariant-loop decreases-loop
+loop-less c = omega (arith, c.loop-j-test.true)
 
-loop-again : tie.Need-loop-preserved invariant-loop decreases-loop
+loop-again : tie.Need-loop-j-preserved invariant-loop decreases-loop
 loop-again c =
-    let l = c.before.before.before.before in
-    let s = l.before.before.before.before in (
-      (omega (arith, l.loop.invariant.0.0), omega (arith, c.before.before.before.loop-test.true)),
+    (
+      (omega (arith, c.loop-j.invariant.0.0), omega (arith, c.loop-j-test.true)),
       (
-        rw (c.index_of.ensures, c.before.signed-entry.ensures)
-            (cleared_on s.args.companions.now s.args.list.now s.args.seen.now s.args.from s.args.to s.args.neg l.loop.j s.requires l.loop.invariant.0.0 c.before.before.before.loop-test.true l.loop.seen l.loop.invariant.1.1 l.loop.invariant.1.0),
-        simp length-set l.loop.invariant.1.1,
+        rw (c.index_of.ensures, c.signed_entry.ensures)
+            (cleared_on c.args.companions.now c.args.list.now c.args.seen.now c.args.from c.args.to c.args.neg c.loop-j.j c.requires c.loop-j.invariant.0.0 c.loop-j-test.true c.loop-j.seen c.loop-j.invariant.1.1 c.loop-j.invariant.1.0),
+        simp length-set c.loop-j.invariant.1.1,
       ),
     )
 
-same_length : tie.Need-same-length invariant-loop decreases-loop
-same_length c = c.before.loop.invariant.1.1
+same_length : tie.Need-shape_of-seen invariant-loop decreases-loop
+same_length c = c.loop-j.invariant.1.1
 
 returns : tie.Need-returns invariant-loop decreases-loop
 returns c =
-    let l = c.before in
-    let s = l.before.before.before.before in
-    let z : l.loop.j ≡ s.args.to = omega (arith, c.loop-test.false, l.loop.invariant.0.1) in
-    rw z at l.loop.invariant.1.0
+    let z : c.loop-j.j ≡ c.args.to = omega (arith, c.loop-j-test.false, c.loop-j.invariant.0.1) in
+    rw z at c.loop-j.invariant.1.0
 
-pub clear-part-spec : {M : Type 1} → statement M
-clear-part-spec =
+pub clear_part_spec : {M : Type 1} → statement M
+clear_part_spec =
     tie.close
     (tie.spec
     invariant-loop

@@ -7,70 +7,56 @@ use Rattle.parse_filter.proofs.Sifting.{Coding, coding_start, coding_end, coding
 use Rattle.parse_filter.proofs.companion_codes.Statement.{statement}
 use Rattle.parse_filter.proofs.companion_codes.Tie as tie
 
-abbrev invariant-loop : tie.invariant-loop
+abbrev invariant-loop : tie.invariant-loop-i
 invariant-loop keys companions alive n codes₀ len₀ i₀ codes len i = Coding keys companions alive codes n len i
 
-abbrev decreases-loop : tie.decreases-loop
+abbrev decreases-loop : tie.decreases-loop-i
 decreases-loop keys companions alive n codes₀ len₀ i₀ codes len i = n - i
 
-loop-holds : tie.Need-loop-init invariant-loop decreases-loop
+loop-holds : tie.Need-loop-i-init invariant-loop decreases-loop
 loop-holds c =
-    let s = c.before.before.before in
-    coding_start s.args.keys.now s.args.companions.now s.args.alive.now s.args.n s.requires.held s.args.codes.now
+    coding_start c.args.keys.now c.args.companions.now c.args.alive.now c.args.n c.requires.held c.args.codes.now
 
-shared-slice-read-index-of : tie.Need-shared-slice-read-index-of invariant-loop decreases-loop
+shared-slice-read-index-of : tie.Need-bounds-alive-i invariant-loop decreases-loop
 shared-slice-read-index-of c =
-    let s = c.before.before.before.before.before.before.before in
-    omega (arith, c.before.before.loop-test.true, s.requires.held)
+    omega (arith, c.loop-i-test.true, c.requires.held)
 
-mul-entry-code : tie.Need-overflow-mul-entry-code invariant-loop decreases-loop
+mul-entry-code : tie.Need-offset_bounds-companions-index_of invariant-loop decreases-loop
 mul-entry-code c =
-    let l = c.before.before.before.before in
-    let s = l.before.before.before.before in
-    let h : c.index_of.result < length s.args.companions.now = rw c.index_of.ensures (s.requires.entry l.loop.i c.before.before.before.loop-test.true) in
+    let h : c.index_of.result < length c.args.companions.now = rw c.index_of.ensures (c.requires.entry c.loop-i.i c.loop-i-test.true) in
     omega arith
 
-shared-slice-read-entry-code : tie.Need-shared-slice-read-entry-code invariant-loop decreases-loop
+shared-slice-read-entry-code : tie.Need-bounds-companions-index_of invariant-loop decreases-loop
 shared-slice-read-entry-code c =
-    let l = c.before.before.before.before.before in
-    let s = l.before.before.before.before in
-    rw c.before.index_of.ensures (s.requires.entry l.loop.i c.before.before.before.before.loop-test.true)
+    rw c.index_of.ensures (c.requires.entry c.loop-i.i c.loop-i-test.true)
 
-entry-code-requires : tie.Need-entry-code-requires invariant-loop decreases-loop
+entry-code-requires : tie.Need-entry_code-requires invariant-loop decreases-loop
 entry-code-requires c κs =
-    let l = c.before.before.before.before.before in
-    let s = l.before.before.before.before in
-    rw c.before.index_of.ensures (s.requires.key l.loop.i c.before.before.before.before.loop-test.true, s.requires.small l.loop.i c.before.before.before.before.loop-test.true)
+    rw c.index_of.ensures (c.requires.key c.loop-i.i c.loop-i-test.true, c.requires.small c.loop-i.i c.loop-i-test.true)
 
-insert-in-requires : tie.Need-insert-in-requires invariant-loop decreases-loop
-insert-in-requires c κs = c.before.before.before.before.before.before.loop.invariant.few
+insert-in-requires : tie.Need-insert_in-len-requires invariant-loop decreases-loop
+insert-in-requires c κs = c.loop-i.invariant.few
 
-returns : tie.Need-returns invariant-loop decreases-loop
+returns : tie.Need-returns-then-len-gt-ENTRIES invariant-loop decreases-loop
 returns c =
-    let l = c.before.before.before.before.before.before.before.before in
-    let s = l.before.before.before.before in
-    coding_full _ _ _ _ s.requires.held _ l.loop.len l.loop.i l.loop.invariant c.before.before.before.before.before.before.before.loop-test.true _ (rw (← c.before.before.before.before.index_of.ensures) c.before.before.entry-code.ensures) _ _ c.before.insert-in.ensures c.if1.true
+    coding_full _ _ _ _ c.requires.held _ c.loop-i.len c.loop-i.i c.loop-i.invariant c.loop-i-test.true _ (rw (← c.index_of.ensures) c.entry_code.ensures) _ _ c.insert_in-len.ensures c.if-len-gt-ENTRIES.true
 
-add-i : tie.Need-overflow-add-i invariant-loop decreases-loop
-add-i c = omega (arith, c.before.before.before.before.before.before.before.loop-test.true)
+add-i : tie.Need-overflow_add-i invariant-loop decreases-loop
+add-i c = omega (arith, c.loop-i-test.true)
 
-loop-less : tie.Need-loop-smaller invariant-loop decreases-loop
-loop-less c = omega (arith, c.before.before.before.before.before.before.before.loop-test.true)
+loop-less : tie.Need-loop-i-smaller invariant-loop decreases-loop
+loop-less c = omega (arith, c.loop-i-test.true)
 
-loop-again : tie.Need-loop-preserved invariant-loop decreases-loop
+loop-again : tie.Need-loop-i-preserved invariant-loop decreases-loop
 loop-again c =
-    let l = c.before.before.before.before.before.before.before.before in
-    let s = l.before.before.before.before in
-    coding_on _ _ _ _ s.requires.held _ l.loop.len l.loop.i l.loop.invariant c.before.before.before.before.before.before.before.loop-test.true _ (rw (← c.before.before.before.before.index_of.ensures) c.before.before.entry-code.ensures) _ _ c.before.insert-in.ensures c.if1.false
+    coding_on _ _ _ _ c.requires.held _ c.loop-i.len c.loop-i.i c.loop-i.invariant c.loop-i-test.true _ (rw (← c.index_of.ensures) c.entry_code.ensures) _ _ c.insert_in-len.ensures c.if-len-gt-ENTRIES.false
 
-returns-2 : tie.Need-returns-2 invariant-loop decreases-loop
+returns-2 : tie.Need-returns invariant-loop decreases-loop
 returns-2 c =
-    let l = c.before in
-    let s = l.before.before.before.before in
-    coding_end _ _ _ _ s.requires.held _ l.loop.len l.loop.i l.loop.invariant c.loop-test.false
+    coding_end _ _ _ _ c.requires.held _ c.loop-i.len c.loop-i.i c.loop-i.invariant c.loop-i-test.false
 
-pub companion-codes-spec : {M : Type 1} → statement M
-companion-codes-spec =
+pub companion_codes_spec : {M : Type 1} → statement M
+companion_codes_spec =
     tie.close
     (tie.spec
     invariant-loop

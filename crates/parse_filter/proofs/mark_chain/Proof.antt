@@ -5,123 +5,92 @@ use Rattle.parse_filter.proofs.Walking.{cell_at, part_at, Walking, walking_start
 use Rattle.parse_filter.proofs.mark_chain.Statement.{statement}
 use Rattle.parse_filter.proofs.mark_chain.Tie as tie
 
-abbrev invariant-loop : tie.invariant-loop
+abbrev invariant-loop : tie.invariant-loop-c
 invariant-loop cells list companions seen₀ alive₀ first below a₀ c₀ seen alive a c = Walking companions cells list seen₀ alive₀ first below a₀ seen alive a c
 
-abbrev decreases-loop : tie.decreases-loop
+abbrev decreases-loop : tie.decreases-loop-c
 decreases-loop cells list companions seen₀ alive₀ first below a₀ c₀ seen alive a c = c
 
-loop-holds : tie.Need-loop-init invariant-loop decreases-loop
+loop-holds : tie.Need-loop-c-init invariant-loop decreases-loop
 loop-holds c =
-    let s = c.before.before.before.before.before.before.before in
-    walking_start s.args.companions.now s.args.cells.now s.args.list.now s.args.seen.now s.args.alive.now s.args.first c.before.index_of.result c.index-of2.result s.requires.walk
-    (rw c.before.index_of.ensures s.requires.stands) (rw (c.before.index_of.ensures, c.index-of2.ensures) s.requires.few)
+    walking_start c.args.companions.now c.args.cells.now c.args.list.now c.args.seen.now c.args.alive.now c.args.first c.index_of-below.result c.index_of-a.result c.requires.walk
+    (rw c.index_of-below.ensures c.requires.stands) (rw (c.index_of-below.ensures, c.index_of-a.ensures) c.requires.few)
 
-sub-j : tie.Need-overflow-sub-j invariant-loop decreases-loop
-sub-j c = omega (arith, c.loop-test.true)
+sub-j : tie.Need-overflow_sub-j invariant-loop decreases-loop
+sub-j c = omega (arith, c.loop-c-test.true)
 
-sub-neg : tie.Need-overflow-sub-neg invariant-loop decreases-loop
-sub-neg c = omega (arith, c.loop-test.true)
+sub-neg : tie.Need-overflow_sub-neg invariant-loop decreases-loop
+sub-neg c = omega (arith, c.loop-c-test.true)
 
-mul-index-of : tie.Need-overflow-mul-index-of invariant-loop decreases-loop
+mul-index-of : tie.Need-overflow_mul-j invariant-loop decreases-loop
 mul-index-of c =
-    let l = c.before.before.before in
-    let s = l.before.before.before.before.before.before.before.before in
-    omega (arith, (cell_at _ _ _ _ _ s.requires.walk l.loop.c (omega (arith, c.before.before.loop-test.true)) l.loop.invariant.low).row)
+    omega (arith, (cell_at _ _ _ _ _ c.requires.walk c.loop-c.c (omega (arith, c.loop-c-test.true)) c.loop-c.invariant.low).row)
 
-add-index-of : tie.Need-overflow-add-index-of invariant-loop decreases-loop
+add-index-of : tie.Need-overflow_add-j invariant-loop decreases-loop
 add-index-of c =
-    let l = c.before.before.before in
-    let s = l.before.before.before.before.before.before.before.before in
-    omega (arith, (cell_at _ _ _ _ _ s.requires.walk l.loop.c (omega (arith, c.before.before.loop-test.true)) l.loop.invariant.low).row)
+    omega (arith, (cell_at _ _ _ _ _ c.requires.walk c.loop-c.c (omega (arith, c.loop-c-test.true)) c.loop-c.invariant.low).row)
 
-mul-index-of-2 : tie.Need-overflow-mul-index-of-2 invariant-loop decreases-loop
+mul-index-of-2 : tie.Need-offset_bounds-cells-j invariant-loop decreases-loop
 mul-index-of-2 c =
-    let l = c.before.before.before in
-    let s = l.before.before.before.before.before.before.before.before in
-    omega (arith, (cell_at _ _ _ _ _ s.requires.walk l.loop.c (omega (arith, c.before.before.loop-test.true)) l.loop.invariant.low).row)
+    omega (arith, (cell_at _ _ _ _ _ c.requires.walk c.loop-c.c (omega (arith, c.loop-c-test.true)) c.loop-c.invariant.low).row)
 
-shared-slice-read-index-of : tie.Need-shared-slice-read-index-of invariant-loop decreases-loop
+shared-slice-read-index-of : tie.Need-bounds-cells-j invariant-loop decreases-loop
 shared-slice-read-index-of c =
-    let l = c.before.before.before.before in
-    let s = l.before.before.before.before.before.before.before.before in
-    omega (arith, (cell_at _ _ _ _ _ s.requires.walk l.loop.c (omega (arith, c.before.before.before.loop-test.true)) l.loop.invariant.low).row)
+    omega (arith, (cell_at _ _ _ _ _ c.requires.walk c.loop-c.c (omega (arith, c.loop-c-test.true)) c.loop-c.invariant.low).row)
 
-mul-index-of-3 : tie.Need-overflow-mul-index-of-3 invariant-loop decreases-loop
+mul-index-of-3 : tie.Need-overflow_mul-j-in-loop-c invariant-loop decreases-loop
 mul-index-of-3 c =
-    let l = c.before.before.before.before.before in
-    let s = l.before.before.before.before.before.before.before.before in
-    omega (arith, (cell_at _ _ _ _ _ s.requires.walk l.loop.c (omega (arith, c.before.before.before.before.loop-test.true)) l.loop.invariant.low).row)
+    omega (arith, (cell_at _ _ _ _ _ c.requires.walk c.loop-c.c (omega (arith, c.loop-c-test.true)) c.loop-c.invariant.low).row)
 
-add-index-of-2 : tie.Need-overflow-add-index-of-2 invariant-loop decreases-loop
+add-index-of-2 : tie.Need-overflow_add-j-in-loop-c invariant-loop decreases-loop
 add-index-of-2 c =
-    let l = c.before.before.before.before.before in
-    let s = l.before.before.before.before.before.before.before.before in
-    omega (arith, (cell_at _ _ _ _ _ s.requires.walk l.loop.c (omega (arith, c.before.before.before.before.loop-test.true)) l.loop.invariant.low).row)
+    omega (arith, (cell_at _ _ _ _ _ c.requires.walk c.loop-c.c (omega (arith, c.loop-c-test.true)) c.loop-c.invariant.low).row)
 
-mul-index-of-4 : tie.Need-overflow-mul-index-of-4 invariant-loop decreases-loop
+mul-index-of-4 : tie.Need-offset_bounds-cells-j-in-loop-c invariant-loop decreases-loop
 mul-index-of-4 c =
-    let l = c.before.before.before.before.before in
-    let s = l.before.before.before.before.before.before.before.before in
-    omega (arith, (cell_at _ _ _ _ _ s.requires.walk l.loop.c (omega (arith, c.before.before.before.before.loop-test.true)) l.loop.invariant.low).row)
+    omega (arith, (cell_at _ _ _ _ _ c.requires.walk c.loop-c.c (omega (arith, c.loop-c-test.true)) c.loop-c.invariant.low).row)
 
-shared-slice-read-index-of-2 : tie.Need-shared-slice-read-index-of-2 invariant-loop decreases-loop
+shared-slice-read-index-of-2 : tie.Need-bounds-cells-j-in-loop-c invariant-loop decreases-loop
 shared-slice-read-index-of-2 c =
-    let l = c.before.before.before.before.before.before in
-    let s = l.before.before.before.before.before.before.before.before in
-    omega (arith, (cell_at _ _ _ _ _ s.requires.walk l.loop.c (omega (arith, c.before.before.before.before.before.loop-test.true)) l.loop.invariant.low).row)
+    omega (arith, (cell_at _ _ _ _ _ c.requires.walk c.loop-c.c (omega (arith, c.loop-c-test.true)) c.loop-c.invariant.low).row)
 
-mark-part-requires : tie.Need-mark-part-requires invariant-loop decreases-loop
+mark-part-requires : tie.Need-mark_part-a-requires invariant-loop decreases-loop
 mark-part-requires c κs =
-    let l = c.before.before.before.before.before.before.before in
-    let s = l.before.before.before.before.before.before.before.before in
-    rw (l.loop.invariant.size, c.before.before.index-of3.ensures, c.index-of4.ensures)
-    (part_at _ _ _ _ _ s.requires.walk l.loop.c (omega (arith, c.before.before.before.before.before.before.loop-test.true)) l.loop.invariant.low, walking_room _ _ _ _ _ _ _ _ s.requires.walk _ _ _ l.loop.c l.loop.invariant c.before.before.before.before.before.before.loop-test.true s.requires.space)
+    rw (c.loop-c.invariant.size, c.index_of.ensures, c.index_of-in-loop-c.ensures)
+    (part_at _ _ _ _ _ c.requires.walk c.loop-c.c (omega (arith, c.loop-c-test.true)) c.loop-c.invariant.low, walking_room _ _ _ _ _ _ _ _ c.requires.walk _ _ _ c.loop-c.c c.loop-c.invariant c.loop-c-test.true c.requires.space)
 
-mul-index-of-5 : tie.Need-overflow-mul-index-of-5 invariant-loop decreases-loop
+mul-index-of-5 : tie.Need-overflow_mul-j-in-loop-c-2 invariant-loop decreases-loop
 mul-index-of-5 c =
-    let l = c.before.before.before.before.before.before.before.before.before.before.before.before in
-    let s = l.before.before.before.before.before.before.before.before in
-    omega (arith, (cell_at _ _ _ _ _ s.requires.walk l.loop.c (omega (arith, c.before.before.before.before.before.before.before.before.before.before.before.loop-test.true)) l.loop.invariant.low).row)
+    omega (arith, (cell_at _ _ _ _ _ c.requires.walk c.loop-c.c (omega (arith, c.loop-c-test.true)) c.loop-c.invariant.low).row)
 
-mul-index-of-6 : tie.Need-overflow-mul-index-of-6 invariant-loop decreases-loop
+mul-index-of-6 : tie.Need-offset_bounds-cells-j-in-loop-c-2 invariant-loop decreases-loop
 mul-index-of-6 c =
-    let l = c.before.before.before.before.before.before.before.before.before.before.before.before in
-    let s = l.before.before.before.before.before.before.before.before in
-    omega (arith, (cell_at _ _ _ _ _ s.requires.walk l.loop.c (omega (arith, c.before.before.before.before.before.before.before.before.before.before.before.loop-test.true)) l.loop.invariant.low).row)
+    omega (arith, (cell_at _ _ _ _ _ c.requires.walk c.loop-c.c (omega (arith, c.loop-c-test.true)) c.loop-c.invariant.low).row)
 
-shared-slice-read-index-of-3 : tie.Need-shared-slice-read-index-of-3 invariant-loop decreases-loop
+shared-slice-read-index-of-3 : tie.Need-bounds-cells-j-in-loop-c-2 invariant-loop decreases-loop
 shared-slice-read-index-of-3 c =
-    let l = c.before.before.before.before.before.before.before.before.before.before.before.before.before in
-    let s = l.before.before.before.before.before.before.before.before in
-    omega (arith, (cell_at _ _ _ _ _ s.requires.walk l.loop.c (omega (arith, c.before.before.before.before.before.before.before.before.before.before.before.before.loop-test.true)) l.loop.invariant.low).row)
+    omega (arith, (cell_at _ _ _ _ _ c.requires.walk c.loop-c.c (omega (arith, c.loop-c-test.true)) c.loop-c.invariant.low).row)
 
-loop-less : tie.Need-loop-smaller invariant-loop decreases-loop
+loop-less : tie.Need-loop-c-smaller invariant-loop decreases-loop
 loop-less c =
-    let l = c.before.before.before.before.before.before.before.before.before.before.before.before.before.before in
-    let s = l.before.before.before.before.before.before.before.before in
-    rw c.index-of5.ensures (cell_at _ _ _ _ _ s.requires.walk l.loop.c (omega (arith, c.before.before.before.before.before.before.before.before.before.before.before.before.before.loop-test.true)) l.loop.invariant.low).lower
+    rw c.index_of-c.ensures (cell_at _ _ _ _ _ c.requires.walk c.loop-c.c (omega (arith, c.loop-c-test.true)) c.loop-c.invariant.low).lower
 
-loop-again : tie.Need-loop-preserved invariant-loop decreases-loop
+loop-again : tie.Need-loop-c-preserved invariant-loop decreases-loop
 loop-again c =
-    let l = c.before.before.before.before.before.before.before.before.before.before.before.before.before.before in
-    let s = l.before.before.before.before.before.before.before.before in
-    walking_on _ _ _ _ _ _ _ _ s.requires.walk _ _ _ l.loop.c l.loop.invariant c.before.before.before.before.before.before.before.before.before.before.before.before.before.loop-test.true _ _ _ c.before.before.before.before.before.before.before.before.before.index-of3.ensures c.before.before.before.before.before.before.before.index-of4.ensures c.index-of5.ensures _ _ _ c.before.before.before.before.before.seen.given c.before.before.before.alive.given c.before.before.before.before.before.before.mark-part.ensures
+    walking_on _ _ _ _ _ _ _ _ c.requires.walk _ _ _ c.loop-c.c c.loop-c.invariant c.loop-c-test.true _ _ _ c.index_of.ensures c.index_of-in-loop-c.ensures c.index_of-c.ensures _ _ _ c.seen-1.given c.alive-1.given c.mark_part-a.ensures
 
-same_length : tie.Need-same-length invariant-loop decreases-loop
-same_length c = c.before.loop.invariant.size
+same_length : tie.Need-shape_of-seen invariant-loop decreases-loop
+same_length c = c.loop-c.invariant.size
 
-same-length-2 : tie.Need-same-length-2 invariant-loop decreases-loop
-same-length-2 c = c.before.loop.invariant.long
+same-length-2 : tie.Need-shape_of-alive invariant-loop decreases-loop
+same-length-2 c = c.loop-c.invariant.long
 
 returns : tie.Need-returns invariant-loop decreases-loop
 returns c =
-    let l = c.before in
-    let s = l.before.before.before.before.before.before.before.before in
-    rw (← l.before.before.index_of.ensures, ← l.before.index-of2.ensures) (walking_end _ _ _ _ _ _ _ _ s.requires.walk _ _ _ l.loop.c l.loop.invariant c.loop-test.false)
+    rw (← c.index_of-below.ensures, ← c.index_of-a.ensures) (walking_end _ _ _ _ _ _ _ _ c.requires.walk _ _ _ c.loop-c.c c.loop-c.invariant c.loop-c-test.false)
 
-pub mark-chain-spec : {M : Type 1} → statement M
-mark-chain-spec =
+pub mark_chain_spec : {M : Type 1} → statement M
+mark_chain_spec =
     tie.close
     (tie.spec
     invariant-loop

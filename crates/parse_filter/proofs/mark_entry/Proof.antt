@@ -4,19 +4,17 @@ use Rattle.parse_filter.proofs.Marking.{entry_seen, entry_new}
 use Rattle.parse_filter.proofs.mark_entry.Statement.{statement}
 use Rattle.parse_filter.proofs.mark_entry.Tie as tie
 
-returns : tie.Need-returns
+returns : tie.Need-returns-then-seen-index_of
 returns c =
-    let s = c.before.before.before.before.before in
-    entry_seen s.args.seen.now s.args.alive.now s.args.a s.args.e (rw c.before.before.index_of.ensures at c.if1.true)
+    entry_seen c.args.seen.now c.args.alive.now c.args.a c.args.e (rw c.index_of.ensures at c.if-seen-index_of.true)
 
-returns-2 : tie.Need-returns-2
+returns-2 : tie.Need-returns
 returns-2 c =
-    let s = c.before.before.before.before.before.before in
-    rw c.index-of2.ensures
-    (entry_new s.args.seen.now s.args.alive.now s.args.a s.args.e (rw c.before.before.before.index_of.ensures at c.before.if1.false) s.requires.0 s.requires.1)
+    rw c.index_of-2.ensures
+    (entry_new c.args.seen.now c.args.alive.now c.args.a c.args.e (rw c.index_of.ensures at c.if-seen-index_of.false) c.requires.0 c.requires.1)
 
-pub mark-entry-spec : {M : Type 1} → statement M
-mark-entry-spec =
+pub mark_entry_spec : {M : Type 1} → statement M
+mark_entry_spec =
     tie.close
     (tie.spec
     (λ c κs. search rules)

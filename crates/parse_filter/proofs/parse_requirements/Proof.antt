@@ -5,64 +5,56 @@ use Rattle.parse_filter.proofs.Parsing.{parsed_none, asks_marks, asks_chain, ask
 use Rattle.parse_filter.proofs.parse_requirements.Statement.{statement}
 use Rattle.parse_filter.proofs.parse_requirements.Tie as tie
 
-returns : tie.Need-returns
+returns : tie.Need-returns-then-first-eq0
 returns c =
-    let s = c.before.before.before.before.before.before.before in
-    rw c.if1.true (parsed_none _ _ _ _ _ _ _ s.args.codes.now s.requires.1)
+    rw c.if-first-eq0.true (parsed_none _ _ _ _ _ _ _ c.args.codes.now c.requires.1)
 
-marks-for-requires : tie.Need-marks-for-requires
+marks-for-requires : tie.Need-marks_for-k-requires
 marks-for-requires c κs =
-    let s = c.before.before.before.before.before.before.before.before in
-    asks_marks _ _ _ _ _ _ _ s.args.first s.requires.0 s.requires.1
+    asks_marks _ _ _ _ _ _ _ c.args.first c.requires.0 c.requires.1
 
-mark-chain-requires : tie.Need-mark-chain-requires
+mark-chain-requires : tie.Need-mark_chain-all-requires
 mark-chain-requires c κs =
-    let s = c.before.before.before.before.before.before.before.before.before.before.before.before.before in
-    asks_chain _ _ _ _ _ _ _ s.args.first s.requires.0 s.requires.1 _ _ c.before.before.before.seen.given c.before.before.before.before.marks-for.ensures
+    asks_chain _ _ _ _ _ _ _ c.args.first c.requires.0 c.requires.1 _ _ c.seen-1.given c.marks_for-k.ensures
 
-filter-alive-requires : tie.Need-filter-alive-requires
+filter-alive-requires : tie.Need-filter_alive-kept-requires
 filter-alive-requires c κs =
-    let s = c.before.before.before.before.before.before.before.before.before.before.before.before.before.before.before.before.before.before.before.before in
-    asks_filter _ _ _ _ _ _ _ s.args.first s.requires.0 s.requires.1 _ _ c.before.before.before.before.before.before.before.before.before.before.seen.given c.before.before.before.before.before.before.before.before.before.before.before.marks-for.ensures
-    _ _ _ c.before.before.before.before.before.seen2.given c.before.before.before.alive.given c.before.before.before.before.before.before.mark-chain.ensures
+    asks_filter _ _ _ _ _ _ _ c.args.first c.requires.0 c.requires.1 _ _ c.seen-1.given c.marks_for-k.ensures
+    _ _ _ c.seen-2-1.given c.alive-1.given c.mark_chain-all.ensures
 
-companion-codes-requires : tie.Need-companion-codes-requires
+companion-codes-requires : tie.Need-companion_codes-len-requires
 companion-codes-requires c κs =
-    let s = c.before.before.before.before.before.before.before.before.before.before.before.before.before.before.before.before.before.before.before.before.before.before.before.before.before in
-    asks_codes _ _ _ _ _ _ _ s.args.first s.requires.0 s.requires.1 _ _ c.before.before.before.before.before.before.before.before.before.before.before.before.before.before.before.seen.given c.before.before.before.before.before.before.before.before.before.before.before.before.before.before.before.before.marks-for.ensures
-    _ _ _ c.before.before.before.before.before.before.before.before.before.before.seen2.given c.before.before.before.before.before.before.before.before.alive.given c.before.before.before.before.before.before.before.before.before.before.before.mark-chain.ensures
-    _ _ c.before.before.before.alive2.given c.before.before.before.before.filter-alive.ensures
+    asks_codes _ _ _ _ _ _ _ c.args.first c.requires.0 c.requires.1 _ _ c.seen-1.given c.marks_for-k.ensures
+    _ _ _ c.seen-2-1.given c.alive-1.given c.mark_chain-all.ensures
+    _ _ c.alive-2-1.given c.filter_alive-kept.ensures
 
-cast-t28 : tie.Need-overflow-cast-t28
+cast-t28 : tie.Need-overflow_cast-result
 cast-t28 c =
-    let s = c.before.before.before.before.before.before.before.before.before.before.before.before.before.before.before.before.before.before.before.before.before.before.before.before.before.before in
     omega (
       arith,
-      first_fits _ _ _ _ _ _ _ s.args.first s.requires.0 s.requires.1 _ _ c.before.before.before.before.before.before.before.before.before.before.before.before.before.before.before.before.seen.given c.before.before.before.before.before.before.before.before.before.before.before.before.before.before.before.before.before.marks-for.ensures
-          _ _ _ c.before.before.before.before.before.before.before.before.before.before.before.seen2.given c.before.before.before.before.before.before.before.before.before.alive.given c.before.before.before.before.before.before.before.before.before.before.before.before.mark-chain.ensures
-          _ _ c.before.before.before.before.alive2.given c.before.before.before.before.before.filter-alive.ensures,
+      first_fits _ _ _ _ _ _ _ c.args.first c.requires.0 c.requires.1 _ _ c.seen-1.given c.marks_for-k.ensures
+          _ _ _ c.seen-2-1.given c.alive-1.given c.mark_chain-all.ensures
+          _ _ c.alive-2-1.given c.filter_alive-kept.ensures,
     )
 
-cast-t29 : tie.Need-overflow-cast-t29
+cast-t29 : tie.Need-overflow_cast-result-2
 cast-t29 c =
-    let s = c.before.before.before.before.before.before.before.before.before.before.before.before.before.before.before.before.before.before.before.before.before.before.before.before.before.before in
     omega (
       arith,
-      alive_fits _ _ _ _ _ _ _ s.args.first s.requires.0 s.requires.1 _ _ c.before.before.before.before.before.before.before.before.before.before.before.before.before.before.before.before.seen.given c.before.before.before.before.before.before.before.before.before.before.before.before.before.before.before.before.before.marks-for.ensures
-          _ _ _ c.before.before.before.before.before.before.before.before.before.before.before.seen2.given c.before.before.before.before.before.before.before.before.before.alive.given c.before.before.before.before.before.before.before.before.before.before.before.before.mark-chain.ensures
-          _ _ c.before.before.before.before.alive2.given c.before.before.before.before.before.filter-alive.ensures,
+      alive_fits _ _ _ _ _ _ _ c.args.first c.requires.0 c.requires.1 _ _ c.seen-1.given c.marks_for-k.ensures
+          _ _ _ c.seen-2-1.given c.alive-1.given c.mark_chain-all.ensures
+          _ _ c.alive-2-1.given c.filter_alive-kept.ensures,
     )
 
-returns-2 : tie.Need-returns-2
+returns-2 : tie.Need-returns
 returns-2 c =
-    let s = c.before.before.before.before.before.before.before.before.before.before.before.before.before.before.before.before.before.before.before.before.before.before.before.before.before.before in
-    parsed _ _ _ _ _ _ _ s.args.first s.requires.0 s.requires.1 _ _ c.before.before.before.before.before.before.before.before.before.before.before.before.before.before.before.before.seen.given c.before.before.before.before.before.before.before.before.before.before.before.before.before.before.before.before.before.marks-for.ensures
-    _ _ _ c.before.before.before.before.before.before.before.before.before.before.before.seen2.given c.before.before.before.before.before.before.before.before.before.alive.given c.before.before.before.before.before.before.before.before.before.before.before.before.mark-chain.ensures
-    _ _ c.before.before.before.before.alive2.given c.before.before.before.before.before.filter-alive.ensures
-    _ _ c.companion-codes.ensures
+    parsed _ _ _ _ _ _ _ c.args.first c.requires.0 c.requires.1 _ _ c.seen-1.given c.marks_for-k.ensures
+    _ _ _ c.seen-2-1.given c.alive-1.given c.mark_chain-all.ensures
+    _ _ c.alive-2-1.given c.filter_alive-kept.ensures
+    _ _ c.companion_codes-len.ensures
 
-pub parse-requirements-spec : {M : Type 1} → statement M
-parse-requirements-spec =
+pub parse_requirements_spec : {M : Type 1} → statement M
+parse_requirements_spec =
     tie.close
     (tie.spec
     returns

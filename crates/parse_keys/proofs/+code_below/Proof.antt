@@ -33,80 +33,57 @@ code-below-below t =
 abbrev code-below-claims : ℕ → code-below-lts.Claims
 code-below-claims t = (kind-of-reads.Asked, kind-of-reads.Learnt, zero-sign-reads.Asked, zero-sign-reads.Learnt, index-of-reads.Asked, index-of-reads.Learnt, code-below-below t, code-below.Post, shifted-below-reads.Asked, shifted-below-reads.Learnt, read-code-reads.Asked, read-code-reads.Learnt, signed-code-reads.Asked, signed-code-reads.Learnt)
 
-code-below-returns : (t : ℕ) → code-below-lts.Need-returns (code-below-claims t) (code-below-at t) code-below.Post
-code-below-returns t c = means_out c.before.args.ws.now c.before.args.val.now c.before.args.known c.before.args.b c.before.args.i c.before.args.neg c.if1.true
+code-below-returns : (t : ℕ) → code-below-lts.Need-returns-then-b-i (code-below-claims t) (code-below-at t) code-below.Post
+code-below-returns t c = means_out c.args.ws.now c.args.val.now c.args.known c.args.b c.args.i c.args.neg c.if-b-i.true
 
-code-below-returns-2 : (t : ℕ) → code-below-lts.Need-returns-2 (code-below-claims t) (code-below-at t) code-below.Post
+code-below-returns-2 : (t : ℕ) → code-below-lts.Need-returns-then-t-eq2 (code-below-claims t) (code-below-at t) code-below.Post
 code-below-returns-2 t c =
-    let x5 = c.before.before.before.before.before in
-    let x7 = x5.before.before in
-    let start = x7.before in
-    means_nothing start.args.ws.now start.args.val.now start.args.known start.args.b start.args.i start.args.neg x7.if1.false _
-    x5.kind-of.ensures _ _ c.before.before.before.k.given.1 c.before.zero-sign.ensures c.if2.true
+    means_nothing c.args.ws.now c.args.val.now c.args.known c.args.b c.args.i c.args.neg c.if-b-i.false _
+    c.kind_of-k.ensures _ _ c.in-Two.is c.zero_sign-t.ensures c.if-t-eq2.true
 
-code-below-code-below-requires : (t : ℕ) → code-below-lts.Need-code-below-requires (code-below-claims t) (code-below-at t) code-below.Post
-code-below-code-below-requires t c κs = let p : c.before.before.before.before.before.before.before.before.before.before.before.args.b ≡ t = c.before.before.before.before.before.before.before.before.before.before.before.requires.0 in omega (arith, c.before.before.before.before.before.before.before.before.before.before.before.requires.1, c.before.before.before.before.before.before.before.before.before.before.if1.false)
+code-below-code-below-requires : (t : ℕ) → code-below-lts.Need-code_below-requires (code-below-claims t) (code-below-at t) code-below.Post
+code-below-code-below-requires t c κs = let p : c.args.b ≡ t = c.requires.0 in omega (arith, c.requires.1, c.if-b-i.false)
 
-code-below-returns-3 : (t : ℕ) → code-below-lts.Need-returns-3 (code-below-claims t) (code-below-at t) code-below.Post
+code-below-returns-3 : (t : ℕ) → code-below-lts.Need-returns-then-t-eq1 (code-below-claims t) (code-below-at t) code-below.Post
 code-below-returns-3 t c =
-    let x5 = c.before.before.before.before.before in
-    let x7 = x5.before.before in
-    let x9 = x7.before.before in
-    let x11 = x9.before.before in
-    let start = x11.before in
-    means_turned start.args.ws.now start.args.val.now start.args.known start.args.b start.args.i start.args.neg x11.if1.false _
-    x9.kind-of.ensures _ _ x7.k.given.1 x5.zero-sign.ensures _ _ c.before.before.index_of.ensures c.before.if3.true c.code-below.ensures
+    means_turned c.args.ws.now c.args.val.now c.args.known c.args.b c.args.i c.args.neg c.if-b-i.false _
+    c.kind_of-k.ensures _ _ c.in-Two.is c.zero_sign-t.ensures _ _ c.index_of-left.ensures c.if-t-eq1.true c.code_below.ensures
 
-code-below-code-below-requires-2 : (t : ℕ) → code-below-lts.Need-code-below-requires-2 (code-below-claims t) (code-below-at t) code-below.Post
-code-below-code-below-requires-2 t c κs = let p : c.before.before.before.before.before.before.before.before.before.before.before.args.b ≡ t = c.before.before.before.before.before.before.before.before.before.before.before.requires.0 in omega (arith, c.before.before.before.before.before.before.before.before.before.before.before.requires.1, c.before.before.before.before.before.before.before.before.before.before.if1.false)
+code-below-code-below-requires-2 : (t : ℕ) → code-below-lts.Need-code_below-requires-in-Two (code-below-claims t) (code-below-at t) code-below.Post
+code-below-code-below-requires-2 t c κs = let p : c.args.b ≡ t = c.requires.0 in omega (arith, c.requires.1, c.if-b-i.false)
 
-code-below-signed-code-requires : (t : ℕ) → code-below-lts.Need-signed-code-requires (code-below-claims t) (code-below-at t) code-below.Post
-code-below-signed-code-requires t c κs = c.read-code.ensures.most
+code-below-signed-code-requires : (t : ℕ) → code-below-lts.Need-signed_code-requires (code-below-claims t) (code-below-at t) code-below.Post
+code-below-signed-code-requires t c κs = c.read_code.ensures.most
 
-code-below-returns-4 : (t : ℕ) → code-below-lts.Need-returns-4 (code-below-claims t) (code-below-at t) code-below.Post
+code-below-returns-4 : (t : ℕ) → code-below-lts.Need-returns-else-t-eq1 (code-below-claims t) (code-below-at t) code-below.Post
 code-below-returns-4 t c =
-    let x4 = c.before.before.before.before in
-    let x5 = x4.before in
-    let x7 = x5.before.before in
-    let x9 = x7.before.before in
-    let x11 = x9.before.before in
-    let start = x11.before in
-    means_same start.args.ws.now start.args.val.now start.args.known start.args.b start.args.i start.args.neg x11.if1.false _
-    x9.kind-of.ensures _ _ x7.k.given.1 x5.zero-sign.ensures _ _ c.before.before.index_of.ensures x4.if2.false c.before.if3.false
-    c.code-below2.ensures
+    means_same c.args.ws.now c.args.val.now c.args.known c.args.b c.args.i c.args.neg c.if-b-i.false _
+    c.kind_of-k.ensures _ _ c.in-Two.is c.zero_sign-t.ensures _ _ c.index_of-left.ensures c.if-t-eq2.false c.if-t-eq1.false
+    c.code_below-in-Two.ensures
 
-code-below-returns-5 : (t : ℕ) → code-below-lts.Need-returns-5 (code-below-claims t) (code-below-at t) code-below.Post
+code-below-returns-5 : (t : ℕ) → code-below-lts.Need-returns-in-One (code-below-claims t) (code-below-at t) code-below.Post
 code-below-returns-5 t c =
-    let x5 = c.before.before.before.before.before in
-    let x7 = x5.before.before in
-    let x9 = x7.before.before in
-    let start = x9.before in
-    means_one start.args.ws.now start.args.val.now start.args.known start.args.b start.args.i start.args.neg x9.if1.false _
-    x7.kind-of.ensures _ _ _ _ x5.k2.given.1 c.before.before.shifted-below.ensures c.before.read-code.ensures c.signed-code.ensures
+    means_one c.args.ws.now c.args.val.now c.args.known c.args.b c.args.i c.args.neg c.if-b-i.false _
+    c.kind_of-k.ensures _ _ _ _ c.in-One.is c.shifted_below-s.ensures c.read_code.ensures c.signed_code.ensures
 
-code-below-returns-6 : (t : ℕ) → code-below-lts.Need-returns-6 (code-below-claims t) (code-below-at t) code-below.Post
+code-below-returns-6 : (t : ℕ) → code-below-lts.Need-returns-in-Imm16 (code-below-claims t) (code-below-at t) code-below.Post
 code-below-returns-6 t c =
-    let x4 = c.before.before.before.before in
-    let start = x4.before in
-    means_imm16 start.args.ws.now start.args.val.now start.args.known start.args.b start.args.i start.args.neg x4.if1.false _
-    c.before.before.kind-of.ensures c.enum_told.given.1
+    means_imm16 c.args.ws.now c.args.val.now c.args.known c.args.b c.args.i c.args.neg c.if-b-i.false _
+    c.kind_of-k.ensures c.in-Imm16.is
 
-code-below-returns-7 : (t : ℕ) → code-below-lts.Need-returns-7 (code-below-claims t) (code-below-at t) code-below.Post
+code-below-returns-7 : (t : ℕ) → code-below-lts.Need-returns-in-Imm32 (code-below-claims t) (code-below-at t) code-below.Post
 code-below-returns-7 t c =
-    let x4 = c.before.before.before.before in
-    let start = x4.before in
-    means_imm32 start.args.ws.now start.args.val.now start.args.known start.args.b start.args.i start.args.neg x4.if1.false _
-    c.before.before.kind-of.ensures c.enum-told2.given.1
+    means_imm32 c.args.ws.now c.args.val.now c.args.known c.args.b c.args.i c.args.neg c.if-b-i.false _
+    c.kind_of-k.ensures c.in-Imm32.is
 
-code-below-returns-8 : (t : ℕ) → code-below-lts.Need-returns-8 (code-below-claims t) (code-below-at t) code-below.Post
+code-below-returns-8 : (t : ℕ) → code-below-lts.Need-returns-in-Other (code-below-claims t) (code-below-at t) code-below.Post
 code-below-returns-8 t c =
-    let x4 = c.before.before.before.before in
-    let start = x4.before in
-    means_other start.args.ws.now start.args.val.now start.args.known start.args.b start.args.i start.args.neg x4.if1.false _
-    c.before.before.kind-of.ensures c.enum-told3.given.1
+    means_other c.args.ws.now c.args.val.now c.args.known c.args.b c.args.i c.args.neg c.if-b-i.false _
+    c.kind_of-k.ensures c.in-Other.is
 
-pub +code-below-spec : {M : Type 1} → statement M
-+code-below-spec = close μ-code-below λ t. code-below-lts.spec (code-below-claims t)
+pub +code_below_spec : {M : Type 1} → statement M
++code_below_spec = close μ-code-below λ t. code-below-lts.spec
+    (code-below-claims t)
     (code-below-at t)
     code-below.Post
     (code-below-returns t)

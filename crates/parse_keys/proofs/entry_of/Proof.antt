@@ -7,38 +7,38 @@ use borrow.Author.Rules.{rules}
 use Rattle.parse_keys.proofs.entry_of.Statement.{statement}
 use Rattle.parse_keys.proofs.entry_of.Tie as tie
 
-find-requires : tie.Need-find-requires
-find-requires c κs = ((omega (arith, c.before.before.before.before.before.before.requires.0.room, c.before.before.before.before.before.before.requires.0.small, c.index_of.ensures), omega (arith, c.before.before.before.before.before.before.requires.0.room, c.before.before.before.before.before.before.requires.0.kids, c.index_of.ensures)), rw c.index_of.ensures c.before.before.before.before.before.before.requires.0.table)
+find-requires : tie.Need-find-f-requires
+find-requires c κs = ((omega (arith, c.requires.0.room, c.requires.0.small, c.index_of.ensures), omega (arith, c.requires.0.room, c.requires.0.kids, c.index_of.ensures)), rw c.index_of.ensures c.requires.0.table)
 
-cast-t17 : tie.Need-overflow-cast-t17
-cast-t17 c = omega (arith, (hit _ _ _ _ _ _ c.before.before.index_of.ensures c.before.find.ensures c.if1.true).most)
+cast-t17 : tie.Need-overflow_cast-result
+cast-t17 c = omega (arith, (hit _ _ _ _ _ _ c.index_of.ensures c.find-f.ensures c.if-f.true).most)
 
-mul-t18 : tie.Need-overflow-mul-t18
-mul-t18 c = omega (arith, (hit _ _ _ _ _ _ c.before.before.index_of.ensures c.before.find.ensures c.if1.true).most, c.before.before.before.before.before.before.before.before.requires.0.room, c.before.before.before.before.before.before.before.before.requires.0.small)
+mul-t18 : tie.Need-overflow_mul-result
+mul-t18 c = omega (arith, (hit _ _ _ _ _ _ c.index_of.ensures c.find-f.ensures c.if-f.true).most, c.requires.0.room, c.requires.0.small)
 
-add-t19 : tie.Need-overflow-add-t19
-add-t19 c = omega (arith, (hit _ _ _ _ _ _ c.before.before.index_of.ensures c.before.find.ensures c.if1.true).most, c.before.before.before.before.before.before.before.before.requires.0.room, c.before.before.before.before.before.before.before.before.requires.0.small)
+add-t19 : tie.Need-overflow_add-result
+add-t19 c = omega (arith, (hit _ _ _ _ _ _ c.index_of.ensures c.find-f.ensures c.if-f.true).most, c.requires.0.room, c.requires.0.small)
 
-returns : tie.Need-returns
-returns c = entered_there _ _ _ _ _ c.before.before.before.before.before.before.before.before.requires.0 _ _ (hit _ _ _ _ _ _ c.before.before.index_of.ensures c.before.find.ensures c.if1.true) refl
+returns : tie.Need-returns-then-f
+returns c = entered_there _ _ _ _ _ c.requires.0 _ _ (hit _ _ _ _ _ _ c.index_of.ensures c.find-f.ensures c.if-f.true) refl
 
-returns-2 : tie.Need-returns-2
-returns-2 c = entered_full _ _ _ _ _ c.before.before.before.before.before.before.before.before.before.before.requires.0 (omega (arith, c.before.index-of2.ensures, c.if2.true))
+returns-2 : tie.Need-returns-then-keys-n
+returns-2 c = entered_full _ _ _ _ _ c.requires.0 (omega (arith, c.index_of-n.ensures, c.if-keys-n.true))
 
-mul-kids : tie.Need-overflow-mul-kids
-mul-kids c = omega (arith, (missed _ _ _ _ _ _ c.before.before.before.before.index_of.ensures c.before.before.before.find.ensures c.before.before.if1.false).most, c.before.before.before.before.before.before.before.before.before.before.requires.0.room, c.before.before.before.before.before.before.before.before.before.before.requires.0.small)
+mul-kids : tie.Need-offset_bounds-kids-at
+mul-kids c = omega (arith, (missed _ _ _ _ _ _ c.index_of.ensures c.find-f.ensures c.if-f.false).most, c.requires.0.room, c.requires.0.small)
 
-slice-write-kids : tie.Need-slice-write-kids
-slice-write-kids c = omega (arith, (missed _ _ _ _ _ _ c.before.before.before.before.index_of.ensures c.before.before.before.find.ensures c.before.before.if1.false).most, c.before.before.before.before.before.before.before.before.before.before.requires.0.room, c.before.before.before.before.before.before.before.before.before.before.requires.0.kids)
+slice-write-kids : tie.Need-bounds-kids-at
+slice-write-kids c = omega (arith, (missed _ _ _ _ _ _ c.index_of.ensures c.find-f.ensures c.if-f.false).most, c.requires.0.room, c.requires.0.kids)
 
-slice-write-companions-2 : tie.Need-slice-write-companions-2
-slice-write-companions-2 c = simp length-set (omega (arith, c.before.index-of2.ensures, c.if2.false, c.before.before.before.before.before.before.before.before.before.before.requires.0.others))
+slice-write-companions-2 : tie.Need-bounds-companions-n-2
+slice-write-companions-2 c = simp length-set (omega (arith, c.index_of-n.ensures, c.if-keys-n.false, c.requires.0.others))
 
-returns-3 : tie.Need-returns-3
-returns-3 c = entered_new _ _ _ _ _ c.before.before.before.before.before.before.before.before.before.before.requires.0 _ _ _ _ (missed _ _ _ _ _ _ c.before.before.before.before.index_of.ensures c.before.before.before.find.ensures c.before.before.if1.false) c.before.before.before.before.before.before.before.before.before.before.requires.1 (omega (arith, c.before.index-of2.ensures)) (omega (arith, c.if2.false)) _ (omega arith) (omega arith) (omega arith)
+returns-3 : tie.Need-returns
+returns-3 c = entered_new _ _ _ _ _ c.requires.0 _ _ _ _ (missed _ _ _ _ _ _ c.index_of.ensures c.find-f.ensures c.if-f.false) c.requires.1 (omega (arith, c.index_of-n.ensures)) (omega (arith, c.if-keys-n.false)) _ (omega arith) (omega arith) (omega arith)
 
-pub entry-of-spec : {M : Type 1} → statement M
-entry-of-spec =
+pub entry_of_spec : {M : Type 1} → statement M
+entry_of_spec =
     tie.close
     (tie.spec
     (λ c κs. search rules)

@@ -7,11 +7,14 @@ use borrow.Author.Rules.{rules}
 use Rattle.parse_keys.proofs.flag_code.Statement.{statement}
 use Rattle.parse_keys.proofs.flag_code.Tie as tie
 
-returns : tie.Need-returns
-returns c = sym (rw (lt-ltb c.before.args.s wide c.if1.true))
+returns : tie.Need-returns-then-s-lt-KIND
+returns c = sym (rw (lt-ltb c.args.s wide c.if-s-lt-KIND.true))
 
-returns-2 : tie.Need-returns-2
-returns-2 c = sym (rw (le-ltb c.before.args.s wide c.if1.false))
+returns-2 : tie.Need-returns
+returns-2 c = sym (rw (le-ltb c.args.s wide c.if-s-lt-KIND.false))
 
-pub flag-code-spec : {M : Type 1} → statement M
-flag-code-spec = tie.close (tie.spec (λ c. search rules) returns returns-2)
+pub flag_code_spec : {M : Type 1} → statement M
+flag_code_spec = tie.close (tie.spec
+    (λ c. search rules)
+    returns
+    returns-2)

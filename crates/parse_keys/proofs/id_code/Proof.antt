@@ -7,14 +7,18 @@ use Rattle.model.specs.Limits.{half32}
 use Rattle.parse_keys.proofs.id_code.Statement.{statement}
 use Rattle.parse_keys.proofs.id_code.Tie as tie
 
-returns : tie.Need-returns
-returns c = sym (rw (lt-ltb c.before.args.s half32 c.if1.true))
+returns : tie.Need-returns-then-s-lt-ZERO
+returns c = sym (rw (lt-ltb c.args.s half32 c.if-s-lt-ZERO.true))
 
-returns-2 : tie.Need-returns-2
-returns-2 c = sym (rw (le-ltb c.before.before.args.s half32 c.before.if1.false, lt-ltb (c.before.before.args.s - half32) c.before.before.args.n c.if2.true))
+returns-2 : tie.Need-returns-then-s-n
+returns-2 c = sym (rw (le-ltb c.args.s half32 c.if-s-lt-ZERO.false, lt-ltb (c.args.s - half32) c.args.n c.if-s-n.true))
 
-returns-3 : tie.Need-returns-3
-returns-3 c = sym (rw (le-ltb c.before.before.args.s half32 c.before.if1.false, le-ltb (c.before.before.args.s - half32) c.before.before.args.n c.if2.false))
+returns-3 : tie.Need-returns
+returns-3 c = sym (rw (le-ltb c.args.s half32 c.if-s-lt-ZERO.false, le-ltb (c.args.s - half32) c.args.n c.if-s-n.false))
 
-pub id-code-spec : {M : Type 1} → statement M
-id-code-spec = tie.close (tie.spec returns (λ c. search rules) returns-2 returns-3)
+pub id_code_spec : {M : Type 1} → statement M
+id_code_spec = tie.close (tie.spec
+    returns
+    (λ c. search rules)
+    returns-2
+    returns-3)

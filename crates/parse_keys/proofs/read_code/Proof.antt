@@ -5,26 +5,26 @@ use borrow.Author.Rules.{rules}
 use Rattle.parse_keys.proofs.read_code.Statement.{statement}
 use Rattle.parse_keys.proofs.read_code.Tie as tie
 
-returns : tie.Need-returns
-returns c = read_by _ _ _ _ _ c.before.before.ranges.items.fits c.before.before.ranges.atcs.fits (rw c.enum_told.given.1)
+returns : tie.Need-returns-in-Not
+returns c = read_by _ _ _ _ _ c.ranges.items.fits c.ranges.atcs.fits (rw c.in-Not.is)
 
-returns-2 : tie.Need-returns-2
-returns-2 c = read_by _ _ _ _ _ c.before.before.before.ranges.items.fits c.before.before.before.ranges.atcs.fits (rw c.before.enum-told2.given.1 c.flag-code.ensures)
+returns-2 : tie.Need-returns-in-Flag
+returns-2 c = read_by _ _ _ _ _ c.ranges.items.fits c.ranges.atcs.fits (rw c.in-Flag.is c.flag_code.ensures)
 
-returns-3 : tie.Need-returns-3
-returns-3 c = read_by _ _ _ _ _ c.before.before.ranges.items.fits c.before.before.ranges.atcs.fits (rw c.enum-told3.given.1)
+returns-3 : tie.Need-returns-in-Variable
+returns-3 c = read_by _ _ _ _ _ c.ranges.items.fits c.ranges.atcs.fits (rw c.in-Variable.is)
 
-returns-4 : tie.Need-returns-4
-returns-4 c = read_by _ _ _ _ _ c.before.before.before.ranges.items.fits c.before.before.before.ranges.atcs.fits (rw c.before.enum-told4.given.1 c.id-code.ensures)
+returns-4 : tie.Need-returns-in-Item
+returns-4 c = read_by _ _ _ _ _ c.ranges.items.fits c.ranges.atcs.fits (rw c.in-Item.is c.id_code.ensures)
 
-returns-5 : tie.Need-returns-5
-returns-5 c = read_by _ _ _ _ _ c.before.before.before.ranges.items.fits c.before.before.before.ranges.atcs.fits (rw c.before.enum-told5.given.1 c.id-code2.ensures)
+returns-5 : tie.Need-returns-in-Atc
+returns-5 c = read_by _ _ _ _ _ c.ranges.items.fits c.ranges.atcs.fits (rw c.in-Atc.is c.id_code-in-Atc.ensures)
 
-returns-6 : tie.Need-returns-6
-returns-6 c = read_by _ _ _ _ _ c.before.before.ranges.items.fits c.before.before.ranges.atcs.fits (rw c.enum-told6.given.1)
+returns-6 : tie.Need-returns-in-Time
+returns-6 c = read_by _ _ _ _ _ c.ranges.items.fits c.ranges.atcs.fits (rw c.in-Time.is)
 
-pub read-code-spec : {M : Type 1} → statement M
-read-code-spec =
+pub read_code_spec : {M : Type 1} → statement M
+read_code_spec =
     tie.close
     (tie.spec
     (λ c. search rules)

@@ -4,14 +4,14 @@ use borrow.Author.Rules.{rules}
 use Rattle.parse_keys.proofs.zero_sign.Statement.{statement}
 use Rattle.parse_keys.proofs.zero_sign.Tie as tie
 
-returns : tie.Need-returns
-returns c = let a = c.before.before.before.args in zero_other a.ws.now a.val.now a.i a.o _ c.before.shifted-below.ensures c.if1.true
+returns : tie.Need-returns-then-s-ne-ZERO
+returns c = let a = c.args in zero_other a.ws.now a.val.now a.i a.o _ c.shifted_below-s.ensures c.if-s-ne-ZERO.true
 
-returns-2 : tie.Need-returns-2
-returns-2 c = let a = c.before.before.before.before.args in zero_same a.ws.now a.val.now a.i a.o _ c.before.before.shifted-below.ensures _ c.before.if1.false c.sign_of.ensures
+returns-2 : tie.Need-returns
+returns-2 c = let a = c.args in zero_same a.ws.now a.val.now a.i a.o _ c.shifted_below-s.ensures _ c.if-s-ne-ZERO.false c.sign_of.ensures
 
-pub zero-sign-spec : {M : Type 1} → statement M
-zero-sign-spec =
+pub zero_sign_spec : {M : Type 1} → statement M
+zero_sign_spec =
     tie.close
     (tie.spec
     (λ c. search rules)

@@ -11,5 +11,8 @@ use Rattle.parse_scan.proofs.bit.Tie as tie
 returns : tie.Need-returns
 returns c = ap (λ (n : ℕ). n % 2 ^ 32) (one-mul (2 ^ c.args.i)) ∙ mod-eq_of_lt (pow-lt {j = 32} (omega arith))
 
-pub bit-spec : {M : Type 1} → statement M
-bit-spec = tie.close (tie.spec (λ c. search rules) (λ c. search rules) returns)
+pub bit_spec : {M : Type 1} → statement M
+bit_spec = tie.close (tie.spec
+    (λ c. search rules)
+    (λ c. search rules)
+    returns)

@@ -9,11 +9,11 @@ use Rattle.parse_scan.proofs.hide_part.Tie as tie
 
 returns : tie.Need-returns
 returns c =
-    let a = c.before.before.before.before.before.args in
-    part_hid a.codes.now a.start _ (a.start + entry_limit - a.start) _ _ _ (omega arith) c.before.before.hide-row.ensures
+    let a = c.args in
+    part_hid a.codes.now a.start _ (a.start + entry_limit - a.start) _ _ _ (omega arith) c.hide_row.ensures
 
-pub hide-part-spec : {M : Type 1} → statement M
-hide-part-spec =
+pub hide_part_spec : {M : Type 1} → statement M
+hide_part_spec =
     tie.close
     (tie.spec
     (λ c. search rules)

@@ -9,57 +9,50 @@ use Rattle.parse_scan.specs.Rows.{RowHiding, row_start, row_long, row_over, row_
 use Rattle.parse_scan.proofs.hide_row.Statement.{statement}
 use Rattle.parse_scan.proofs.hide_row.Tie as tie
 
-abbrev invariant-loop : tie.invariant-loop
+abbrev invariant-loop : tie.invariant-loop-i
 invariant-loop row₀ n more len held₀ i₀ row held i = RowHiding row₀ n (take len more) row held i
 
-abbrev decreases-loop : tie.decreases-loop
+abbrev decreases-loop : tie.decreases-loop-i
 decreases-loop row₀ n more len held₀ i₀ row held i = len - i
 
 -- how many codes join
-ds-long : (c : tie.After-capacity invariant-loop decreases-loop) → let a = c.before.before.args in length (take a.len a.more.now) ≡ a.len
-ds-long c = let s = c.before.before in length-take-le s.args.len s.args.more.now (omega (arith, c.capacity.ensures.0, s.requires.1.1))
+ds-long : (c : tie.After-capacity invariant-loop decreases-loop) → let a = c.args in length (take a.len a.more.now) ≡ a.len
+ds-long c = length-take-le c.args.len c.args.more.now (omega (arith, c.capacity.ensures.0, c.requires.1.1))
 
 -- one more is left
-more_left : (c : tie.In-loop invariant-loop decreases-loop) → let a = c.before.before.before.before.args in c.before.loop.i < length (take a.len a.more.now)
-more_left c = omega (arith, ds-long c.before.before, c.loop-test.true)
+more_left : (c : tie.In-loop-i invariant-loop decreases-loop) → let a = c.args in c.loop-i.i < length (take a.len a.more.now)
+more_left c = omega (arith, ds-long c.before.before, c.loop-i-test.true)
 
 -- the code that is read is the next one
-next : (c : tie.In-loop invariant-loop decreases-loop) → let a = c.before.before.before.before.args in get_or a.more.now c.before.loop.i 0 ≡ get_or (take a.len a.more.now) c.before.loop.i 0
-next c = let a = c.before.before.before.before.args in sym (get_or-take a.len a.more.now c.before.loop.i 0 c.loop-test.true)
+next : (c : tie.In-loop-i invariant-loop decreases-loop) → let a = c.args in get_or a.more.now c.loop-i.i 0 ≡ get_or (take a.len a.more.now) c.loop-i.i 0
+next c = let a = c.args in sym (get_or-take a.len a.more.now c.loop-i.i 0 c.loop-i-test.true)
 
-loop-holds : tie.Need-loop-init invariant-loop decreases-loop
-loop-holds c = let s = c.before.before in row_start _ _ _ s.requires.0 s.requires.1.0
+loop-holds : tie.Need-loop-i-init invariant-loop decreases-loop
+loop-holds c = row_start _ _ _ c.requires.0 c.requires.1.0
 
-insert-row-requires : tie.Need-insert-row-requires invariant-loop decreases-loop
-insert-row-requires c κs = let v = c.before.before.before.loop.invariant in (v.long, v.few)
+insert-row-requires : tie.Need-insert_row-held-requires invariant-loop decreases-loop
+insert-row-requires c κs = let v = c.loop-i.invariant in (v.long, v.few)
 
-same_length : tie.Need-same-length invariant-loop decreases-loop
-same_length c = let w = c.before.before.before in
-    let l = w.before.before.before.before in
-    let s = l.before.before.before in
-    row_long _ _ _ _ _ _ l.loop.invariant (more_left w.before.before.before) _ (next w.before.before.before) _ _ w.insert-row.ensures ∙ sym s.requires.0
+same_length : tie.Need-shape_of-row-then-held-gt-ENTRIES invariant-loop decreases-loop
+same_length c = row_long _ _ _ _ _ _ c.loop-i.invariant (more_left c.before.before.before.before.before.before.before) _ (next c.before.before.before.before.before.before.before) _ _ c.insert_row-held.ensures ∙ sym c.requires.0
 
-returns : tie.Need-returns invariant-loop decreases-loop
-returns c = let w = c.before.before.before in
-    let l = w.before.before.before.before in
-    let s = l.before.before.before in
-    row_over _ _ _ _ _ _ l.loop.invariant (more_left w.before.before.before) _ (next w.before.before.before) _ _ w.insert-row.ensures c.if1.true
+returns : tie.Need-returns-then-held-gt-ENTRIES invariant-loop decreases-loop
+returns c = row_over _ _ _ _ _ _ c.loop-i.invariant (more_left c.before.before.before.before.before.before.before) _ (next c.before.before.before.before.before.before.before) _ _ c.insert_row-held.ensures c.if-held-gt-ENTRIES.true
 
-loop-less : tie.Need-loop-smaller invariant-loop decreases-loop
-loop-less c = omega (arith, c.before.before.before.before.before.before.loop-test.true)
+loop-less : tie.Need-loop-i-smaller invariant-loop decreases-loop
+loop-less c = omega (arith, c.loop-i-test.true)
 
-loop-again : tie.Need-loop-preserved invariant-loop decreases-loop
-loop-again c = let w = c.before.before.before in
-    row_more _ _ _ _ _ _ w.before.before.before.before.loop.invariant (more_left w.before.before.before) _ (next w.before.before.before) _ _ w.insert-row.ensures c.if1.false
+loop-again : tie.Need-loop-i-preserved invariant-loop decreases-loop
+loop-again c = row_more _ _ _ _ _ _ c.loop-i.invariant (more_left c.before.before.before.before.before.before.before) _ (next c.before.before.before.before.before.before.before) _ _ c.insert_row-held.ensures c.if-held-gt-ENTRIES.false
 
-same-length-2 : tie.Need-same-length-2 invariant-loop decreases-loop
-same-length-2 c = c.before.loop.invariant.long ∙ sym c.before.before.before.before.requires.0
+same-length-2 : tie.Need-shape_of-row invariant-loop decreases-loop
+same-length-2 c = c.loop-i.invariant.long ∙ sym c.requires.0
 
-returns-2 : tie.Need-returns-2 invariant-loop decreases-loop
-returns-2 c = row_done _ _ _ _ _ _ c.before.loop.invariant (omega (arith, ds-long c.before.before, c.loop-test.false))
+returns-2 : tie.Need-returns invariant-loop decreases-loop
+returns-2 c = row_done _ _ _ _ _ _ c.loop-i.invariant (omega (arith, ds-long c.before.before, c.loop-i-test.false))
 
-pub hide-row-spec : {M : Type 1} → statement M
-hide-row-spec =
+pub hide_row_spec : {M : Type 1} → statement M
+hide_row_spec =
     tie.close
     (tie.spec
     invariant-loop

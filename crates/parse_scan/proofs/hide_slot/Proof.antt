@@ -4,18 +4,17 @@ use borrow.Author.Rules.{rules}
 use Rattle.parse_scan.proofs.hide_slot.Statement.{statement}
 use Rattle.parse_scan.proofs.hide_slot.Tie as tie
 
-returns : tie.Need-returns
-returns c = hidden_none _ _ _ c.before.requires.0.0 _ _ c.if1.true
+returns : tie.Need-returns-then-len-gt-ENTRIES
+returns c = hidden_none _ _ _ c.requires.0.0 _ _ c.if-len-gt-ENTRIES.true
 
-returns-2 : tie.Need-returns-2
-returns-2 c = hidden_over _ _ _ c.before.before.before.before.before.requires.0.0 _ _ c.before.before.before.before.if1.false _ _ c.before.hide-part.ensures c.if2.true
+returns-2 : tie.Need-returns-then-n-gt-ENTRIES
+returns-2 c = hidden_over _ _ _ c.requires.0.0 _ _ c.if-len-gt-ENTRIES.false _ _ c.hide_part-n.ensures c.if-n-gt-ENTRIES.true
 
-returns-3 : tie.Need-returns-3
-returns-3 c = let s = c.before.before.before.before.before in
-    hidden_in _ _ _ s.requires.0.0 _ _ c.before.before.before.before.if1.false _ _ c.before.hide-part.ensures s.requires.1.0 s.requires.1.1 c.if2.false
+returns-3 : tie.Need-returns
+returns-3 c = hidden_in _ _ _ c.requires.0.0 _ _ c.if-len-gt-ENTRIES.false _ _ c.hide_part-n.ensures c.requires.1.0 c.requires.1.1 c.if-n-gt-ENTRIES.false
 
-pub hide-slot-spec : {M : Type 1} → statement M
-hide-slot-spec =
+pub hide_slot_spec : {M : Type 1} → statement M
+hide_slot_spec =
     tie.close
     (tie.spec
     returns

@@ -11,47 +11,44 @@ use Rattle.parse_scan.specs.Shown.{hides_by, ShownBelow, shown_start, shown_to, 
 use Rattle.parse_scan.proofs.hides.Statement.{statement}
 use Rattle.parse_scan.proofs.hides.Tie as tie
 
-abbrev invariant-loop : tie.invariant-loop
+abbrev invariant-loop : tie.invariant-loop-at
 invariant-loop s ids at₀ at = ShownBelow s.item_mask ids s.count_mask at
 
-abbrev decreases-loop : tie.decreases-loop
+abbrev decreases-loop : tie.decreases-loop-at
 decreases-loop s ids at₀ at = slot_count - at
 
-loop-holds : tie.Need-loop-init invariant-loop decreases-loop
+loop-holds : tie.Need-loop-at-init invariant-loop decreases-loop
 loop-holds c = shown_start _ _ c.size.ensures _
 
-returns : tie.Need-returns invariant-loop decreases-loop
-returns c = let e = c.before.before.before.before.size.ensures in
-    let l = c.before.before.before.loop in
-    let n = c.before.next-touched.ensures in
-    shown_all _ _ e _ slot_count (shown_to _ _ e _ l.at slot_count l.invariant (omega arith) (omega (arith, c.if1.true))) (omega arith)
+returns : tie.Need-returns-then-i-ge-SLOTS invariant-loop decreases-loop
+returns c = let e = c.size.ensures in
+    let l = c.loop-at in
+    let n = c.next_touched-i.ensures in
+    shown_all _ _ e _ slot_count (shown_to _ _ e _ l.at slot_count l.invariant (omega arith) (omega (arith, c.if-i-ge-SLOTS.true))) (omega arith)
 
-returns-2 : tie.Need-returns-2 invariant-loop decreases-loop
-returns-2 c = let t = c.before.before.before.before in
-    let a = t.before.before.before.before.args in
-    let n = t.next-touched.ensures in
-    hidden_at _ _ t.before.before.before.size.ensures _ t.before.before.loop.at (omega (arith, c.before.before.before.if1.false))
-    (λ z. sym c.if2.true ∙ c.before.hides-by.ensures z ∙ ap (λ o. hides_by o (some z)) (c.before.before.value-at.ensures ∙ ap (λ j. get_or (table_of a.s.item_mask a.ids.now) j none) n))
+returns-2 : tie.Need-returns-then-hides_by invariant-loop decreases-loop
+returns-2 c = let a = c.args in
+    let n = c.next_touched-i.ensures in
+    hidden_at _ _ c.size.ensures _ c.loop-at.at (omega (arith, c.if-i-ge-SLOTS.false))
+    (λ z. sym c.if-hides_by.true ∙ c.hides_by.ensures z ∙ ap (λ o. hides_by o (some z)) (c.value_at.ensures ∙ ap (λ j. get_or (table_of a.s.item_mask a.ids.now) j none) n))
 
-loop-less : tie.Need-loop-smaller invariant-loop decreases-loop
-loop-less c = let t = c.before.before.before.before in
-    let n = t.next-touched.ensures in
-    omega (arith, c.before.before.before.if1.false, t.before.loop-test.true)
+loop-less : tie.Need-loop-at-smaller invariant-loop decreases-loop
+loop-less c = let n = c.next_touched-i.ensures in
+    omega (arith, c.if-i-ge-SLOTS.false, c.loop-at-test.true)
 
-loop-again : tie.Need-loop-preserved invariant-loop decreases-loop
-loop-again c = let t = c.before.before.before.before in
-    let e = t.before.before.before.size.ensures in
-    let l = t.before.before.loop in
-    let n = t.next-touched.ensures in
-    let u = c.before.before.before.if1.false in
-    shown_more _ _ e _ t.next-touched.result (shown_to _ _ e _ l.at t.next-touched.result l.invariant (omega (arith, u)) (omega arith)) u
-    (λ z. sym c.if2.false ∙ c.before.hides-by.ensures z ∙ ap (λ o. hides_by o (some z)) c.before.before.value-at.ensures)
+loop-again : tie.Need-loop-at-preserved invariant-loop decreases-loop
+loop-again c = let e = c.size.ensures in
+    let l = c.loop-at in
+    let n = c.next_touched-i.ensures in
+    let u = c.if-i-ge-SLOTS.false in
+    shown_more _ _ e _ c.next_touched-i.result (shown_to _ _ e _ l.at c.next_touched-i.result l.invariant (omega (arith, u)) (omega arith)) u
+    (λ z. sym c.if-hides_by.false ∙ c.hides_by.ensures z ∙ ap (λ o. hides_by o (some z)) c.value_at.ensures)
 
-returns-3 : tie.Need-returns-3 invariant-loop decreases-loop
-returns-3 c = shown_all _ _ c.before.before.size.ensures _ _ c.before.loop.invariant (omega (arith, c.loop-test.false))
+returns-3 : tie.Need-returns invariant-loop decreases-loop
+returns-3 c = shown_all _ _ c.size.ensures _ _ c.loop-at.invariant (omega (arith, c.loop-at-test.false))
 
-pub hides-spec : {M : Type 1} → statement M
-hides-spec =
+pub hides_spec : {M : Type 1} → statement M
+hides_spec =
     tie.close
     (tie.spec
     invariant-loop

@@ -12,14 +12,17 @@ use borrow.Author.Rules.{rules}
 use Rattle.parse_scan.proofs.hides_by.Statement.{statement}
 use Rattle.parse_scan.proofs.hides_by.Tie as tie
 
-returns : tie.Need-returns
-returns c = λ z. rw c.enum_told.given.1
+returns : tie.Need-returns-in_default
+returns c = λ z. rw c.in_default.is
 
-returns-2 : tie.Need-returns-2
+returns-2 : tie.Need-returns
 returns-2 c = λ z.
-    let i = c.before.item.given in
-    let f : SFits w16 i.0.0 = record { sfits = c.known-told.given.0.1 } in
-    ap (λ (k : ℤ). lt_z k (pos 0)) (to_z-of_z f) ∙ hides_negative i.0.0 z ∙ sym (ap (λ o. hides_by (short_is o) (some z)) i.1)
+    let f : SFits w16 c.in-Wrote.id = record { sfits = c.in-Wrote.known_told-1-own.given.0.1 } in
+    ap (λ (k : ℤ). lt_z k (pos 0)) (to_z-of_z f) ∙ hides_negative c.in-Wrote.id z ∙ sym (ap (λ o. hides_by (short_is o) (some z)) c.in-Wrote.is)
 
-pub hides-by-spec : {M : Type 1} → statement M
-hides-by-spec = tie.close (tie.spec (λ c. search rules) (λ c. search rules) returns returns-2)
+pub hides_by_spec : {M : Type 1} → statement M
+hides_by_spec = tie.close (tie.spec
+    (λ c. search rules)
+    (λ c. search rules)
+    returns
+    returns-2)

@@ -9,22 +9,21 @@ use borrow.Author.Rules.{rules}
 use Rattle.parse_scan.proofs.index_below.Statement.{statement}
 use Rattle.parse_scan.proofs.index_below.Tie as tie
 
-returns : tie.Need-returns
-returns c = λ n. sym (ap item_index (below_out (nodes_in c.before.args.ws.now c.before.args.val.now n) c.before.args.b c.before.args.i c.if1.true))
+returns : tie.Need-returns-then-b-i
+returns c = λ n. sym (ap item_index (below_out (nodes_in c.args.ws.now c.args.val.now n) c.args.b c.args.i c.if-b-i.true))
 
-returns-2 : tie.Need-returns-2
-returns-2 c = λ n. no_one _ (nodes_in c.before.before.before.before.args.ws.now c.before.before.before.before.args.val.now n) c.before.before.before.before.args.b c.before.before.before.before.args.i c.before.before.before.if1.false c.before.kind-of.ensures c.match.keys2
+returns-2 : tie.Need-returns-in_default
+returns-2 c = λ n. no_one _ (nodes_in c.args.ws.now c.args.val.now n) c.args.b c.args.i c.if-b-i.false c.kind_of-k.ensures c.in_default.in_default-own.keys2
 
-returns-3 : tie.Need-returns-3
+returns-3 : tie.Need-returns
 returns-3 c = λ n.
-    let a = c.before.before.before.before.before.before.before.before.before.args in
-    let k = c.before.before.before.before.k.given in
+    let a = c.args in
     let ns = nodes_in a.ws.now a.val.now n in
-    c.index-by.ensures ∙ ap (index_by k.0.0) {y = value (tree_below ns a.i (left_at ns a.i))} (c.before.number-below.ensures n)
-    ∙ index_of_one ns a.b a.i c.before.before.before.before.before.before.before.before.if1.false _ c.before.before.before.before.before.before.kind-of.ensures k.0.0 k.1
+    c.index_by.ensures ∙ ap (index_by c.in-One.o) {y = value (tree_below ns a.i (left_at ns a.i))} (c.number_below.ensures n)
+    ∙ index_of_one ns a.b a.i c.if-b-i.false _ c.kind_of-k.ensures c.in-One.o c.in-One.is
 
-pub index-below-spec : {M : Type 1} → statement M
-index-below-spec =
+pub index_below_spec : {M : Type 1} → statement M
+index_below_spec =
     tie.close
     (tie.spec
     returns

@@ -4,8 +4,11 @@ use borrow.Author.Rules.{rules}
 use Rattle.parse_scan.proofs.index_by.Statement.{statement}
 use Rattle.parse_scan.proofs.index_by.Tie as tie
 
-returns-2 : tie.Need-returns-2
-returns-2 c = no_item c.before.args.o _ c.match.keys2
+returns-2 : tie.Need-returns-in_default
+returns-2 c = no_item c.args.o _ c.in_default.in_default-own.keys2
 
-pub index-by-spec : {M : Type 1} → statement M
-index-by-spec = tie.close (tie.spec (λ c. search rules) (λ c. search rules) returns-2)
+pub index_by_spec : {M : Type 1} → statement M
+index_by_spec = tie.close (tie.spec
+    (λ c. search rules)
+    (λ c. search rules)
+    returns-2)

@@ -7,16 +7,22 @@ use borrow.Author.Rules.{rules}
 use Rattle.parse_scan.proofs.keep.Statement.{statement}
 use Rattle.parse_scan.proofs.keep.Tie as tie
 
-returns : tie.Need-returns
-returns c = rw c.enum_told.given.1
+returns : tie.Need-returns-in_default
+returns c = rw c.in_default.is
 
-returns-2 : tie.Need-returns-2
-returns-2 c = let a = c.before.before.before.before.args in
-    let w = c.before.before.w.given in
-    let f : SFits w16 w.0.0 = record { sfits = c.before.known-told.given.0.1 } in
-    rw (to_z-of_z f, c.bit.ensures, w.1) (table_set a.mask a.xs.now a.slot w.0.0)
+returns-2 : tie.Need-returns
+returns-2 c = let a = c.args in
+    let f : SFits w16 c.in-Wrote.v = record { sfits = c.in-Wrote.known_told-1-own.given.0.1 } in
+    rw (to_z-of_z f, c.bit.ensures, c.in-Wrote.is) (table_set a.mask a.xs.now a.slot c.in-Wrote.v)
 
 pub keep_spec : {M : Type 1} → statement M
 keep_spec =
     tie.close
-    (tie.spec (λ c. search rules) (λ c. search rules) returns (λ c. search rules) (λ c. search rules) (λ c κs. search rules) returns-2)
+    (tie.spec
+    (λ c. search rules)
+    (λ c. search rules)
+    returns
+    (λ c. search rules)
+    (λ c. search rules)
+    (λ c κs. search rules)
+    returns-2)

@@ -12,23 +12,21 @@ use borrow.Author.Rules.{rules}
 use Rattle.parse_scan.proofs.limit_after.Statement.{statement}
 use Rattle.parse_scan.proofs.limit_after.Tie as tie
 
-returns : tie.Need-returns
-returns c = λ n. rw (to_z-of_z c.before.before.before.ranges.limit) (no_two _ (nodes_in c.before.before.before.args.ws.now c.before.before.before.args.val.now n) c.before.before.before.args.v c.before.before.before.args.limit c.before.kind-of.ensures c.match.keys2)
+returns : tie.Need-returns-in_default
+returns c = λ n. rw (to_z-of_z c.ranges.limit) (no_two _ (nodes_in c.args.ws.now c.args.val.now n) c.args.v c.args.limit c.kind_of-k.ensures c.in_default.in_default-own.keys2)
 
-returns-2 : tie.Need-returns-2
+returns-2 : tie.Need-returns
 returns-2 c = λ n.
-    let s = c.before.before.before.before.before.before.before.before.before.before in
-    let a = s.args in
-    let k = c.before.before.before.before.before.before in
+    let a = c.args in
     let ns = nodes_in a.ws.now a.val.now n in
-    let o = k.k.given.0.0 in
-    to_z-of_z {w = w16} (record { sfits = c.limit-by.type-inv })
+    let o = c.in-Two.o in
+    to_z-of_z {w = w16} (record { sfits = c.limit_by.type_inv })
     ∙ ◌∙◌ {b = cond (is_subtract o) (limit_in (value (tree_below ns a.v (left_at ns a.v))) (item_index (tree_below ns a.v (right_at ns a.v))) a.limit) a.limit}
-    (rw (to_z-of_z s.ranges.limit, c.before.before.before.number-below.ensures n, c.before.index_below.ensures n) at c.limit-by.ensures)
-    (limit_two ns a.v a.limit _ k.before.before.kind-of.ensures o k.k.given.1)
+    (rw (to_z-of_z c.ranges.limit, c.number_below-x.ensures n, c.index_below-index.ensures n) at c.limit_by.ensures)
+    (limit_two ns a.v a.limit _ c.kind_of-k.ensures o c.in-Two.is)
 
-pub limit-after-spec : {M : Type 1} → statement M
-limit-after-spec =
+pub limit_after_spec : {M : Type 1} → statement M
+limit_after_spec =
     tie.close
     (tie.spec
     (λ c. search rules)

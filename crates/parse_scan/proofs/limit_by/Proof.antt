@@ -9,20 +9,20 @@ use borrow.Author.Rules.{rules}
 use Rattle.parse_scan.proofs.limit_by.Statement.{statement}
 use Rattle.parse_scan.proofs.limit_by.Tie as tie
 
-returns : tie.Need-returns
-returns c = rw (to_z-of_z c.before.ranges.limit) (no_subtract c.before.args.o _ _ c.match.keys2)
+returns : tie.Need-returns-in_default
+returns c = rw (to_z-of_z c.ranges.limit) (no_subtract c.args.o _ _ c.in_default.in_default-own.keys2)
 
-returns-2 : tie.Need-returns-2
-returns-2 c = rw (to_z-of_z c.before.before.before.before.ranges.limit, c.before.before.enum_told.given.1, c.enum-told3.given.1) (limit_unindexed (number_of c.before.before.before.before.args.x) c.before.before.before.before.args.limit)
+returns-2 : tie.Need-returns-in_default-index
+returns-2 c = rw (to_z-of_z c.ranges.limit, c.in-Subtract.is, c.in_default-index.is) (limit_unindexed (number_of c.args.x) c.args.limit)
 
-returns-3 : tie.Need-returns-3
-returns-3 c = rw (to_z-of_z c.before.before.before.before.before.before.ranges.limit, c.before.before.before.before.enum_told.given.1, c.enum-told4.given.1)
+returns-3 : tie.Need-returns-in_default-x
+returns-3 c = rw (to_z-of_z c.ranges.limit, c.in-Subtract.is, c.in_default-x.is)
 
-returns-4 : tie.Need-returns-4
-returns-4 c = let f : SFits w32 c.before.before.x.given.0.0 = record { sfits = c.before.known-told.given.0.1 } in rw (to_z-of_z {w = w16} {z = c.cut.result} (record { sfits = c.cut.type-inv }), c.before.before.before.before.before.before.enum_told.given.1, c.before.before.before.before.enum-told2.given.1, c.before.before.x.given.1) (rw (to_z-of_z f) at c.cut.ensures)
+returns-4 : tie.Need-returns
+returns-4 c = let f : SFits w32 c.in-Is-x.z = record { sfits = c.in-Is-x.known_told-1-own.given.0.1 } in rw (to_z-of_z {w = w16} {z = c.cut.result} (record { sfits = c.cut.type_inv }), c.in-Subtract.is, c.in-Is.is, c.in-Is-x.is) (rw (to_z-of_z f) at c.cut.ensures)
 
-pub limit-by-spec : {M : Type 1} → statement M
-limit-by-spec =
+pub limit_by_spec : {M : Type 1} → statement M
+limit_by_spec =
     tie.close
     (tie.spec
     (λ c. search rules)

@@ -8,53 +8,44 @@ use Rattle.parse_scan.specs.InPlace.{good_len, done_none, done_absent, done_belo
 use borrow.Author.Rules.{rules}
 use Rattle.parse_scan.proofs.update_slot.Statement.{statement}
 use Rattle.parse_scan.proofs.update_slot.Tie as tie
-use Rattle.model.specs.Laws.Signed.{not_negative}
+use Rattle.model.proofs.Laws.Signed.{not_negative}
 
-returns : tie.Need-returns
-returns c = let s = c.before.before.before.before.before.before.before in
-    let a = s.args in
-    done_none a.items.now a.limits.now a.codes.now a.lens.now a.known a.i s.requires.0 s.requires.1 _ _ _ _ (ap short_is c.enum_told.given.1)
+returns : tie.Need-returns-in_default
+returns c = let a = c.args in
+    done_none a.items.now a.limits.now a.codes.now a.lens.now a.known a.i c.requires.0 c.requires.1 _ _ _ _ (ap short_is c.in_default.is)
 
-hide-slot-requires : tie.Need-hide-slot-requires
-hide-slot-requires c κs = let s = c.before.before.before.before.before.before.before.before.before.before.before.before in
-    let a = s.args in
-    let z = c.before.before.before.before.before.before.before.sizes.ensures in
-    ((s.requires.0, good_len a.items.now a.limits.now a.codes.now a.lens.now a.i s.requires.1), (z.codes, z.lens))
+hide-slot-requires : tie.Need-hide_slot-requires
+hide-slot-requires c κs = let a = c.args in
+    let z = c.sizes.ensures in
+    ((c.requires.0, good_len a.items.now a.limits.now a.codes.now a.lens.now a.i c.requires.1), (z.codes, z.lens))
 
-returns-2 : tie.Need-returns-2
-returns-2 c = let s = c.before.before.before.before.before.before.before.before.before.before.before.before.before in
-    let a = s.args in
-    done_absent a.items.now a.limits.now a.codes.now a.lens.now a.known a.i s.requires.0 s.requires.1 _ _ _ _ _ (ap short_is c.before.before.before.before.before.before.count.given.1) (ap short_is c.before.before.before.enum-told2.given.1) _ _ _ c.hide-slot.ensures
+returns-2 : tie.Need-returns-in_default-item
+returns-2 c = let a = c.args in
+    done_absent a.items.now a.limits.now a.codes.now a.lens.now a.known a.i c.requires.0 c.requires.1 _ _ _ _ _ (ap short_is c.in-Wrote.is) (ap short_is c.in_default-item.is) _ _ _ c.hide_slot.ensures
 
-hide-slot-requires-2 : tie.Need-hide-slot-requires-2
-hide-slot-requires-2 c κs = let s = c.before.before.before.before.before.before.before.before.before.before.before.before.before.before in
-    let a = s.args in
-    let z = c.before.before.before.before.before.before.before.before.before.sizes.ensures in
-    ((s.requires.0, good_len a.items.now a.limits.now a.codes.now a.lens.now a.i s.requires.1), (z.codes, z.lens))
+hide-slot-requires-2 : tie.Need-hide_slot-requires-then-id-lt0
+hide-slot-requires-2 c κs = let a = c.args in
+    let z = c.sizes.ensures in
+    ((c.requires.0, good_len a.items.now a.limits.now a.codes.now a.lens.now a.i c.requires.1), (z.codes, z.lens))
 
-returns-3 : tie.Need-returns-3
-returns-3 c = let s = c.before.before.before.before.before.before.before.before.before.before.before.before.before.before.before in
-    let a = s.args in
-    let k = c.before.before.before.before.before.item.given in
-    let f : SFits w16 k.0.0 = record { sfits = c.before.before.before.before.known-told2.given.0.1 } in
-    done_below a.items.now a.limits.now a.codes.now a.lens.now a.known a.i s.requires.0 s.requires.1 _ _ _ _ _ (ap short_is c.before.before.before.before.before.before.before.before.count.given.1) k.0.0 (ap short_is k.1) (rw (to_z-of_z f) at c.before.before.before.if1.true) _ _ _ c.hide-slot2.ensures
+returns-3 : tie.Need-returns-then-id-lt0
+returns-3 c = let a = c.args in
+    let f : SFits w16 c.in-Wrote-item.id = record { sfits = c.in-Wrote-item.known_told-in-Wrote-item-1-own.given.0.1 } in
+    done_below a.items.now a.limits.now a.codes.now a.lens.now a.known a.i c.requires.0 c.requires.1 _ _ _ _ _ (ap short_is c.in-Wrote.is) c.in-Wrote-item.id (ap short_is c.in-Wrote-item.is) (rw (to_z-of_z f) at c.if-id-lt0.true) _ _ _ c.hide_slot-then-id-lt0.ensures
 
-cast-t26 : tie.Need-overflow-cast-t26
-cast-t26 c = let k = c.before.before.before.before.item.given.0.0 in
-    let f : SFits w16 c.before.before.before.before.item.given.0.0 = record { sfits = c.before.before.before.known-told2.given.0.1 } in
-    rw (to_z-of_z f) (not_negative k (rw (to_z-of_z f) at c.before.before.if1.false), Fits-nat_abs {w = w16} tt f)
+cast-t26 : tie.Need-overflow_cast-id
+cast-t26 c = let k = c.in-Wrote-item.id in
+    let f : SFits w16 c.in-Wrote-item.id = record { sfits = c.in-Wrote-item.known_told-in-Wrote-item-1-own.given.0.1 } in
+    rw (to_z-of_z f) (not_negative k (rw (to_z-of_z f) at c.if-id-lt0.false), Fits-nat_abs {w = w16} tt f)
 
-returns-4 : tie.Need-returns-4
-returns-4 c = let s = c.before.before.before.before.before.before.before.before.before.before.before.before.before.before.before in
-    let a = s.args in
-    let k = c.before.before.before.before.before.item.given in
-    let z = c.before.before.before.before.before.before.before.before.count.given in
-    let fk : SFits w16 k.0.0 = record { sfits = c.before.before.before.before.known-told2.given.0.1 } in
-    let fz : SFits w16 z.0.0 = record { sfits = c.before.before.before.before.before.before.before.known-told.given.0.1 } in
-    done_filled a.items.now a.limits.now a.codes.now a.lens.now a.known a.i s.requires.0 s.requires.1 _ _ _ _ z.0.0 (ap short_is z.1) k.0.0 (ap short_is k.1) (rw (to_z-of_z fk) at c.before.before.before.if1.false) _ _ (rw (to_z-of_z fk, to_z-of_z fz) at c.fill-slot.ensures)
+returns-4 : tie.Need-returns
+returns-4 c = let a = c.args in
+    let fk : SFits w16 c.in-Wrote-item.id = record { sfits = c.in-Wrote-item.known_told-in-Wrote-item-1-own.given.0.1 } in
+    let fz : SFits w16 c.in-Wrote.z = record { sfits = c.in-Wrote.known_told-1-own.given.0.1 } in
+    done_filled a.items.now a.limits.now a.codes.now a.lens.now a.known a.i c.requires.0 c.requires.1 _ _ _ _ c.in-Wrote.z (ap short_is c.in-Wrote.is) c.in-Wrote-item.id (ap short_is c.in-Wrote-item.is) (rw (to_z-of_z fk) at c.if-id-lt0.false) _ _ (rw (to_z-of_z fk, to_z-of_z fz) at c.fill_slot.ensures)
 
-pub update-slot-spec : {M : Type 1} → statement M
-update-slot-spec =
+pub update_slot_spec : {M : Type 1} → statement M
+update_slot_spec =
     tie.close
     (tie.spec
     (λ c κs. search rules)

@@ -11,18 +11,23 @@ use borrow.Author.Rules.{rules}
 use Rattle.parse_scan.proofs.value_at.Statement.{statement}
 use Rattle.parse_scan.proofs.value_at.Tie as tie
 
-returns : tie.Need-returns
-returns c = let s = c.before.before.before in
-    let a = s.args in
-    ap {B = Option ℤ} some (to_z-of_z {w = w16} (record { sfits = c.t12.given }))
-    ∙ there a.mask a.xs.now c.before.before.size.ensures a.slot s.requires (eq-eqb (a.mask / 2 ^ a.slot % 2) 1 c.before.if1.true)
+returns : tie.Need-returns-then-mask-slot-eq1
+returns c = let a = c.args in
+    ap {B = Option ℤ} some (to_z-of_z {w = w16} (record { sfits = c.result-1.given }))
+    ∙ there a.mask a.xs.now c.size.ensures a.slot c.requires (eq-eqb (a.mask / 2 ^ a.slot % 2) 1 c.if-mask-slot-eq1.true)
 
-returns-2 : tie.Need-returns-2
-returns-2 c = let s = c.before.before in
-    let a = s.args in
-    absent a.mask a.xs.now c.before.size.ensures a.slot s.requires (ne_eqb (a.mask / 2 ^ a.slot % 2) 1 c.if1.false)
+returns-2 : tie.Need-returns
+returns-2 c = let a = c.args in
+    absent a.mask a.xs.now c.size.ensures a.slot c.requires (ne_eqb (a.mask / 2 ^ a.slot % 2) 1 c.if-mask-slot-eq1.false)
 
-pub value-at-spec : {M : Type 1} → statement M
-value-at-spec =
+pub value_at_spec : {M : Type 1} → statement M
+value_at_spec =
     tie.close
-    (tie.spec (λ c κs. search rules) (λ c. search rules) (λ c. search rules) (λ c. search rules) (λ c. search rules) returns returns-2)
+    (tie.spec
+    (λ c κs. search rules)
+    (λ c. search rules)
+    (λ c. search rules)
+    (λ c. search rules)
+    (λ c. search rules)
+    returns
+    returns-2)

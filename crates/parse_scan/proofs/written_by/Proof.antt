@@ -12,43 +12,40 @@ use borrow.Author.Rules.{rules}
 use Rattle.parse_scan.proofs.written_by.Statement.{statement}
 use Rattle.parse_scan.proofs.written_by.Tie as tie
 
-returns : tie.Need-returns
+returns : tie.Need-returns-in-Two
 returns c = λ n.
-    let a = c.before.before.before.before.args in
-    wrote_two (nodes_in a.ws.now a.val.now n) a.v a.limit _ c.before.before.kind-of.ensures _ c.enum_told.given.1
+    let a = c.args in
+    wrote_two (nodes_in a.ws.now a.val.now n) a.v a.limit _ c.kind_of-k.ensures _ c.in-Two.is
 
-returns-2 : tie.Need-returns-2
+returns-2 : tie.Need-returns-in-One
 returns-2 c = λ n.
-    let s = c.before.before.before.before.before.before.before.before in
-    let a = s.args in
+    let a = c.args in
     let ns = nodes_in a.ws.now a.val.now n in
-    let k = c.before.before.before.before.k.given in
-    ◌∙◌ {b = reads_first k.0.0 (value (tree_below ns a.v (left_at ns a.v))) a.limit} (rw (to_z-of_z s.ranges.limit, c.before.number-below.ensures n) at c.first_of.ensures)
-    (wrote_one ns a.v a.limit _ c.before.before.before.before.before.before.kind-of.ensures k.0.0 k.1)
+    ◌∙◌ {b = reads_first c.in-One.o (value (tree_below ns a.v (left_at ns a.v))) a.limit} (rw (to_z-of_z c.ranges.limit, c.number_below.ensures n) at c.first_of.ensures)
+    (wrote_one ns a.v a.limit _ c.kind_of-k.ensures c.in-One.o c.in-One.is)
 
-returns-3 : tie.Need-returns-3
+returns-3 : tie.Need-returns-in-Imm16
 returns-3 c = λ n.
-    let s = c.before.before.before.before.before.before in
-    let a = s.args in
+    let a = c.args in
     let ns = nodes_in a.ws.now a.val.now n in
-    let k = c.before.before.before.before.kind-of.ensures in
-    let e = c.before.before.enum-told2.given.1 in
-    ap {B = Option ℤ} some (to_z-of_z {w = w16} (record { sfits = c.cut.type-inv }) ∙ (rw (to_z-of_z {w = w32} (record { sfits = c.before.cut-arg.given })) at c.cut.ensures))
-    ∙ wrote_imm16 ns a.v a.limit _ k e (s.requires.short (code_imm16 ns a.v a.limit _ k e))
+    let k = c.kind_of-k.ensures in
+    let e = c.in-Imm16.is in
+    ap {B = Option ℤ} some (to_z-of_z {w = w16} (record { sfits = c.cut.type_inv }) ∙ (rw (to_z-of_z {w = w32} (record { sfits = c.cut-arg-1.given })) at c.cut.ensures))
+    ∙ wrote_imm16 ns a.v a.limit _ k e (c.requires.short (code_imm16 ns a.v a.limit _ k e))
 
-returns-4 : tie.Need-returns-4
+returns-4 : tie.Need-returns-in-Imm32
 returns-4 c = λ n.
-    let a = c.before.before.before.before.before.before.args in
-    ap {B = Option ℤ} some (to_z-of_z {w = w16} (record { sfits = c.cut2.type-inv }) ∙ (rw (to_z-of_z {w = w32} (record { sfits = c.before.cut-arg2.given })) at c.cut2.ensures))
-    ∙ wrote_imm32 (nodes_in a.ws.now a.val.now n) a.v a.limit _ c.before.before.before.before.kind-of.ensures c.before.before.enum-told3.given.1
+    let a = c.args in
+    ap {B = Option ℤ} some (to_z-of_z {w = w16} (record { sfits = c.cut-in-Imm32.type_inv }) ∙ (rw (to_z-of_z {w = w32} (record { sfits = c.cut-arg-in-Imm32-1.given })) at c.cut-in-Imm32.ensures))
+    ∙ wrote_imm32 (nodes_in a.ws.now a.val.now n) a.v a.limit _ c.kind_of-k.ensures c.in-Imm32.is
 
-returns-5 : tie.Need-returns-5
+returns-5 : tie.Need-returns-in-Other
 returns-5 c = λ n.
-    let a = c.before.before.before.before.args in
-    wrote_other (nodes_in a.ws.now a.val.now n) a.v a.limit _ c.before.before.kind-of.ensures c.enum-told4.given.1
+    let a = c.args in
+    wrote_other (nodes_in a.ws.now a.val.now n) a.v a.limit _ c.kind_of-k.ensures c.in-Other.is
 
-pub written-by-spec : {M : Type 1} → statement M
-written-by-spec =
+pub written_by_spec : {M : Type 1} → statement M
+written_by_spec =
     tie.close
     (tie.spec
     (λ c. search rules)

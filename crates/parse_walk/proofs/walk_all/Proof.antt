@@ -8,8 +8,8 @@ use lib.ListN.{get_or, take}
 use borrow.Author.Tests.{not-true}
 use Rattle.shop_arrays.specs.Arrays.{arrays_in, shop_from}
 use Rattle.model.specs.Memory.{Memory}
-use Rattle.model.specs.Laws.Checks.{is_true}
-use Rattle.model.specs.Laws.Marks.{unmarked}
+use Rattle.model.proofs.Laws.Checks.{is_true}
+use Rattle.model.proofs.Laws.Marks.{unmarked}
 use Rattle.shop.specs.declared.Shop.{Shop}
 use Rattle.reach.specs.Stacks.{top_most, is_code_at}
 use Rattle.parse_visit.specs.State.{Stored, stored_in}

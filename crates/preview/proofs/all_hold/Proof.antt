@@ -7,7 +7,7 @@ use native.Mathlib.Omega.{arith}
 use lib.IntN.{ℤ}
 use lib.ListN.{length, get_or}
 use Rattle.model.specs.Meaning.{holds}
-use Rattle.model.specs.Laws.Checks.{is_true, is_false}
+use Rattle.model.proofs.Laws.Checks.{answered}
 use Rattle.shop_codes.specs.Codes.{requirement_of}
 use Rattle.shop.specs.Shapes.{entries}
 use Rattle.shop.specs.Slots.{entries_length}
@@ -23,50 +23,50 @@ use Rattle.preview.proofs.all_hold.Tie as tie
 abbrev held : List ℤ → List ℕ → List ℕ → List ℤ → List ℤ → ℕ → Bool
 held items atcs flags t v c = holds (save_of items atcs flags t v) (requirement_of c)
 
-abbrev invariant-loop : tie.invariant-loop
+abbrev invariant-loop : tie.invariant-loop-i
 invariant-loop row len items atcs flags n i₀ i = (t v : List ℤ) → Tested (held items atcs flags t v) (entries n row) i
 
-abbrev decreases-loop : tie.decreases-loop
+abbrev decreases-loop : tie.decreases-loop-i
 decreases-loop row len items atcs flags n i₀ i = n - i
 
 -- the entries, and the one that is tested
 abbrev listed : tie.Start invariant-loop decreases-loop → List ℕ
 listed s = entries s.args.len s.args.row.now
 
-inside : (c : tie.In-loop invariant-loop decreases-loop) → c.before.loop.i < length (listed c.before.before.before.before.before)
-inside c = omega (arith, entries_length c.before.before.before.before.before.args.len c.before.before.before.before.before.args.row.now, c.loop-test.true)
+inside : (c : tie.In-loop-i invariant-loop decreases-loop) → c.loop-i.i < length (listed c.before.before.before.before.before)
+inside c = omega (arith, entries_length c.args.len c.args.row.now, c.loop-i-test.true)
 
-entry : (c : tie.In-loop invariant-loop decreases-loop) → get_or (listed c.before.before.before.before.before) c.before.loop.i 0 ≡ get_or c.before.before.before.before.before.args.row.now c.before.loop.i 0
-entry c = entry_is c.before.before.before.before.before.args.len c.before.before.before.before.before.args.row.now c.before.loop.i c.loop-test.true
+entry : (c : tie.In-loop-i invariant-loop decreases-loop) → get_or (listed c.before.before.before.before.before) c.loop-i.i 0 ≡ get_or c.args.row.now c.loop-i.i 0
+entry c = entry_is c.args.len c.args.row.now c.loop-i.i c.loop-i-test.true
 
-loop-holds : tie.Need-loop-init invariant-loop decreases-loop
+loop-holds : tie.Need-loop-i-init invariant-loop decreases-loop
 loop-holds c = λ t v. start _ _
 
-returns : tie.Need-returns invariant-loop decreases-loop
+returns : tie.Need-returns-then-not-holds invariant-loop decreases-loop
 returns c = λ t v.
     let s = c.before.before.before.before.before.before.before.before in
-    let i = c.before.before.before.before.loop.i in
+    let i = c.loop-i.i in
     let p = held s.args.items.now s.args.atcs.now s.args.flags.now t v in
-    stop p (listed s) i (c.before.before.before.before.loop.invariant t v) 0 (inside c.before.before.before)
-    (ap p (entry c.before.before.before ∙ sym c.before.before.entry_at.ensures) ∙ is_false (p c.before.before.entry_at.result) (c.before.holds.ensures t v) c.if1.true)
+    stop p (listed s) i (c.loop-i.invariant t v) 0 (inside c.before.before.before)
+    (ap p (entry c.before.before.before ∙ sym c.entry_at.ensures) ∙ answered (p c.entry_at.result) (c.holds.ensures t v) c.if-not-holds.true)
     ∙ all_held (save_of s.args.items.now s.args.atcs.now s.args.flags.now t v) (listed s)
 
-loop-again : tie.Need-loop-preserved invariant-loop decreases-loop
+loop-again : tie.Need-loop-i-preserved invariant-loop decreases-loop
 loop-again c = λ t v.
     let s = c.before.before.before.before.before.before.before.before in
-    let i = c.before.before.before.before.loop.i in
+    let i = c.loop-i.i in
     let p = held s.args.items.now s.args.atcs.now s.args.flags.now t v in
-    more p (listed s) i (c.before.before.before.before.loop.invariant t v) 0 (inside c.before.before.before)
-    (ap p (entry c.before.before.before ∙ sym c.before.before.entry_at.ensures) ∙ is_true (p c.before.before.entry_at.result) (c.before.holds.ensures t v) c.if1.false)
+    more p (listed s) i (c.loop-i.invariant t v) 0 (inside c.before.before.before)
+    (ap p (entry c.before.before.before ∙ sym c.entry_at.ensures) ∙ answered (p c.entry_at.result) (c.holds.ensures t v) c.if-not-holds.false)
 
-returns-2 : tie.Need-returns-2 invariant-loop decreases-loop
+returns-2 : tie.Need-returns invariant-loop decreases-loop
 returns-2 c = λ t v.
     let s = c.before.before.before.before.before in
-    done (held s.args.items.now s.args.atcs.now s.args.flags.now t v) (listed s) c.before.loop.i (c.before.loop.invariant t v) (omega (arith, entries_length s.args.len s.args.row.now, c.loop-test.false))
+    done (held s.args.items.now s.args.atcs.now s.args.flags.now t v) (listed s) c.loop-i.i (c.loop-i.invariant t v) (omega (arith, entries_length s.args.len s.args.row.now, c.loop-i-test.false))
     ∙ all_held (save_of s.args.items.now s.args.atcs.now s.args.flags.now t v) (listed s)
 
-pub all-hold-spec : {M : Type 1} → statement M
-all-hold-spec =
+pub all_hold_spec : {M : Type 1} → statement M
+all_hold_spec =
     tie.close
     (tie.spec
     invariant-loop

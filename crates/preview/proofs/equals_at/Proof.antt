@@ -9,7 +9,10 @@ use Rattle.preview.proofs.equals_at.Statement.{statement}
 use Rattle.preview.proofs.equals_at.Tie as tie
 
 returns : tie.Need-returns
-returns c = same_bits c.short-at.result c.before.args.x (record { sfits = c.short-at.type-inv }) (omega arith) ∙ ap (λ (z : ℤ). eq_z z (pos c.before.args.x)) c.short-at.ensures
+returns c = same_bits c.short_at.result c.args.x (record { sfits = c.short_at.type_inv }) (omega arith) ∙ ap (λ (z : ℤ). eq_z z (pos c.args.x)) c.short_at.ensures
 
-pub equals-at-spec : {M : Type 1} → statement M
-equals-at-spec = tie.close (tie.spec (λ c κs. search rules) (λ c. search rules) returns)
+pub equals_at_spec : {M : Type 1} → statement M
+equals_at_spec = tie.close (tie.spec
+    (λ c κs. search rules)
+    (λ c. search rules)
+    returns)

@@ -9,16 +9,20 @@ use Rattle.preview.proofs.Places.{none_at, one_at}
 use borrow.Author.Rules.{rules}
 use Rattle.preview.proofs.flag_at.Statement.{statement}
 use Rattle.preview.proofs.flag_at.Tie as tie
-use Rattle.model.specs.Laws.Signed.{not_negative}
+use Rattle.model.proofs.Laws.Signed.{not_negative}
 
-returns : tie.Need-returns
-returns c = let s = c.before.before in sym (ap (λ (z : ℤ). not (is_zero z)) (none_at s.args.flags.now s.args.number (rw (to_z-of_z s.ranges.number) at c.if1.true)))
+returns : tie.Need-returns-then-number-lt0
+returns c = let s = c.before.before in sym (ap (λ (z : ℤ). not (is_zero z)) (none_at s.args.flags.now s.args.number (rw (to_z-of_z s.ranges.number) at c.if-number-lt0.true)))
 
-cast-bit-at : tie.Need-overflow-cast-bit-at
-cast-bit-at c = let s = c.before.before in rw (to_z-of_z s.ranges.number) (not_negative s.args.number (rw (to_z-of_z s.ranges.number) at c.if1.false), Fits-nat_abs {w = w32} tt s.ranges.number)
+cast-bit-at : tie.Need-overflow_cast-number
+cast-bit-at c = let s = c.before.before in rw (to_z-of_z s.ranges.number) (not_negative s.args.number (rw (to_z-of_z s.ranges.number) at c.if-number-lt0.false), Fits-nat_abs {w = w32} tt s.ranges.number)
 
-returns-2 : tie.Need-returns-2
-returns-2 c = let s = c.before.before.before in (rw (to_z-of_z s.ranges.number) at c.bit-at.ensures) ∙ sym (ap (λ (z : ℤ). not (is_zero z)) (one_at s.args.flags.now s.args.number (rw (to_z-of_z s.ranges.number) at c.before.if1.false)))
+returns-2 : tie.Need-returns
+returns-2 c = let s = c.before.before.before in (rw (to_z-of_z s.ranges.number) at c.bit_at.ensures) ∙ sym (ap (λ (z : ℤ). not (is_zero z)) (one_at s.args.flags.now s.args.number (rw (to_z-of_z s.ranges.number) at c.if-number-lt0.false)))
 
-pub flag-at-spec : {M : Type 1} → statement M
-flag-at-spec = tie.close (tie.spec returns cast-bit-at (λ c κs. search rules) returns-2)
+pub flag_at_spec : {M : Type 1} → statement M
+flag_at_spec = tie.close (tie.spec
+    returns
+    cast-bit-at
+    (λ c κs. search rules)
+    returns-2)

@@ -13,7 +13,12 @@ returns : tie.Need-returns
 unfolding slot_at
 returns c = λ cs.
     let s = c.before.before.before in
-    rw (to_z-of_z {w = w16} {z = get_or s.args.limits.now s.args.i (pos 0)} (record { sfits = c.before.t9.given }), c.before.before.item-at.ensures) refl
+    rw (to_z-of_z {w = w16} {z = get_or s.args.limits.now s.args.i (pos 0)} (record { sfits = c.result-1.given }), c.item_at-item.ensures) refl
 
-pub head-at-spec : {M : Type 1} → statement M
-head-at-spec = tie.close (tie.spec (λ c κs. search rules) (λ c. search rules) (λ c. search rules) (λ c. search rules) returns)
+pub head_at_spec : {M : Type 1} → statement M
+head_at_spec = tie.close (tie.spec
+    (λ c κs. search rules)
+    (λ c. search rules)
+    (λ c. search rules)
+    (λ c. search rules)
+    returns)

@@ -8,7 +8,7 @@ use Rattle.model.specs.Save.{Save}
 use Rattle.model.specs.Sheet.{Sheet, atc_for}
 use Rattle.model.specs.Compile.{acquired_req}
 use Rattle.model.specs.Meaning.{holds}
-use Rattle.model.specs.Laws.Checks.{answered}
+use Rattle.model.proofs.Laws.Checks.{answered}
 use Rattle.shop.specs.Shapes.{sheet_of}
 use Rattle.checks.specs.Calls.{save_of}
 use Rattle.preview.proofs.Acquired.{acquired_by_lem}
@@ -26,19 +26,24 @@ save s f v = save_of s.args.items.now s.args.atcs.now f s.args.times.now v
 abbrev owned : tie.Start → List ℕ → List ℤ → Bool
 owned s f v = holds (save s f v) (acquired_req (atc_for (sheet s) s.args.item.0) s.args.item.0)
 
-returns : tie.Need-returns
+returns : tie.Need-returns-then-is_owned
 returns c = λ f v.
     let s = c.before.before.before.before in
-    let o = answered (owned s f v) (c.before.is-owned.ensures s.args.sheet f s.args.times.now v) c.if1.true in
+    let o = answered (owned s f v) (c.is_owned.ensures s.args.sheet f s.args.times.now v) c.if-is_owned.true in
     sym (acquired_by_lem (sheet s) (save s f v) s.args.item.0 ∙ rw o)
 
-returns-2 : tie.Need-returns-2
+returns-2 : tie.Need-returns
 returns-2 c = λ f v.
     let s = c.before.before.before.before.before.before in
-    let o = answered (owned s f v) (c.before.before.before.is-owned.ensures s.args.sheet f s.args.times.now v) c.before.before.if1.false in
-    c.is-rated.ensures
-    ∙ sym (acquired_by_lem (sheet s) (save s f v) s.args.item.0 ∙ rw (o, ← c.before.timer-of.ensures s.args.attached.now))
+    let o = answered (owned s f v) (c.is_owned.ensures s.args.sheet f s.args.times.now v) c.if-is_owned.false in
+    c.is_rated.ensures
+    ∙ sym (acquired_by_lem (sheet s) (save s f v) s.args.item.0 ∙ rw (o, ← c.timer_of.ensures s.args.attached.now))
 
-pub is-acquired-spec : {M : Type 1} → statement M
-is-acquired-spec =
-    tie.close (tie.spec (λ c κs. search rules) returns (λ c κs. search rules) (λ c κs. search rules) returns-2)
+pub is_acquired_spec : {M : Type 1} → statement M
+is_acquired_spec =
+    tie.close (tie.spec
+    (λ c κs. search rules)
+    returns
+    (λ c κs. search rules)
+    (λ c κs. search rules)
+    returns-2)

@@ -6,7 +6,10 @@ use Rattle.preview.proofs.is_held.Statement.{statement}
 use Rattle.preview.proofs.is_held.Tie as tie
 
 returns : tie.Need-returns
-returns c = rw (to_z-of_z {w = w16} (record { sfits = c.short-at.type-inv }), c.short-at.ensures)
+returns c = rw (to_z-of_z {w = w16} (record { sfits = c.short_at.type_inv }), c.short_at.ensures)
 
-pub is-held-spec : {M : Type 1} → statement M
-is-held-spec = tie.close (tie.spec (λ c. search rules) (λ c κs. search rules) returns)
+pub is_held_spec : {M : Type 1} → statement M
+is_held_spec = tie.close (tie.spec
+    (λ c. search rules)
+    (λ c κs. search rules)
+    returns)

@@ -9,22 +9,22 @@ use borrow.Author.Rules.{rules}
 use Rattle.preview.proofs.is_owned.Statement.{statement}
 use Rattle.preview.proofs.is_owned.Tie as tie
 
-returns : tie.Need-returns
+returns : tie.Need-returns-in-Nothing
 unfolding holds
 returns c = λ h f t v.
-    let s = c.before.before.before.before.before.before.before in
-    ap not c.equals-at.ensures
-    ∙ owned_by (save_of s.args.items.now s.args.atcs.now f t v) s.args.attached.now h s.args.item.0 _ (sym (ap atc_is c.before.before.enum_told.given.1) ∙ c.before.before.before.before.atc-for.ensures)
+    let s = c.before.before.before.before.before.before in
+    ap not c.equals_at.ensures
+    ∙ owned_by (save_of s.args.items.now s.args.atcs.now f t v) s.args.attached.now h s.args.item.0 _ (sym (ap atc_is c.in-Nothing.is) ∙ c.atc_for-atc.ensures)
 
-returns-2 : tie.Need-returns-2
+returns-2 : tie.Need-returns-in-Of
 unfolding holds
 returns-2 c = λ h f t v.
-    let s = c.before.before.before.before.before.before.before.before in
-    c.bit-at.ensures
-    ∙ owned_by (save_of s.args.items.now s.args.atcs.now f t v) s.args.attached.now h s.args.item.0 _ (sym (ap atc_is c.before.before.before.atc.given.1) ∙ c.before.before.before.before.before.atc-for.ensures)
+    let s = c.before.before.before.before.before.before in
+    c.bit_at.ensures
+    ∙ owned_by (save_of s.args.items.now s.args.atcs.now f t v) s.args.attached.now h s.args.item.0 _ (sym (ap atc_is c.in-Of.is) ∙ c.atc_for-atc.ensures)
 
-pub is-owned-spec : {M : Type 1} → statement M
-is-owned-spec =
+pub is_owned_spec : {M : Type 1} → statement M
+is_owned_spec =
     tie.close
     (tie.spec
     (λ c κs. search rules)

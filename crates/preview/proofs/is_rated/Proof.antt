@@ -6,11 +6,15 @@ use borrow.Author.Rules.{rules}
 use Rattle.preview.proofs.is_rated.Statement.{statement}
 use Rattle.preview.proofs.is_rated.Tie as tie
 
-returns : tie.Need-returns
-returns c = rate_none (timer_is c.before.before.args.timer) _ (sym c.before.rate-of.ensures ∙ c.if1.true)
+returns : tie.Need-returns-then-rate-eq0
+returns c = rate_none (timer_is c.args.timer) _ (sym c.rate_of-rate.ensures ∙ c.if-rate-eq0.true)
 
-returns-2 : tie.Need-returns-2
-returns-2 c = (rw c.before.before.rate-of.ensures at c.equals-at.ensures) ∙ rate_some (timer_is c.before.before.before.args.timer) _ (λ e. c.before.if1.false (c.before.before.rate-of.ensures ∙ e))
+returns-2 : tie.Need-returns
+returns-2 c = (rw c.rate_of-rate.ensures at c.equals_at.ensures) ∙ rate_some (timer_is c.args.timer) _ (λ e. c.if-rate-eq0.false (c.rate_of-rate.ensures ∙ e))
 
-pub is-rated-spec : {M : Type 1} → statement M
-is-rated-spec = tie.close (tie.spec (λ c κs. search rules) returns (λ c κs. search rules) returns-2)
+pub is_rated_spec : {M : Type 1} → statement M
+is_rated_spec = tie.close (tie.spec
+    (λ c κs. search rules)
+    returns
+    (λ c κs. search rules)
+    returns-2)

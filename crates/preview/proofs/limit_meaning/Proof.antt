@@ -10,18 +10,18 @@ use borrow.Author.Rules.{rules}
 use Rattle.preview.proofs.limit_meaning.Statement.{statement}
 use Rattle.preview.proofs.limit_meaning.Tie as tie
 
-returns : tie.Need-returns
+returns : tie.Need-returns-then-r
 returns c = λ bs f t v.
     let s = c.before.before.before.before.before in
-    let e = rw (to_z-of_z {w = w16} (record { sfits = c.before.short-at.type-inv })) at c.remaining.ensures in
-    let d = to_z-of_z {w = w32} (record { sfits = c.remaining.type-inv }) ∙ e ∙ ap (λ (z : ℤ). clamp (pos s.args.limit -ℤ z)) c.before.short-at.ensures in
-    rw (c.before.before.before.before.if1.true, to_z_pos w32 {n = s.args.item.0} (omega arith)) (ap (kept s.args.item.0) d)
+    let e = rw (to_z-of_z {w = w16} (record { sfits = c.short_at.type_inv })) at c.remaining.ensures in
+    let d = to_z-of_z {w = w32} (record { sfits = c.remaining.type_inv }) ∙ e ∙ ap (λ (z : ℤ). clamp (pos s.args.limit -ℤ z)) c.short_at.ensures in
+    rw (c.if-r.true, to_z_pos w32 {n = s.args.item.0} (omega arith)) (ap (kept s.args.item.0) d)
 
-returns-2 : tie.Need-returns-2
-returns-2 c = λ bs f t v. rw c.before.if1.false c.hidden.ensures
+returns-2 : tie.Need-returns
+returns-2 c = λ bs f t v. rw c.if-r.false c.hidden.ensures
 
-pub limit-meaning-spec : {M : Type 1} → statement M
-limit-meaning-spec =
+pub limit_meaning_spec : {M : Type 1} → statement M
+limit_meaning_spec =
     tie.close
     (tie.spec
     (λ c. search rules)

@@ -7,7 +7,10 @@ use Rattle.preview.proofs.listed.Statement.{statement}
 use Rattle.preview.proofs.listed.Tie as tie
 
 returns : tie.Need-returns
-returns c = rw (to_z_pos w32 {n = c.before.args.item.0} (omega arith), to_z_pos w32 {n = c.before.args.count} (omega arith))
+returns c = rw (to_z_pos w32 {n = c.args.item.0} (omega arith), to_z_pos w32 {n = c.args.count} (omega arith))
 
-pub listed-spec : {M : Type 1} → statement M
-listed-spec = tie.close (tie.spec (λ c. search rules) (λ c. search rules) returns)
+pub listed_spec : {M : Type 1} → statement M
+listed_spec = tie.close (tie.spec
+    (λ c. search rules)
+    (λ c. search rules)
+    returns)

@@ -34,28 +34,28 @@ slot s = parts_of s.args.head (row_at s.args.codes.now s.args.i)
 wide : (s : tie.Start) → entry_limit * s.args.i + entry_limit - entry_limit * s.args.i ≡ entry_limit
 wide s = omega arith
 
-returns : tie.Need-returns
+returns : tie.Need-returns-then-most-le1
 unfolding slot_of
 returns c = λ v.
-    let s = c.before.before.before.before.before.before.before.before.before.before.before.before.before in
-    let r = rw (wide s) at (c.before.before.before.before.all_hold.ensures s.args.times.now v) in
-    let l = rw (to_z-of_z {w = w16} {z = s.args.head.limit} (record { sfits = c.before.before.before.struct_told.given.1.0.1 })) at c.before.before.limit-of.ensures in
-    meaning_unique (sheet s) (save s v) (slot s) _ c.before.before.before.before.before.before.before.before.item.given.1 _ r _ l c.before.if1.true (c.unique-meaning.ensures s.args.flags.now v)
+    let s = c.before.before.before.before.before.before.before.before.before.before.before in
+    let r = rw (wide s) at (c.all_hold-r.ensures s.args.times.now v) in
+    let l = rw (to_z-of_z {w = w16} {z = s.args.head.limit} (record { sfits = c.struct_told-1.given.1.0.1 })) at c.limit_of-most.ensures in
+    meaning_unique (sheet s) (save s v) (slot s) _ c.in-Of.is _ r _ l c.if-most-le1.true (c.unique_meaning.ensures s.args.flags.now v)
 
-returns-2 : tie.Need-returns-2
+returns-2 : tie.Need-returns-in-Nothing
 unfolding meaning_of slot_of
-returns-2 c = λ v. rw c.before.enum_told.given.1 c.hidden.ensures
+returns-2 c = λ v. rw c.in-Nothing.is c.hidden.ensures
 
-returns-3 : tie.Need-returns-3
+returns-3 : tie.Need-returns-else-most-le1
 unfolding slot_of
 returns-3 c = λ v.
-    let s = c.before.before.before.before.before.before.before.before.before.before.before.before.before in
-    let r = rw (wide s) at (c.before.before.before.before.all_hold.ensures s.args.times.now v) in
-    let l = rw (to_z-of_z {w = w16} {z = s.args.head.limit} (record { sfits = c.before.before.before.struct_told.given.1.0.1 })) at c.before.before.limit-of.ensures in
-    meaning_limit (sheet s) (save s v) (slot s) _ c.before.before.before.before.before.before.before.before.item.given.1 _ r _ l c.before.if1.false (c.limit-meaning.ensures s.args.atcs.now s.args.flags.now s.args.times.now v)
+    let s = c.before.before.before.before.before.before.before.before.before.before.before in
+    let r = rw (wide s) at (c.all_hold-r.ensures s.args.times.now v) in
+    let l = rw (to_z-of_z {w = w16} {z = s.args.head.limit} (record { sfits = c.struct_told-1.given.1.0.1 })) at c.limit_of-most.ensures in
+    meaning_limit (sheet s) (save s v) (slot s) _ c.in-Of.is _ r _ l c.if-most-le1.false (c.limit_meaning.ensures s.args.atcs.now s.args.flags.now s.args.times.now v)
 
-pub meaning-at-spec : {M : Type 1} → statement M
-meaning-at-spec =
+pub meaning_at_spec : {M : Type 1} → statement M
+meaning_at_spec =
     tie.close
     (tie.spec
     (λ c. search rules)

@@ -6,7 +6,7 @@ use Rattle.model.specs.Limits.{slot_count}
 use Rattle.model.specs.Save.{Save}
 use Rattle.model.specs.Sheet.{Sheet, sheet_ok, save_ok, all}
 use Rattle.model.specs.Shop.{slot_ok}
-use Rattle.model.specs.Laws.Checks.{is_true, is_false}
+use Rattle.model.proofs.Laws.Checks.{answered}
 use Rattle.shop.specs.Shapes.{sheet_of, slots_of}
 use Rattle.shop.specs.declared.Shop.{Shop}
 use Rattle.shop_arrays.specs.Arrays.{arrays_in, shop_from}
@@ -35,44 +35,44 @@ slots-ok s = all (slot_ok (sheet s)) (slots_of (shop s))
 size : (s : tie.Start) → length (shop s).slots ≡ slot_count
 size s = slots_long (arrays_in s.args.sold.now s.args.limits.now s.args.codes.now s.args.lens.now)
 
-returns : tie.Need-returns
+returns : tie.Need-returns-then-not-check_sheet
 unfolding previewed_of
 returns c =
     let s = c.before.before.before.before.before.before in
     answered (sheet s) (save s) (shop s) (size s) _ false _ _ _
-    (is_false (sheet_ok (sheet s)) c.before.before.check-sheet.ensures c.before.if1.true)
+    (answered (sheet_ok (sheet s)) c.check_sheet.ensures c.if-not-check_sheet.true)
     refl refl refl c.blank.ensures
 
-returns-2 : tie.Need-returns-2
+returns-2 : tie.Need-returns-then-not-check_arrays
 unfolding previewed_of
 returns-2 c =
     let s = c.before.before.before.before.before.before.before.before in
     answered (sheet s) (save s) (shop s) (size s) _ true false _ _
-    (is_true (sheet_ok (sheet s)) c.before.before.before.before.check-sheet.ensures c.before.before.before.if1.false)
-    (is_false (slots-ok s) (c.before.before.check-arrays.ensures s.args.limits.now) c.before.if2.true)
-    refl refl c.blank2.ensures
+    (answered (sheet_ok (sheet s)) c.check_sheet.ensures c.if-not-check_sheet.false)
+    (answered (slots-ok s) (c.check_arrays.ensures s.args.limits.now) c.if-not-check_arrays.true)
+    refl refl c.blank-then-not-check_arrays.ensures
 
-returns-3 : tie.Need-returns-3
+returns-3 : tie.Need-returns-then-not-check_save
 unfolding previewed_of
 returns-3 c =
     let s = c.before.before.before.before.before.before.before.before.before.before in
     answered (sheet s) (save s) (shop s) (size s) _ true true false _
-    (is_true (sheet_ok (sheet s)) c.before.before.before.before.before.before.check-sheet.ensures c.before.before.before.before.before.if1.false)
-    (is_true (slots-ok s) (c.before.before.before.before.check-arrays.ensures s.args.limits.now) c.before.before.before.if2.false)
-    (is_false (save_ok (sheet s) (save s)) c.before.before.check-save.ensures c.before.if3.true)
-    refl c.blank3.ensures
+    (answered (sheet_ok (sheet s)) c.check_sheet.ensures c.if-not-check_sheet.false)
+    (answered (slots-ok s) (c.check_arrays.ensures s.args.limits.now) c.if-not-check_arrays.false)
+    (answered (save_ok (sheet s) (save s)) c.check_save.ensures c.if-not-check_save.true)
+    refl c.blank-then-not-check_save.ensures
 
-returns-4 : tie.Need-returns-4
+returns-4 : tie.Need-returns
 returns-4 c =
     let s = c.before.before.before.before.before.before.before.before.before.before in
     answered (sheet s) (save s) (shop s) (size s) _ true true true _
-    (is_true (sheet_ok (sheet s)) c.before.before.before.before.before.before.check-sheet.ensures c.before.before.before.before.before.if1.false)
-    (is_true (slots-ok s) (c.before.before.before.before.check-arrays.ensures s.args.limits.now) c.before.before.before.if2.false)
-    (is_true (save_ok (sheet s) (save s)) c.before.before.check-save.ensures c.before.if3.false)
+    (answered (sheet_ok (sheet s)) c.check_sheet.ensures c.if-not-check_sheet.false)
+    (answered (slots-ok s) (c.check_arrays.ensures s.args.limits.now) c.if-not-check_arrays.false)
+    (answered (save_ok (sheet s) (save s)) c.check_save.ensures c.if-not-check_save.false)
     refl c.meanings.ensures
 
-pub preview-arrays-spec : {M : Type 1} → statement M
-preview-arrays-spec =
+pub preview_arrays_spec : {M : Type 1} → statement M
+preview_arrays_spec =
     tie.close
     (tie.spec
     (λ c κs. search rules)

@@ -8,7 +8,10 @@ use Rattle.preview.proofs.remaining.Statement.{statement}
 use Rattle.preview.proofs.remaining.Tie as tie
 
 returns : tie.Need-returns
-returns c = to_z-of_z {w = w32} (record { sfits = c.remaining.type-inv }) ∙ (rw (to_z-of_z c.before.ranges.held, to_z_pos w16 {n = c.before.args.limit} (omega arith)) at c.remaining.ensures)
+returns c = to_z-of_z {w = w32} (record { sfits = c.remaining.type_inv }) ∙ (rw (to_z-of_z c.ranges.held, to_z_pos w16 {n = c.args.limit} (omega arith)) at c.remaining.ensures)
 
-pub remaining-spec : {M : Type 1} → statement M
-remaining-spec = tie.close (tie.spec (λ c. search rules) (λ c κs. search rules) returns)
+pub remaining_spec : {M : Type 1} → statement M
+remaining_spec = tie.close (tie.spec
+    (λ c. search rules)
+    (λ c κs. search rules)
+    returns)

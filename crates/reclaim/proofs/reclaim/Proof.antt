@@ -3,7 +3,7 @@ use mathlib.Core.Bool.{Bool}
 use Prim.Native.Nat.{ℕ}
 use Rattle.model.specs.Memory.{Memory}
 use Rattle.model.specs.RecordCalls.{Born, record_refusal}
-use Rattle.model.specs.Laws.Checks.{answered, is_true, is_false}
+use Rattle.model.proofs.Laws.Checks.{answered, is_true, is_false}
 use Rattle.memory.specs.View.{born_of, memory_of}
 use Rattle.reclaim_model.specs.Reclaim.{roots_ok}
 use Rattle.reclaim.specs.Laws.{answer_roots, answer_judged, answer_kept, kept_born}

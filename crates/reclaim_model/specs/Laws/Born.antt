@@ -11,8 +11,8 @@ use Rattle.model.specs.Shop.{shop_refusal}
 use Rattle.model.specs.Judge.{call_refusal, script_refusal}
 use Rattle.model.specs.Compile.{Call, compile_checks, compile_refusal, fresh_blocks, room_refusal}
 use Rattle.model.specs.RecordCalls.{one_compile}
-use Rattle.model.specs.Laws.Checks.{CompilePassed, compile_passed}
-use Rattle.model.specs.Laws.Compiled.{length_linked}
+use Rattle.model.proofs.Laws.Checks.{CompilePassed, compile_passed}
+use Rattle.model.proofs.Laws.Compiled.{length_linked}
 use Rattle.reclaim_model.specs.Changes.{BornScript, birth_at, compile_refusal_born, appended_born, compiled_born, lives, kept_only}
 use Rattle.reclaim_model.specs.Reclaim.{rank}
 use Rattle.reclaim_model.specs.Laws.Reached.{reached_long}

@@ -10,13 +10,13 @@ use Rattle.model.specs.Shop.{Slot, slot_ok, with_slots}
 use Rattle.model.specs.Script.{Block, Script, placeholder, block_at}
 use Rattle.model.specs.Judge.{script_refusal}
 use Rattle.model.specs.Compile.{Call, appended, fresh_blocks, redirect, root_of, slots_blocks}
-use Rattle.model.specs.Laws.Checks as Checks
-use Rattle.model.specs.Laws.Checks.{and_left, and_right}
-use Rattle.model.specs.Laws.Calls.{ShopAt}
-use Rattle.model.specs.Laws.Compiled.{Linked, fresh_linked, last_of_is}
-use Rattle.model.specs.Laws.Judged.{kept_judged}
-use Rattle.model.specs.Laws.FitBlocks.{from_slots, length_padded}
-use Rattle.model.specs.Laws.Checked.{SheetLow, sheet_low}
+use Rattle.model.proofs.Laws.Checks as Checks
+use Rattle.model.proofs.Laws.Checks.{and_left, and_right}
+use Rattle.model.proofs.Laws.Calls.{ShopAt}
+use Rattle.model.proofs.Laws.Compiled.{Linked, fresh_linked, last_of_is}
+use Rattle.model.proofs.Laws.Judged.{kept_judged}
+use Rattle.model.proofs.Laws.FitBlocks.{from_slots, length_padded}
+use Rattle.model.proofs.Laws.Checked.{SheetLow, sheet_low}
 use Rattle.reclaim_model.specs.Changes.{BornScript, birth_at, compile_refusal_born, appended_born, lives, kept_only}
 use Rattle.reclaim_model.specs.Rename.{targets, links_of, Every, rename_block}
 use Rattle.reclaim_model.specs.Reclaim.{rank}

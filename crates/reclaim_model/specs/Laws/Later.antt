@@ -15,9 +15,9 @@ use Rattle.model.specs.Script.{placeholder, block_at, is_code}
 use Rattle.model.specs.Judge.{call_refusal, script_refusal, shared_refusal}
 use Rattle.model.specs.Compile.{Call}
 use Rattle.model.specs.Lists.{after_all, following, latest, now_at}
-use Rattle.model.specs.Laws.Checks.{setup_code, setup_inside, shared_passed}
-use Rattle.model.specs.Laws.Compiled.{code_once}
-use Rattle.model.specs.Laws.Lists.{along_any, kept_all}
+use Rattle.model.proofs.Laws.Checks.{setup_code, setup_inside, shared_passed}
+use Rattle.model.proofs.Laws.Compiled.{code_once}
+use Rattle.model.proofs.Laws.Lists.{along_any, kept_all}
 use Rattle.reclaim_model.specs.Rename.{rename_block}
 use Rattle.reclaim_model.specs.Reclaim.{kept_blocks, new_number, rank, survivors}
 use Rattle.reclaim_model.specs.Changes.{BornScript, birth_at, compile_refusal_born, appended_born, lives, kept_only, Change, changed, number_after, changes}

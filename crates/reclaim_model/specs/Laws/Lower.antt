@@ -10,9 +10,9 @@ use Rattle.model.specs.Requirement.{Requirement, sorted}
 use Rattle.model.specs.Shop.{Slot, Timer, plain, five, ten, fifteen, timer_of, limit_of}
 use Rattle.model.specs.Script.{Block, block_at}
 use Rattle.model.specs.Compile.{enable_blocks, unique_blocks, limit_blocks, blocks_for, slot_blocks, last_of, slots_blocks}
-use Rattle.model.specs.Laws.Compiled.{last_of_is}
-use Rattle.model.specs.Laws.SlotRuns.{After}
-use Rattle.model.specs.Laws.FitBlocks.{SoundFrom}
+use Rattle.model.proofs.Laws.Compiled.{last_of_is}
+use Rattle.model.proofs.Laws.SlotRuns.{After}
+use Rattle.model.proofs.Laws.FitBlocks.{SoundFrom}
 use Rattle.reclaim_model.specs.Rename.{targets, links_of, Every}
 use Rattle.reclaim_model.specs.Laws.Reclaimed.{every_both, links_below}
 

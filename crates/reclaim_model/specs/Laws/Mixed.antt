@@ -11,7 +11,7 @@ use Rattle.model.specs.Sheet.{Sheet}
 use Rattle.model.specs.Shop.{Slot, with_slots}
 use Rattle.model.specs.Compile.{Call}
 use Rattle.model.specs.Lists.{after_all, last_at, latest, now_at}
-use Rattle.model.specs.Laws.Lists.{along_any, kept_all, none≢some}
+use Rattle.model.proofs.Laws.Lists.{along_any, kept_all, none≢some}
 use Rattle.reclaim_model.specs.Rename.{rename_block}
 use Rattle.reclaim_model.specs.Reclaim.{kept_blocks, new_number, rank, survivors}
 use Rattle.reclaim_model.specs.Changes.{BornScript, birth_at, compile_refusal_born, appended_born, compiled_born, reclaim_refusal, lives, kept_only, reclaimed, Change, compile, reclaim, change_refusal, changed, number_after, changes}

@@ -5,7 +5,7 @@ use Rattle.std.proofs.Math.Option.{none, some}
 use Rattle.std.proofs.lemmas.List.{length-replicate}
 use Rattle.std.proofs.lemmas.List.Edits.{sets, sets-eq}
 use Rattle.model.specs.Limits.{block_limit}
-use Rattle.model.specs.Laws.Places.{all_one}
+use Rattle.model.proofs.Laws.Places.{all_one}
 use Rattle.reclaim_model.specs.Reclaim.{rank, new_number, moved_word, moved_from, moved_words}
 
 -- what is stored from the start on over one value reads as it is, and that value past it

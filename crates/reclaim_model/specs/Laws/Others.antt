@@ -11,7 +11,7 @@ use Rattle.model.specs.Shop.{Slot, with_slots}
 use Rattle.model.specs.Script.{Block, block_at}
 use Rattle.model.specs.Compile.{Call}
 use Rattle.model.specs.Lists.{accepted_at, after_all, following, last_at, last_from, latest, now_at}
-use Rattle.model.specs.Laws.Lists.{along_any, kept_all, none≢some}
+use Rattle.model.proofs.Laws.Lists.{along_any, kept_all, none≢some}
 use Rattle.reclaim_model.specs.Rename.{links_of, Every, rename_block}
 use Rattle.reclaim_model.specs.Reclaim.{new_number, rank}
 use Rattle.reclaim_model.specs.Changes.{BornScript, appended_born, reclaim_refusal, lives, kept_only, Change, changed, given_to, number_after, changes}

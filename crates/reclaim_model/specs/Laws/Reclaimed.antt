@@ -11,10 +11,10 @@ use Rattle.std.proofs.Math.ListN.{get_or, length, length-map, get_or-map}
 use Rattle.model.specs.Refusal.{bad_roots, check}
 use Rattle.model.specs.Script.{Command, return, goto, set_variable, set_other, if_else, end_if, other_command, Block, placeholder, code, data_block, block_at, command_nodes, commands_nodes, block_nodes, block_commands, sum_of}
 use Rattle.model.specs.Judge.{counted, script_refusal}
-use Rattle.model.specs.Laws.Checks.{first_passed, passed}
-use Rattle.model.specs.Laws.Image.{FitsLink}
-use Rattle.model.specs.Laws.Sound.{SoundCommand, SoundCommands, SoundBlock, SoundBlocks, Held}
-use Rattle.model.specs.Laws.Judged.{accepted_held, held_accepted}
+use Rattle.model.proofs.Laws.Checks.{first_passed, passed}
+use Rattle.model.proofs.Laws.Image.{FitsLink}
+use Rattle.model.proofs.Laws.Sound.{SoundCommand, SoundCommands, SoundBlock, SoundBlocks, Held}
+use Rattle.model.proofs.Laws.Judged.{accepted_held, held_accepted}
 use Rattle.reclaim_model.specs.Rename.{target, with_link, targets, links_of, Every, rename_link, rename_command, rename_block}
 use Rattle.reclaim_model.specs.Reclaim.{roots_ok, survivors, rank, kept_blocks}
 use Rattle.reclaim_model.specs.Changes.{BornScript, lives, kept_only, reclaim_refusal, reclaimed}

@@ -13,8 +13,8 @@ use Rattle.model.specs.Limits.{root_limit}
 use Rattle.model.specs.Sheet.{all}
 use Rattle.model.specs.Script.{Block, placeholder, block_at}
 use Rattle.model.specs.Judge.{counted, script_refusal}
-use Rattle.model.specs.Laws.Checks.{and_left, and_right}
-use Rattle.model.specs.Laws.Sound.{SoundBlock, SoundBlocks}
+use Rattle.model.proofs.Laws.Checks.{and_left, and_right}
+use Rattle.model.proofs.Laws.Sound.{SoundBlock, SoundBlocks}
 use Rattle.reclaim_model.specs.Rename.{links_of, rename_block}
 use Rattle.reclaim_model.specs.Reclaim.{survivors, rank, new_number, kept_blocks}
 use Rattle.reclaim_model.specs.Changes.{BornScript, lives, kept_only, reclaim_refusal, reclaimed}

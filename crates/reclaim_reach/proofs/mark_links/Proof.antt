@@ -7,28 +7,23 @@ use Rattle.reclaim_reach.proofs.mark_links.Tie as tie
 
 returns : tie.Need-returns-then-bw-b-ne1
 returns c =
-    let s = c.before.before in
-    block_other s.args.cw.now s.args.bw.now s.args.b _ s.requires.0 c.if-bw-b-ne1.true
+    block_other c.args.cw.now c.args.bw.now c.args.b _ c.requires.0 c.if-bw-b-ne1.true
 
 mark-link-requires : tie.Need-mark_link-x-requires
 mark-link-requires c κs =
-    let s = c.before.before.before.before.before in
-    (s.requires.0, (low_words s.args.cw.now s.args.bw.now s.args.b c.if-bw-b-ne1.false s.requires.2).next)
+    (c.requires.0, (low_words c.args.cw.now c.args.bw.now c.args.b c.if-bw-b-ne1.false c.requires.2).next)
 
 mark-link-requires-2 : tie.Need-mark_link-y-requires
 mark-link-requires-2 c κs =
-    let s = c.before.before.before.before.before.before.before.before.before in
-    (c.mark_link-x.ensures.queued, (low_words s.args.cw.now s.args.bw.now s.args.b c.if-bw-b-ne1.false s.requires.2).else)
+    (c.mark_link-x.ensures.queued, (low_words c.args.cw.now c.args.bw.now c.args.b c.if-bw-b-ne1.false c.requires.2).else)
 
 mark-targets-requires : tie.Need-mark_targets-requires
 mark-targets-requires c κs =
-    let s = c.before.before.before.before.before.before.before.before.before.before.before.before.before.before in
-    (c.mark_link-y.ensures.queued, s.requires.2.fits c.if-bw-b-ne1.false, (low_words s.args.cw.now s.args.bw.now s.args.b c.if-bw-b-ne1.false s.requires.2).rest)
+    (c.mark_link-y.ensures.queued, c.requires.2.fits c.if-bw-b-ne1.false, (low_words c.args.cw.now c.args.bw.now c.args.b c.if-bw-b-ne1.false c.requires.2).rest)
 
 returns-2 : tie.Need-returns
 returns-2 c =
-    let s = c.before.before.before.before.before.before.before.before.before.before.before.before.before.before.before in
-    block_code s.args.cw.now s.args.bw.now s.args.b c.if-bw-b-ne1.false s.requires.2 s.requires.0 c.mark_link-x.ensures c.mark_link-y.ensures c.mark_targets.ensures
+    block_code c.args.cw.now c.args.bw.now c.args.b c.if-bw-b-ne1.false c.requires.2 c.requires.0 c.mark_link-x.ensures c.mark_link-y.ensures c.mark_targets.ensures
 
 pub mark_links_spec : {M : Type 1} → statement M
 mark_links_spec =

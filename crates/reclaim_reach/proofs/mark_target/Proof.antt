@@ -8,18 +8,15 @@ use Rattle.reclaim_reach.proofs.mark_target.Tie as tie
 
 returns : tie.Need-returns-then-not-names_block
 returns c =
-    let s = c.before.before.before in
-    target_none s.args.cw.now s.args.i _ c.names_block.ensures _ s.requires.0 (not-true _ c.if-not-names_block.true)
+    target_none c.args.cw.now c.args.i _ c.names_block.ensures _ c.requires.0 c.if-not-names_block.true
 
 mark-requires : tie.Need-mark-requires
 mark-requires c κs =
-    let s = c.before.before.before.before.before.before in
-    (s.requires.0, target_low s.args.cw.now s.args.i _ c.names_block.ensures (not-false _ c.if-not-names_block.false) s.requires.2)
+    (c.requires.0, target_low c.args.cw.now c.args.i _ c.names_block.ensures c.if-not-names_block.false c.requires.2)
 
 returns-2 : tie.Need-returns
 returns-2 c =
-    let s = c.before.before.before.before.before.before.before in
-    target_some s.args.cw.now s.args.i _ c.names_block.ensures _ _ (not-false _ c.if-not-names_block.false) c.mark.ensures
+    target_some c.args.cw.now c.args.i _ c.names_block.ensures _ _ c.if-not-names_block.false c.mark.ensures
 
 pub mark_target_spec : {M : Type 1} → statement M
 mark_target_spec =

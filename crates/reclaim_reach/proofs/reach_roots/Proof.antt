@@ -19,13 +19,11 @@ decreases-loop cw bw blocks roots live₀ todo₀ -all end₀ done₀ live todo 
 
 mark-roots-requires : tie.Need-mark_roots-end-requires invariant-loop decreases-loop
 mark-roots-requires c κs =
-    let s = c.before.before.before.before in
-    (queued_none _ s.requires.2 _ c.known-all.ensures, below_low _ s.requires.0.few s.args.roots.now s.requires.1)
+    (queued_none _ c.requires.2 _ c.known-all.ensures, below_low _ c.requires.0.few c.args.roots.now c.requires.1)
 
 loop-holds : tie.Need-loop-done-init invariant-loop decreases-loop
 loop-holds c =
-    let s = c.before.before.before.before.before in
-    reach_start _ _ _ s.requires.0 _ _ _ _ s.requires.1 s.requires.2 c.known-all.ensures c.mark_roots-end.ensures
+    reach_start _ _ _ c.requires.0 _ _ _ _ c.requires.1 c.requires.2 c.known-all.ensures c.mark_roots-end.ensures
 
 element-copy-out-index-of : tie.Need-bounds-todo-done invariant-loop decreases-loop
 element-copy-out-index-of c = omega (arith, c.loop-done.invariant.queued.room, c.loop-done-test.true)

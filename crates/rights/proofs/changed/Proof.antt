@@ -6,20 +6,23 @@ use borrow.Author.Rules.{rules}
 use Rattle.rights.proofs.changed.Statement.{statement}
 use Rattle.rights.proofs.changed.Tie as tie
 
-returns : tie.Need-returns
+returns : tie.Need-returns-in-Item
 returns c =
-    let s = c.before.before.before.before in
-    item_put s.args.field s.args.content s.args.old _ c.before.before.enum_told.given.1 (to_z-of_z {w = w16} {z = s.args.old.limit} (record { sfits = c.struct_told.given.1.0.1 }))
+    item_put c.args.field c.args.content c.args.old _ c.in-Item.is (to_z-of_z {w = w16} {z = c.args.old.limit} (record { sfits = c.struct_told-1.given.1.0.1 }))
 
-returns-2 : tie.Need-returns-2
+returns-2 : tie.Need-returns-in-Limit
 returns-2 c =
-    let s = c.before.before.before.before in
-    limit_put s.args.field s.args.content s.args.old _ c.before.before.enum-told2.given.1 (to_z-of_z {w = w16} {z = s.args.content.limit} (record { sfits = c.struct-told2.given.1.0.1 }))
+    limit_put c.args.field c.args.content c.args.old _ c.in-Limit.is (to_z-of_z {w = w16} {z = c.args.content.limit} (record { sfits = c.struct_told-in-Limit-1.given.1.0.1 }))
 
-returns-3 : tie.Need-returns-3
+returns-3 : tie.Need-returns-in-Requirements
 returns-3 c =
-    let s = c.before.before.before.before in
-    requirements_put s.args.field s.args.content s.args.old _ c.before.before.enum-told3.given.1 (to_z-of_z {w = w16} {z = s.args.old.limit} (record { sfits = c.struct-told3.given.1.0.1 }))
+    requirements_put c.args.field c.args.content c.args.old _ c.in-Requirements.is (to_z-of_z {w = w16} {z = c.args.old.limit} (record { sfits = c.struct_told-in-Requirements-1.given.1.0.1 }))
 
-pub changed-spec : {M : Type 1} → statement M
-changed-spec = tie.close (tie.spec (λ c. search rules) (λ c. search rules) (λ c. search rules) returns returns-2 returns-3)
+pub changed_spec : {M : Type 1} → statement M
+changed_spec = tie.close (tie.spec
+    (λ c. search rules)
+    (λ c. search rules)
+    (λ c. search rules)
+    returns
+    returns-2
+    returns-3)

@@ -5,18 +5,16 @@ use borrow.Author.Rules.{rules}
 use Rattle.rights.proofs.content_ok.Statement.{statement}
 use Rattle.rights.proofs.content_ok.Tie as tie
 
-returns : tie.Need-returns
+returns : tie.Need-returns-in-Item
 returns c =
-    let s = c.before.before.before.before in
-    item_ok (sheet_of s.args.attached.now s.args.sheet) s.args.field s.args.content c.before.enum_told.given.1 c.item-known.result c.item-known.ensures
+    item_ok (sheet_of c.args.attached.now c.args.sheet) c.args.field c.args.content c.in-Item.is c.item_known.result c.item_known.ensures
 
-returns-3 : tie.Need-returns-3
+returns-3 : tie.Need-returns-in-Requirements
 returns-3 c =
-    let s = c.before.before.before.before.before.before in
-    requirements_ok (sheet_of s.args.attached.now s.args.sheet) s.args.field s.args.content c.before.before.before.enum-told3.given.1 c.check-parts.result c.check-parts.ensures
+    requirements_ok (sheet_of c.args.attached.now c.args.sheet) c.args.field c.args.content c.in-Requirements.is c.check_parts.result c.check_parts.ensures
 
-pub content-ok-spec : {M : Type 1} → statement M
-content-ok-spec =
+pub content_ok_spec : {M : Type 1} → statement M
+content_ok_spec =
     tie.close
     (tie.spec
     (λ c. search rules)

@@ -17,27 +17,27 @@ abbrev given : tie.Start → Contents
 given s = contents s.args.item s.args.limit s.args.entries.now s.args.len
 
 -- what the call left
-abbrev left : tie.After-put-field → Arrays
-left c = arrays_in c.put-field.new.0 c.put-field.new.1.0 c.put-field.new.1.1.0 c.put-field.new.1.1.1.0
+abbrev left : tie.After-put_field → Arrays
+left c = arrays_in c.put_field.new.items c.put_field.new.limits c.put_field.new.codes c.put_field.new.lens
 
-returns : tie.Need-returns
+returns : tie.Need-returns-then-refusal-ne0
 returns c =
     let s = c.before.before.before.before.before.before in
-    arrays_not (table_of s.args.rights.now) (sheet_of s.args.attached.now s.args.sheet) (arrays s) s.args.user s.args.slot s.args.field (given s) _ _ _ _ c.before.before.before.before.place-for.ensures c.before.before.field-from.ensures (rw (to_z-of_z {w = w32} {z = s.args.item} s.ranges.item, to_z-of_z {w = w16} {z = s.args.limit} s.ranges.limit) at c.before.before.before.slot-by.ensures) c.before.refusal-of.ensures c.if1.true
+    arrays_not (table_of c.args.rights.now) (sheet_of c.args.attached.now c.args.sheet) (arrays s) c.args.user c.args.slot c.args.field (given s) _ _ _ _ c.place_for-place.ensures c.field_from-kind.ensures (rw (to_z-of_z {w = w32} {z = c.args.item} c.ranges.item, to_z-of_z {w = w16} {z = c.args.limit} c.ranges.limit) at c.slot_by-content.ensures) c.refusal_of-refusal.ensures c.if-refusal-ne0.true
 
-put-field-requires : tie.Need-put-field-requires
+put-field-requires : tie.Need-put_field-requires
 put-field-requires c κs =
     let s = c.before.before.before.before.before.before.before.before.before.before in
-    place_inside (table_of s.args.rights.now) (sheet_of s.args.attached.now s.args.sheet) (arrays s) s.args.user s.args.slot s.args.field (given s) _ _ _ _ c.before.before.before.before.before.before.before.before.place-for.ensures c.before.before.before.before.before.before.field-from.ensures (rw (to_z-of_z {w = w32} {z = s.args.item} s.ranges.item, to_z-of_z {w = w16} {z = s.args.limit} s.ranges.limit) at c.before.before.before.before.before.before.before.slot-by.ensures) c.before.before.before.before.before.refusal-of.ensures c.before.before.before.before.if1.false
+    place_inside (table_of c.args.rights.now) (sheet_of c.args.attached.now c.args.sheet) (arrays s) c.args.user c.args.slot c.args.field (given s) _ _ _ _ c.place_for-place.ensures c.field_from-kind.ensures (rw (to_z-of_z {w = w32} {z = c.args.item} c.ranges.item, to_z-of_z {w = w16} {z = c.args.limit} c.ranges.limit) at c.slot_by-content.ensures) c.refusal_of-refusal.ensures c.if-refusal-ne0.false
 
-returns-2 : tie.Need-returns-2
+returns-2 : tie.Need-returns
 returns-2 c =
     let s = c.before.before.before.before.before.before.before.before.before.before.before in
-    arrays_now (table_of s.args.rights.now) (sheet_of s.args.attached.now s.args.sheet) (arrays s) s.args.user s.args.slot s.args.field (given s) _ _ _ _
-    c.before.before.before.before.before.before.before.before.before.place-for.ensures c.before.before.before.before.before.before.before.field-from.ensures (rw (to_z-of_z {w = w32} {z = s.args.item} s.ranges.item, to_z-of_z {w = w16} {z = s.args.limit} s.ranges.limit) at c.before.before.before.before.before.before.before.before.slot-by.ensures) c.before.before.before.before.before.before.refusal-of.ensures c.before.before.before.before.before.if1.false (left c) (rw (to_z-of_z {w = w32} {z = s.args.item} s.ranges.item, to_z-of_z {w = w16} {z = s.args.limit} s.ranges.limit) at c.put-field.ensures)
+    arrays_now (table_of c.args.rights.now) (sheet_of c.args.attached.now c.args.sheet) (arrays s) c.args.user c.args.slot c.args.field (given s) _ _ _ _
+    c.place_for-place.ensures c.field_from-kind.ensures (rw (to_z-of_z {w = w32} {z = c.args.item} c.ranges.item, to_z-of_z {w = w16} {z = c.args.limit} c.ranges.limit) at c.slot_by-content.ensures) c.refusal_of-refusal.ensures c.if-refusal-ne0.false (left c) (rw (to_z-of_z {w = w32} {z = c.args.item} c.ranges.item, to_z-of_z {w = w16} {z = c.args.limit} c.ranges.limit) at c.put_field.ensures)
 
-pub edit-arrays-spec : {M : Type 1} → statement M
-edit-arrays-spec =
+pub edit_arrays_spec : {M : Type 1} → statement M
+edit_arrays_spec =
     tie.close
     (tie.spec
     (λ c κs. search rules)

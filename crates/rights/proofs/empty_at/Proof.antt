@@ -11,11 +11,10 @@ use Rattle.rights.proofs.empty_at.Tie as tie
 
 returns : tie.Need-returns
 returns c =
-    let s = c.before.before.before in
-    ap (λ (cs : List ℕ). arrays_in (set s.args.items.now s.args.i (negsuc 0)) (set s.args.limits.now s.args.i (pos 0)) cs (set s.args.lens.now s.args.i 0)) c.put_entries.ensures
+    ap (λ (cs : List ℕ). arrays_in (set c.args.items.now c.args.i (negsuc 0)) (set c.args.limits.now c.args.i (pos 0)) cs (set c.args.lens.now c.args.i 0)) c.put_entries.ensures
 
-pub empty-at-spec : {M : Type 1} → statement M
-empty-at-spec =
+pub empty_at_spec : {M : Type 1} → statement M
+empty_at_spec =
     tie.close
     (tie.spec
     (λ c. search rules)

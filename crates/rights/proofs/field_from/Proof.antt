@@ -3,14 +3,17 @@ use Rattle.rights.specs.ArrayLaws.{field_item, field_limit, field_rest}
 use Rattle.rights.proofs.field_from.Statement.{statement}
 use Rattle.rights.proofs.field_from.Tie as tie
 
-returns : tie.Need-returns
-returns c = field_item c.before.args.field c.if1.true
+returns : tie.Need-returns-then-field-eq0
+returns c = field_item c.args.field c.if-field-eq0.true
 
-returns-2 : tie.Need-returns-2
-returns-2 c = field_limit c.before.before.args.field c.if2.true
+returns-2 : tie.Need-returns-then-field-eq1
+returns-2 c = field_limit c.args.field c.if-field-eq1.true
 
-returns-3 : tie.Need-returns-3
-returns-3 c = field_rest c.before.before.args.field c.before.if1.false c.if2.false
+returns-3 : tie.Need-returns
+returns-3 c = field_rest c.args.field c.if-field-eq0.false c.if-field-eq1.false
 
-pub field-from-spec : {M : Type 1} → statement M
-field-from-spec = tie.close (tie.spec returns returns-2 returns-3)
+pub field_from_spec : {M : Type 1} → statement M
+field_from_spec = tie.close (tie.spec
+    returns
+    returns-2
+    returns-3)

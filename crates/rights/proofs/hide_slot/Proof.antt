@@ -1,5 +1,5 @@
 -- `hide_slot` meets its contract. Assumes nothing.
-use Rattle.model.specs.Laws.Checks.{answered}
+use Rattle.model.proofs.Laws.Checks.{answered}
 use Rattle.rights_model.specs.Rights.{Rights}
 use Rattle.shop_arrays.specs.Arrays.{Arrays, arrays_in}
 use Rattle.rights.specs.Values.{table_of}
@@ -16,16 +16,20 @@ abbrev held : tie.Start → Rights
 held s = table_of s.args.rights.now s.args.user s.args.slot
 
 -- what the call left
-abbrev left : tie.After-empty-at → Arrays
-left c = arrays_in c.empty-at.new.0 c.empty-at.new.1.0 c.empty-at.new.1.1.0 c.empty-at.new.1.1.1.0
+abbrev left : tie.After-empty_at → Arrays
+left c = arrays_in c.empty_at.new.items c.empty_at.new.limits c.empty_at.new.codes c.empty_at.new.lens
 
-returns : tie.Need-returns
-returns c = let s = c.before.before in slot_seen (held s) s.args.slot (arrays s) (answered (held s).see c.before.Has-right.ensures c.if1.true)
+returns : tie.Need-returns-then-has_right
+returns c = let s = c.before.before in slot_seen (held s) c.args.slot (arrays s) (answered (held s).see c.has_right.ensures c.if-has_right.true)
 
-returns-2 : tie.Need-returns-2
+returns-2 : tie.Need-returns
 returns-2 c =
     let s = c.before.before.before.before.before.before.before in
-    slot_hidden (held s) s.args.slot (arrays s) (answered (held s).see c.before.before.before.before.before.before.Has-right.ensures c.before.before.before.before.before.if1.false) (left c) c.empty-at.ensures
+    slot_hidden (held s) c.args.slot (arrays s) (answered (held s).see c.has_right.ensures c.if-has_right.false) (left c) c.empty_at.ensures
 
-pub hide-slot-spec : {M : Type 1} → statement M
-hide-slot-spec = tie.close (tie.spec (λ c κs. search rules) returns (λ c κs. search rules) returns-2)
+pub hide_slot_spec : {M : Type 1} → statement M
+hide_slot_spec = tie.close (tie.spec
+    (λ c κs. search rules)
+    returns
+    (λ c κs. search rules)
+    returns-2)

@@ -8,7 +8,10 @@ use Rattle.rights.proofs.item_known.Tie as tie
 
 returns : tie.Need-returns
 unfolding entries
-returns c = c.check-parts.ensures ∙ and-true _
+returns c = c.check_parts.ensures ∙ and-true _
 
-pub item-known-spec : {M : Type 1} → statement M
-item-known-spec = tie.close (tie.spec (λ c. search rules) (λ c κs. search rules) returns)
+pub item_known_spec : {M : Type 1} → statement M
+item_known_spec = tie.close (tie.spec
+    (λ c. search rules)
+    (λ c κs. search rules)
+    returns)

@@ -14,17 +14,17 @@ arrays s = arrays_in s.args.items.now s.args.limits.now s.args.codes.now s.args.
 abbrev given : tie.Start → Contents
 given s = contents s.args.item s.args.limit s.args.entries.now s.args.len
 
-returns : tie.Need-returns
-returns c = let s = c.before in item_written s.args.field (given s) s.args.i (arrays s) _ c.if1.true (to_z-of_z {w = w32} {z = s.args.item} s.ranges.item)
+returns : tie.Need-returns-then-field-eq0
+returns c = let s = c.before in item_written c.args.field (given s) c.args.i (arrays s) _ c.if-field-eq0.true (to_z-of_z {w = w32} {z = c.args.item} c.ranges.item)
 
-returns-2 : tie.Need-returns-2
-returns-2 c = let s = c.before.before in limit_written s.args.field (given s) s.args.i (arrays s) _ c.if2.true (to_z-of_z {w = w16} {z = s.args.limit} s.ranges.limit)
+returns-2 : tie.Need-returns-then-field-eq1
+returns-2 c = let s = c.before.before in limit_written c.args.field (given s) c.args.i (arrays s) _ c.if-field-eq1.true (to_z-of_z {w = w16} {z = c.args.limit} c.ranges.limit)
 
-returns-3 : tie.Need-returns-3
-returns-3 c = let s = c.before.before.before.before in rest_written s.args.field (given s) s.args.i (arrays s) _ c.before.before.before.if1.false c.before.before.if2.false c.put_entries.ensures
+returns-3 : tie.Need-returns
+returns-3 c = let s = c.before.before.before.before.before in rest_written c.args.field (given s) c.args.i (arrays s) _ c.if-field-eq0.false c.if-field-eq1.false c.put_entries.ensures
 
-pub put-field-spec : {M : Type 1} → statement M
-put-field-spec =
+pub put_field_spec : {M : Type 1} → statement M
+put_field_spec =
     tie.close
     (tie.spec
     (λ c. search rules)

@@ -10,7 +10,7 @@ use borrow.Author.Tests.{lt-ltb, le-ltb}
 use Rattle.model.specs.Limits.{slot_count, user_count}
 use Rattle.model.specs.Refusal.{bad_sheet, bad_shop, check, first_of, no_right, no_user}
 use Rattle.model.specs.Sheet.{Sheet, sheet_ok}
-use Rattle.model.specs.Laws.Checks.{is_false, is_true}
+use Rattle.model.proofs.Laws.Checks.{answered}
 use Rattle.rights_model.specs.Rights.{Content, content_ok, edit_refusal, field_of, may_change}
 use Rattle.shop.specs.Shapes.{sheet_of}
 use Rattle.rights.specs.Values.{bit_of, content_of, edit_of, field_is, table_of, weight_of}
@@ -40,57 +40,57 @@ by s = checked_by (table_of s.args.rights.now) (sheet s) (edit_of s.args.user s.
 may : (s : tie.Start) (w : ℕ) → w ≡ weight_of (field_is s.args.field) → may_change (table_of s.args.rights.now s.args.user s.args.slot) (field_of (content s)) ≡ right s w
 may s = may_bit s.args.rights.now s.args.user s.args.slot s.args.field s.args.content
 
-returns : tie.Need-returns
+returns : tie.Need-returns-then-not-check_sheet
 returns c =
     let s = c.before.before.before in
     by s false _ _ _ _
-    (is_false (sheet_ok (sheet s)) c.before.check-sheet.ensures c.if1.true) refl refl refl refl
+    (answered (sheet_ok (sheet s)) c.check_sheet.ensures c.if-not-check_sheet.true) refl refl refl refl
 
-returns-2 : tie.Need-returns-2
+returns-2 : tie.Need-returns-then-user-ge-USERS_HERE
 returns-2 c =
     let s = c.before.before.before.before in
     by s true false _ _ _
-    (is_true (sheet_ok (sheet s)) c.before.before.check-sheet.ensures c.before.if1.false)
-    (le-ltb _ _ c.if2.true) refl refl refl
+    (answered (sheet_ok (sheet s)) c.check_sheet.ensures c.if-not-check_sheet.false)
+    (le-ltb _ _ c.if-user-ge-USERS_HERE.true) refl refl refl
 
-returns-3 : tie.Need-returns-3
+returns-3 : tie.Need-returns-then-slot-ge-SLOTS_HERE
 returns-3 c =
     let s = c.before.before.before.before.before in
     by s true true false _ _
-    (is_true (sheet_ok (sheet s)) c.before.before.before.check-sheet.ensures c.before.before.if1.false)
-    (lt-ltb _ _ c.before.if2.false) (le-ltb _ _ c.if3.true) refl refl
+    (answered (sheet_ok (sheet s)) c.check_sheet.ensures c.if-not-check_sheet.false)
+    (lt-ltb _ _ c.if-user-ge-USERS_HERE.false) (le-ltb _ _ c.if-slot-ge-SLOTS_HERE.true) refl refl
 
-has-right-requires : tie.Need-has-right-requires
-has-right-requires c κs = let s = c.before.before.before.before.before.before in (omega arith, omega arith, omega (arith, c.right-for.ensures, weight_some (field_is s.args.field)))
+has-right-requires : tie.Need-has_right-requires
+has-right-requires c κs = (omega arith, omega arith, omega (arith, c.right_for-right.ensures, weight_some (field_is c.args.field)))
 
-returns-4 : tie.Need-returns-4
+returns-4 : tie.Need-returns-then-not-has_right
 returns-4 c =
     let s = c.before.before.before.before.before.before.before.before in
     by s true true true false _
-    (is_true (sheet_ok (sheet s)) c.before.before.before.before.before.before.check-sheet.ensures c.before.before.before.before.before.if1.false)
-    (lt-ltb _ _ c.before.before.before.before.if2.false) (lt-ltb _ _ c.before.before.before.if3.false)
-    (may s c.before.before.right-for.result c.before.before.right-for.ensures ∙ is_false (right s c.before.before.right-for.result) c.before.Has-right.ensures c.if4.true) refl
+    (answered (sheet_ok (sheet s)) c.check_sheet.ensures c.if-not-check_sheet.false)
+    (lt-ltb _ _ c.if-user-ge-USERS_HERE.false) (lt-ltb _ _ c.if-slot-ge-SLOTS_HERE.false)
+    (may s c.right_for-right.result c.right_for-right.ensures ∙ answered (right s c.right_for-right.result) c.has_right.ensures c.if-not-has_right.true) refl
 
-returns-5 : tie.Need-returns-5
+returns-5 : tie.Need-returns-then-not-content_ok
 returns-5 c =
     let s = c.before.before.before.before.before.before.before.before.before.before in
     by s true true true true false
-    (is_true (sheet_ok (sheet s)) c.before.before.before.before.before.before.before.before.check-sheet.ensures c.before.before.before.before.before.before.before.if1.false)
-    (lt-ltb _ _ c.before.before.before.before.before.before.if2.false) (lt-ltb _ _ c.before.before.before.before.before.if3.false)
-    (may s c.before.before.before.before.right-for.result c.before.before.before.before.right-for.ensures ∙ is_true (right s c.before.before.before.before.right-for.result) c.before.before.before.Has-right.ensures c.before.before.if4.false)
-    (is_false (content_ok (sheet s) (content s)) c.before.content-ok.ensures c.if5.true)
+    (answered (sheet_ok (sheet s)) c.check_sheet.ensures c.if-not-check_sheet.false)
+    (lt-ltb _ _ c.if-user-ge-USERS_HERE.false) (lt-ltb _ _ c.if-slot-ge-SLOTS_HERE.false)
+    (may s c.right_for-right.result c.right_for-right.ensures ∙ answered (right s c.right_for-right.result) c.has_right.ensures c.if-not-has_right.false)
+    (answered (content_ok (sheet s) (content s)) c.content_ok.ensures c.if-not-content_ok.true)
 
-returns-6 : tie.Need-returns-6
+returns-6 : tie.Need-returns
 returns-6 c =
     let s = c.before.before.before.before.before.before.before.before.before.before in
     by s true true true true true
-    (is_true (sheet_ok (sheet s)) c.before.before.before.before.before.before.before.before.check-sheet.ensures c.before.before.before.before.before.before.before.if1.false)
-    (lt-ltb _ _ c.before.before.before.before.before.before.if2.false) (lt-ltb _ _ c.before.before.before.before.before.if3.false)
-    (may s c.before.before.before.before.right-for.result c.before.before.before.before.right-for.ensures ∙ is_true (right s c.before.before.before.before.right-for.result) c.before.before.before.Has-right.ensures c.before.before.if4.false)
-    (is_true (content_ok (sheet s) (content s)) c.before.content-ok.ensures c.if5.false)
+    (answered (sheet_ok (sheet s)) c.check_sheet.ensures c.if-not-check_sheet.false)
+    (lt-ltb _ _ c.if-user-ge-USERS_HERE.false) (lt-ltb _ _ c.if-slot-ge-SLOTS_HERE.false)
+    (may s c.right_for-right.result c.right_for-right.ensures ∙ answered (right s c.right_for-right.result) c.has_right.ensures c.if-not-has_right.false)
+    (answered (content_ok (sheet s) (content s)) c.content_ok.ensures c.if-not-content_ok.false)
 
-pub refusal-of-spec : {M : Type 1} → statement M
-refusal-of-spec =
+pub refusal_of_spec : {M : Type 1} → statement M
+refusal_of_spec =
     tie.close
     (tie.spec
     (λ c κs. search rules)

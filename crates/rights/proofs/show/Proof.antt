@@ -11,37 +11,35 @@ use borrow.Author.Rules.{rules}
 use Rattle.rights.proofs.show.Statement.{statement}
 use Rattle.rights.proofs.show.Tie as tie
 
-abbrev invariant-loop : tie.invariant-loop
+abbrev invariant-loop : tie.invariant-loop-i
 invariant-loop rights user out₀ i₀ out i = ShownUpTo (table_of rights) user out₀ i out
 
-abbrev decreases-loop : tie.decreases-loop
+abbrev decreases-loop : tie.decreases-loop-i
 decreases-loop rights user out₀ i₀ out i = slot_count - i
 
 size : (s : tie.Start invariant-loop decreases-loop) → length s.args.shop.slots ≡ slot_count
 size s = search (length_mapped, rules)
 
-returns : tie.Need-returns invariant-loop decreases-loop
+returns : tie.Need-returns-then-user-ge-USERS_HERE invariant-loop decreases-loop
 returns c =
-    let s = c.before.before in
-    shown_not (table_of s.args.rights.now) s.args.user s.args.shop _ c.empty-shop.ensures c.before.if1.true
+    shown_not (table_of c.args.rights.now) c.args.user c.args.shop _ c.empty_shop.ensures c.if-user-ge-USERS_HERE.true
 
-loop-holds : tie.Need-loop-init invariant-loop decreases-loop
-loop-holds c = let s = c.before in shown_start (table_of s.args.rights.now) s.args.user s.args.shop
+loop-holds : tie.Need-loop-i-init invariant-loop decreases-loop
+loop-holds c = shown_start (table_of c.args.rights.now) c.args.user c.args.shop
 
-loop-again : tie.Need-loop-preserved invariant-loop decreases-loop
+loop-again : tie.Need-loop-i-preserved invariant-loop decreases-loop
 loop-again c =
-    let s = c.before.before.before.before in
-    let l = c.before.before.loop in
-    shown_more (table_of s.args.rights.now) s.args.user s.args.shop l.i l.out l.invariant c.before.loop-test.true _ c.show-slot.ensures
+    let l = c.loop-i in
+    shown_more (table_of c.args.rights.now) c.args.user c.args.shop l.i l.out l.invariant c.loop-i-test.true _ c.show_slot-out.ensures
 
-returns-2 : tie.Need-returns-2 invariant-loop decreases-loop
+returns-2 : tie.Need-returns invariant-loop decreases-loop
 returns-2 c =
     let s = c.before.before.before in
-    let l = c.before.loop in
-    shown_end (table_of s.args.rights.now) s.args.user s.args.shop l.i l.out l.invariant c.loop-test.false (size s) c.before.before.if1.false
+    let l = c.loop-i in
+    shown_end (table_of c.args.rights.now) c.args.user c.args.shop l.i l.out l.invariant c.loop-i-test.false (size s) c.if-user-ge-USERS_HERE.false
 
-pub show-spec : {M : Type 1} → statement M
-show-spec =
+pub show_spec : {M : Type 1} → statement M
+show_spec =
     tie.close
     (tie.spec
     invariant-loop

@@ -9,44 +9,44 @@ use borrow.Author.Rules.{rules}
 use Rattle.rights.proofs.show_arrays.Statement.{statement}
 use Rattle.rights.proofs.show_arrays.Tie as tie
 
-abbrev invariant-loop : tie.invariant-loop
+abbrev invariant-loop : tie.invariant-loop-i
 invariant-loop rights items₀ limits₀ codes₀ lens₀ user i₀ items limits codes lens i = ShownUpTo (table_of rights) user (arrays_in items₀ limits₀ codes₀ lens₀) i (arrays_in items limits codes lens)
 
-abbrev decreases-loop : tie.decreases-loop
+abbrev decreases-loop : tie.decreases-loop-i
 decreases-loop rights items₀ limits₀ codes₀ lens₀ user i₀ items limits codes lens i = slot_count - i
 
 abbrev arrays : tie.Start invariant-loop decreases-loop → Arrays
 arrays s = arrays_in s.args.items.now s.args.limits.now s.args.codes.now s.args.lens.now
 
 -- what the calls left
-abbrev cleared : tie.After-clear-arrays invariant-loop decreases-loop → Arrays
-cleared c = arrays_in c.clear-arrays.new.0 c.clear-arrays.new.1.0 c.clear-arrays.new.1.1.0 c.clear-arrays.new.1.1.1.0
+abbrev cleared : tie.After-clear_arrays invariant-loop decreases-loop → Arrays
+cleared c = arrays_in c.clear_arrays.new.items c.clear_arrays.new.limits c.clear_arrays.new.codes c.clear_arrays.new.lens
 
-abbrev hidden : tie.After-hide-slot invariant-loop decreases-loop → Arrays
-hidden c = arrays_in c.hide-slot.new.1.0 c.hide-slot.new.1.1.0 c.hide-slot.new.1.1.1.0 c.hide-slot.new.1.1.1.1.0
+abbrev hidden : tie.After-hide_slot invariant-loop decreases-loop → Arrays
+hidden c = arrays_in c.hide_slot.new.items c.hide_slot.new.limits c.hide_slot.new.codes c.hide_slot.new.lens
 
-returns : tie.Need-returns invariant-loop decreases-loop
+returns : tie.Need-returns-then-user-ge-USERS_HERE invariant-loop decreases-loop
 returns c =
     let s = c.before.before.before.before.before.before in
-    shown_not (table_of s.args.rights.now) s.args.user (arrays s) (cleared c) c.clear-arrays.ensures c.before.before.before.before.before.if1.true
+    shown_not (table_of c.args.rights.now) c.args.user (arrays s) (cleared c) c.clear_arrays.ensures c.if-user-ge-USERS_HERE.true
 
-loop-holds : tie.Need-loop-init invariant-loop decreases-loop
-loop-holds c = let s = c.before in shown_start (table_of s.args.rights.now) s.args.user (arrays s)
+loop-holds : tie.Need-loop-i-init invariant-loop decreases-loop
+loop-holds c = let s = c.before in shown_start (table_of c.args.rights.now) c.args.user (arrays s)
 
-loop-again : tie.Need-loop-preserved invariant-loop decreases-loop
+loop-again : tie.Need-loop-i-preserved invariant-loop decreases-loop
 loop-again c =
     let s = c.before.before.before.before.before.before.before.before in
-    let l = c.before.before.before.before.before.before.loop in
-    shown_more (table_of s.args.rights.now) s.args.user (arrays s) l.i _ l.invariant c.before.before.before.before.before.loop-test.true (hidden c) c.hide-slot.ensures
+    let l = c.loop-i in
+    shown_more (table_of c.args.rights.now) c.args.user (arrays s) l.i _ l.invariant c.loop-i-test.true (hidden c) c.hide_slot.ensures
 
-returns-2 : tie.Need-returns-2 invariant-loop decreases-loop
+returns-2 : tie.Need-returns invariant-loop decreases-loop
 returns-2 c =
     let s = c.before.before.before in
-    let l = c.before.loop in
-    shown_end (table_of s.args.rights.now) s.args.user (arrays s) l.i _ l.invariant c.loop-test.false c.before.before.if1.false
+    let l = c.loop-i in
+    shown_end (table_of c.args.rights.now) c.args.user (arrays s) l.i _ l.invariant c.loop-i-test.false c.if-user-ge-USERS_HERE.false
 
-pub show-arrays-spec : {M : Type 1} → statement M
-show-arrays-spec =
+pub show_arrays_spec : {M : Type 1} → statement M
+show_arrays_spec =
     tie.close
     (tie.spec
     invariant-loop

@@ -7,18 +7,21 @@ use borrow.Author.Rules.{rules}
 use Rattle.rights.proofs.show_slot.Statement.{statement}
 use Rattle.rights.proofs.show_slot.Tie as tie
 
-returns : tie.Need-returns
+returns : tie.Need-returns-then-has_right
 returns c =
-    let s = c.before.before in
-    ap (λ (b : Bool). cond b s.args.shop (placed s.args.shop s.args.slot no_slot)) (sym (sym c.before.Has-right.ensures ∙ c.if1.true))
+    ap (λ (b : Bool). cond b c.args.shop (placed c.args.shop c.args.slot no_slot)) (sym (sym c.has_right.ensures ∙ c.if-has_right.true))
 
-returns-2 : tie.Need-returns-2
+returns-2 : tie.Need-returns
 returns-2 c =
-    let s = c.before.before.before.before in
-    c.with-slot.ensures ∙ ap (λ (x : Slot). placed s.args.shop s.args.slot x) c.before.empty-slot.ensures
-    ∙ ap (λ (b : Bool). cond b s.args.shop (placed s.args.shop s.args.slot no_slot)) (sym (sym c.before.before.before.Has-right.ensures ∙ c.before.before.if1.false))
+    c.with_slot.ensures ∙ ap (λ (x : Slot). placed c.args.shop c.args.slot x) c.empty_slot-empty.ensures
+    ∙ ap (λ (b : Bool). cond b c.args.shop (placed c.args.shop c.args.slot no_slot)) (sym (sym c.has_right.ensures ∙ c.if-has_right.false))
 
-pub show-slot-spec : {M : Type 1} → statement M
-show-slot-spec =
+pub show_slot_spec : {M : Type 1} → statement M
+show_slot_spec =
     tie.close
-    (tie.spec (λ c κs. search rules) returns (λ c κs. search rules) (λ c κs. search rules) returns-2)
+    (tie.spec
+    (λ c κs. search rules)
+    returns
+    (λ c κs. search rules)
+    (λ c κs. search rules)
+    returns-2)

@@ -8,36 +8,36 @@ use borrow.Author.Rules.{rules}
 use Rattle.runner.proofs.execute_block.Statement.{statement}
 use Rattle.runner.proofs.execute_block.Tie as tie
 
-abbrev invariant-loop : tie.invariant-loop
+abbrev invariant-loop : tie.invariant-loop-i
 invariant-loop ws val cw first many link items atcs flags times vars₀ i₀ vars i = Passed (reads items atcs flags times) (link_in link.0) ws val cw first many vars₀ vars i
 
-abbrev decreases-loop : tie.decreases-loop
+abbrev decreases-loop : tie.decreases-loop-i
 decreases-loop ws val cw first many link items atcs flags times vars₀ i₀ vars i = many - i
 
-loop-holds : tie.Need-loop-init invariant-loop decreases-loop
+loop-holds : tie.Need-loop-i-init invariant-loop decreases-loop
 loop-holds c = none_passed _ _ _ _ _ _ _ _
 
-add-c : tie.Need-overflow-add-c invariant-loop decreases-loop
-add-c c = omega (arith, (c.before.before.before.before.requires (c.before.before.before.before.args.first + c.before.loop.i) (omega arith) (omega arith)).low)
+add-c : tie.Need-overflow_add-c invariant-loop decreases-loop
+add-c c = omega (arith, (c.requires (c.args.first + c.loop-i.i) (omega arith) (omega arith)).low)
 
-command-requires : tie.Need-command-requires invariant-loop decreases-loop
-command-requires c κs = c.before.before.before.before.before.requires (c.before.before.before.before.before.args.first + c.before.before.loop.i) (omega arith) (omega arith)
+command-requires : tie.Need-command-f-requires invariant-loop decreases-loop
+command-requires c κs = c.requires (c.args.first + c.loop-i.i) (omega arith) (omega arith)
 
-loop-again : tie.Need-loop-preserved invariant-loop decreases-loop
+loop-again : tie.Need-loop-i-preserved invariant-loop decreases-loop
 loop-again c =
-    let a = c.before.before in
+    let a = c.before in
     let b = a.before.before in
     let d = b.before in
-    one_passed _ _ _ _ _ _ _ _ d.loop.invariant b.loop-test.true a.command.ensures c.enum_told.given.1
+    one_passed _ _ _ _ _ _ _ _ d.loop-i.invariant b.loop-i-test.true a.command-f.ensures c.in-On.is
 
-returns : tie.Need-returns invariant-loop decreases-loop
-returns c = out_passed _ _ _ _ _ _ _ _ c.before.before.before.before.before.before.loop.invariant c.before.before.before.before.before.loop-test.true c.before.before.before.command.ensures c.before.f.given.1
+returns : tie.Need-returns-in-Out invariant-loop decreases-loop
+returns c = out_passed _ _ _ _ _ _ _ _ c.loop-i.invariant c.loop-i-test.true c.command-f.ensures c.in-Out.is
 
-returns-2 : tie.Need-returns-2 invariant-loop decreases-loop
-returns-2 c = all_passed _ _ _ _ _ _ _ _ c.before.before.loop.invariant c.follow-link.result c.before.loop-test.false c.follow-link.ensures
+returns-2 : tie.Need-returns invariant-loop decreases-loop
+returns-2 c = all_passed _ _ _ _ _ _ _ _ c.loop-i.invariant c.follow_link.result c.loop-i-test.false c.follow_link.ensures
 
-pub execute-block-spec : {M : Type 1} → statement M
-execute-block-spec =
+pub execute_block_spec : {M : Type 1} → statement M
+execute_block_spec =
     tie.close
     (tie.spec
     invariant-loop

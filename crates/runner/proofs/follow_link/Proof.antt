@@ -4,11 +4,15 @@ use borrow.Author.Rules.{rules}
 use Rattle.runner.proofs.follow_link.Statement.{statement}
 use Rattle.runner.proofs.follow_link.Tie as tie
 
-returns : tie.Need-returns
-returns c = link_none c.before.args.link.0 c.if1.true
+returns : tie.Need-returns-then-word-eq0
+returns c = link_none c.args.link.0 c.if-word-eq0.true
 
-returns-2 : tie.Need-returns-2
-returns-2 c = link_some c.before.before.args.link.0 c.block_no.result c.before.if1.false c.block_no.ensures
+returns-2 : tie.Need-returns
+returns-2 c = link_some c.args.link.0 c.block_no.result c.if-word-eq0.false c.block_no.ensures
 
-pub follow-link-spec : {M : Type 1} → statement M
-follow-link-spec = tie.close (tie.spec returns (λ c. search rules) (λ c κs. search rules) returns-2)
+pub follow_link_spec : {M : Type 1} → statement M
+follow_link_spec = tie.close (tie.spec
+    returns
+    (λ c. search rules)
+    (λ c κs. search rules)
+    returns-2)

@@ -4,7 +4,7 @@ use Rattle.model.specs.Save.{Save}
 use Rattle.model.specs.Sheet.{Sheet, save_ok}
 use Rattle.model.specs.Memory.{Memory}
 use Rattle.model.specs.RecordCalls.{call_in}
-use Rattle.model.specs.Laws.Checks.{answered}
+use Rattle.model.proofs.Laws.Checks.{answered}
 use Rattle.memory.specs.View.{memory_of}
 use Rattle.shop.specs.Shapes.{sheet_of}
 use Rattle.checks.specs.Calls.{save_of}
@@ -25,28 +25,28 @@ memory s = memory_of s.args.ws.now s.args.val.now s.args.cw.now s.args.bw.now s.
 abbrev save : tie.Start → Save
 save s = save_of s.args.items.now s.args.atcs.now s.args.flags.now s.args.times.now s.args.vars.now
 
-run-copied-requires : tie.Need-run-copied-requires
+run-copied-requires : tie.Need-run_copied-requires
 run-copied-requires c κs =
-    let s = c.before.before.before.before.before.before.before.before.before in
-    (call_ready (memory s) (sheet s) s.args.start.0 (answered (call_in (sheet s) (memory s) s.args.start.0) c.before.before.before.before.before.check-call.ensures c.before.before.before.before.if1.true), save_room (sheet s) (save s) (answered (save_ok (sheet s) (save s)) c.before.before.check-save.ensures c.before.if2.true))
+    let s = c.before.before.before.before.before.before.before.before in
+    (call_ready (memory s) (sheet s) s.args.start.0 (answered (call_in (sheet s) (memory s) s.args.start.0) c.check_call-refused.ensures c.if-refused-eq0.true), save_room (sheet s) (save s) (answered (save_ok (sheet s) (save s)) c.check_save.ensures c.if-check_save.true))
 
-returns : tie.Need-returns
+returns : tie.Need-returns-then-check_save
 returns c =
-    let s = c.before.before.before.before.before.before.before.before.before.before.before in
-    run_checked_lem (sheet s) (memory s) s.args.start.0 (save s) s.args.budget _ c.before.before.before.before.before.before.before.check-call.ensures c.before.before.before.before.before.before.if1.true (ran_of c.before.run-copied.result c.before.run-copied.new.1.1.1.1.1.1.1.1.1.1.0) (answered (save_ok (sheet s) (save s)) c.before.before.before.before.check-save.ensures c.before.before.before.if2.true) c.before.run-copied.ensures
+    let s = c.before.before.before.before.before.before.before.before.before.before in
+    run_checked_lem (sheet s) (memory s) s.args.start.0 (save s) s.args.budget _ c.check_call-refused.ensures c.if-refused-eq0.true (ran_of c.run_copied.result c.run_copied.new.1.1.1.1.1.1.1.1.1.1.0) (answered (save_ok (sheet s) (save s)) c.check_save.ensures c.if-check_save.true) c.run_copied.ensures
 
-returns-2 : tie.Need-returns-2
+returns-2 : tie.Need-returns
 returns-2 c =
     let a = c.before in
     let b = a.before in
     let d = b.before in
     let s = d.before.before.before.before in
-    answers c.ended.ensures (elim a.if3.branch [
-      | inl w ↦ elim b.if1.branch [
-        | inl u ↦ rw w.1 (run_bad_save (sheet s) (memory s) s.args.start.0 (save s) s.args.budget _ d.check-call.ensures u.0.taken (answered (save_ok (sheet s) (save s)) u.2.ensures u.3.left))
+    answers c.ended.ensures (elim a.if-refused-eq0-2.branch [
+      | inl w ↦ elim b.else-refused-eq0.branch [
+        | inl u ↦ rw w.1 (run_bad_save (sheet s) (memory s) s.args.start.0 (save s) s.args.budget _ d.check_call-refused.ensures u.0.taken (answered (save_ok (sheet s) (save s)) u.2.ensures u.3.left))
         | inr u ↦ absurd (u.left w.0.taken)
       ]
-      | inr w ↦ rw w.1 (run_refused (sheet s) (memory s) s.args.start.0 (save s) s.args.budget _ d.check-call.ensures w.0.left)
+      | inr w ↦ rw w.1 (run_refused (sheet s) (memory s) s.args.start.0 (save s) s.args.budget _ d.check_call-refused.ensures w.0.left)
     ])
 
 pub run_spec : {M : Type 1} → statement M

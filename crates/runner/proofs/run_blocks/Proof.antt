@@ -9,41 +9,41 @@ use borrow.Author.Rules.{rules}
 use Rattle.runner.proofs.run_blocks.Statement.{statement}
 use Rattle.runner.proofs.run_blocks.Tie as tie
 
-abbrev invariant-loop : tie.invariant-loop
+abbrev invariant-loop : tie.invariant-loop-entered
 invariant-loop ws val cw bw counts items atcs flags times vars₀ budget b₀ entered₀ vars b entered = Entered (script_of (memory_of ws val cw bw counts)).blocks (reads items atcs flags times) budget b₀.0 vars₀ entered b.0 vars
 
-abbrev decreases-loop : tie.decreases-loop
+abbrev decreases-loop : tie.decreases-loop-entered
 decreases-loop ws val cw bw counts items atcs flags times vars₀ budget b₀ entered₀ vars b entered = budget - entered
 
-loop-holds : tie.Need-loop-init invariant-loop decreases-loop
+loop-holds : tie.Need-loop-entered-init invariant-loop decreases-loop
 loop-holds c = none_entered _ _ _ _ _
 
-loop-again : tie.Need-loop-preserved invariant-loop decreases-loop
+loop-again : tie.Need-loop-entered-preserved invariant-loop decreases-loop
 loop-again c =
-    let a = c.before.before.before in
+    let a = c.before in
     let b = a.before.before in
     let d = b.before in
-    one_entered _ _ _ _ _ d.loop.invariant b.loop-test.true a.step_Block.result _ a.step_Block.new.1.1.1.1.1.1.1.1.1.1.0 c.before.s.given.1 a.step_Block.ensures
+    one_entered _ _ _ _ _ d.loop-entered.invariant b.loop-entered-test.true a.step_block-s.result _ a.step_block-s.new.1.1.1.1.1.1.1.1.1.1.0 c.in-Next.is a.step_block-s.ensures
 
-returns : tie.Need-returns invariant-loop decreases-loop
+returns : tie.Need-returns-in-Done invariant-loop decreases-loop
 returns c =
-    let a = c.before.before.before in
+    let a = c.before.before in
     let b = a.before.before in
     let d = b.before in
-    answers c.ended.ensures (done_entered _ _ _ _ _ d.loop.invariant b.loop-test.true a.step_Block.result a.step_Block.new.1.1.1.1.1.1.1.1.1.1.0 c.before.enum_told.given.1 a.step_Block.ensures)
+    answers c.ended.ensures (done_entered _ _ _ _ _ d.loop-entered.invariant b.loop-entered-test.true a.step_block-s.result a.step_block-s.new.1.1.1.1.1.1.1.1.1.1.0 c.in-Done.is a.step_block-s.ensures)
 
-returns-2 : tie.Need-returns-2 invariant-loop decreases-loop
+returns-2 : tie.Need-returns-in-Halt invariant-loop decreases-loop
 returns-2 c =
-    let a = c.before.before.before.before in
+    let a = c.before.before in
     let b = a.before.before in
     let d = b.before in
-    answers c.ended2.ensures (halt_entered _ _ _ _ _ d.loop.invariant b.loop-test.true a.step_Block.result _ a.step_Block.new.1.1.1.1.1.1.1.1.1.1.0 c.before.before.s2.given.1 a.step_Block.ensures)
+    answers c.ended-in-Halt.ensures (halt_entered _ _ _ _ _ d.loop-entered.invariant b.loop-entered-test.true a.step_block-s.result _ a.step_block-s.new.1.1.1.1.1.1.1.1.1.1.0 c.in-Halt.is a.step_block-s.ensures)
 
-returns-3 : tie.Need-returns-3 invariant-loop decreases-loop
-returns-3 c = answers c.ended3.ensures (all_spent _ _ _ _ _ c.before.before.loop.invariant c.before.loop-test.false)
+returns-3 : tie.Need-returns invariant-loop decreases-loop
+returns-3 c = answers c.ended-2.ensures (all_spent _ _ _ _ _ c.loop-entered.invariant c.loop-entered-test.false)
 
-pub run-blocks-spec : {M : Type 1} → statement M
-run-blocks-spec =
+pub run_blocks_spec : {M : Type 1} → statement M
+run_blocks_spec =
     tie.close
     (tie.spec
     invariant-loop

@@ -6,10 +6,10 @@ use Rattle.runner.proofs.run_copied.Statement.{statement}
 use Rattle.runner.proofs.run_copied.Tie as tie
 
 returns : tie.Need-returns
-returns c = ap (ran_of c.before.before.before.before.run-blocks.result) c.before.write-back.ensures ∙ (rw c.before.before.before.before.before.before.before.copy-numbers.ensures at c.before.before.before.before.run-blocks.ensures)
+returns c = ap (ran_of c.run_blocks-ran.result) c.write_back.ensures ∙ (rw c.copy_numbers.ensures at c.run_blocks-ran.ensures)
 
-pub run-copied-spec : {M : Type 1} → statement M
-run-copied-spec =
+pub run_copied_spec : {M : Type 1} → statement M
+run_copied_spec =
     tie.close
     (tie.spec
     (λ c. search rules)

@@ -16,33 +16,33 @@ memory s = memory_of s.args.ws.now s.args.val.now s.args.cw.now s.args.bw.now s.
 abbrev save : tie.Start → Save
 save s = reads s.args.items.now s.args.atcs.now s.args.flags.now s.args.times.now
 
-returns : tie.Need-returns
+returns : tie.Need-returns-then-n-counts
 returns c =
     let s = c.before.before.before.before in
-    step_none (memory s) (save s) s.args.b.0 s.args.vars.now c.if1.true
+    step_none (memory s) (save s) s.args.b.0 s.args.vars.now c.if-n-counts.true
 
-returns-2 : tie.Need-returns-2
+returns-2 : tie.Need-returns-then-kind-ne1
 returns-2 c =
     let a = c.before.before in
-    let s = a.before.before.before.before in
-    step_not_code (memory s) (save s) s.args.b.0 s.args.vars.now a.if1.false c.if2.true
+    let s = a.before.before.before.before.before in
+    step_not_code (memory s) (save s) s.args.b.0 s.args.vars.now a.if-n-counts.false c.if-kind-ne1.true
 
-execute-block-requires : tie.Need-execute-block-requires
+execute-block-requires : tie.Need-execute_block-requires
 execute-block-requires c κs =
     let a = c.before.before.before.before in
     let d = a.before.before in
-    let e = d.before.before.before.before in
-    e.requires.commands e.args.b.0 d.if1.false a.if2.false
+    let e = d.before.before.before.before.before in
+    e.requires.commands e.args.b.0 d.if-n-counts.false a.if-kind-ne1.false
 
-returns-3 : tie.Need-returns-3
+returns-3 : tie.Need-returns
 returns-3 c =
     let a = c.before.before.before.before.before in
     let d = a.before.before in
-    let s = d.before.before.before.before in
-    step_code (memory s) (save s) s.args.b.0 s.args.vars.now d.if1.false {o = outcome_of c.execute-block.result c.execute-block.new.1.1.1.1.1.1.1.1.1.1.0} a.if2.false (c.execute-block.ensures s.args.counts.nodes s.args.counts.commands)
+    let s = d.before.before.before.before.before in
+    step_code (memory s) (save s) s.args.b.0 s.args.vars.now d.if-n-counts.false {o = outcome_of c.execute_block.result c.execute_block.new.1.1.1.1.1.1.1.1.1.1.0} a.if-kind-ne1.false (c.execute_block.ensures s.args.counts.nodes s.args.counts.commands)
 
-pub step-block-spec : {M : Type 1} → statement M
-step-block-spec =
+pub step_block_spec : {M : Type 1} → statement M
+step_block_spec =
     tie.close
     (tie.spec
     (λ c. search rules)

@@ -5,20 +5,27 @@ use mir.Syntax.{w32}
 use borrow.Author.Rules.{rules}
 use Rattle.runner.proofs.store_at.Statement.{statement}
 use Rattle.runner.proofs.store_at.Tie as tie
-use Rattle.model.specs.Laws.Signed.{not_negative}
+use Rattle.model.proofs.Laws.Signed.{not_negative}
 
-returns : tie.Need-returns
-returns c = store_negative c.before.args.vars.now c.before.args.k c.before.args.x (rw (to_z-of_z c.before.ranges.k) at c.if1.true)
+returns : tie.Need-returns-then-k-lt0
+returns c = store_negative c.args.vars.now c.args.k c.args.x (rw (to_z-of_z c.ranges.k) at c.if-k-lt0.true)
 
-cast-i : tie.Need-overflow-cast-i
-cast-i c = rw (to_z-of_z c.before.ranges.k) (not_negative c.before.args.k (rw (to_z-of_z c.before.ranges.k) at c.if1.false), Fits-nat_abs {w = w32} tt c.before.ranges.k)
+cast-i : tie.Need-overflow_cast-i
+cast-i c = rw (to_z-of_z c.ranges.k) (not_negative c.args.k (rw (to_z-of_z c.ranges.k) at c.if-k-lt0.false), Fits-nat_abs {w = w32} tt c.ranges.k)
 
-returns-2 : tie.Need-returns-2
-returns-2 c = let s = c.before.before in rw (to_z-of_z s.ranges.k, to_z-of_z s.ranges.x) (store_in s.args.vars.now s.args.k s.args.x (rw (to_z-of_z s.ranges.k) at c.before.if1.false))
+returns-2 : tie.Need-returns-then-i-vars
+returns-2 c = let s = c.before.before in rw (to_z-of_z s.ranges.k, to_z-of_z s.ranges.x) (store_in s.args.vars.now s.args.k s.args.x (rw (to_z-of_z s.ranges.k) at c.if-k-lt0.false))
 
-returns-3 : tie.Need-returns-3
-returns-3 c = let s = c.before.before in store_out s.args.vars.now s.args.k s.args.x (rw (to_z-of_z s.ranges.k) at c.before.if1.false) (rw (to_z-of_z s.ranges.k) at c.if2.false)
+returns-3 : tie.Need-returns-else-i-vars
+returns-3 c = let s = c.before.before in store_out s.args.vars.now s.args.k s.args.x (rw (to_z-of_z s.ranges.k) at c.if-k-lt0.false) (rw (to_z-of_z s.ranges.k) at c.if-i-vars.false)
 
-pub store-at-spec : {M : Type 1} → statement M
-store-at-spec =
-    tie.close (tie.spec returns cast-i (λ c. search rules) (λ c. search rules) (λ c. search rules) returns-2 returns-3)
+pub store_at_spec : {M : Type 1} → statement M
+store_at_spec =
+    tie.close (tie.spec
+    returns
+    cast-i
+    (λ c. search rules)
+    (λ c. search rules)
+    (λ c. search rules)
+    returns-2
+    returns-3)

@@ -7,20 +7,20 @@ use borrow.Author.Rules.{rules}
 use Rattle.runner.proofs.store_value.Statement.{statement}
 use Rattle.runner.proofs.store_value.Tie as tie
 
-returns : tie.Need-returns
+returns : tie.Need-returns-in-Is-e
 returns c =
-    let f : SFits w32 c.before.before.before.before.before.before.t.given.0.0 = record { sfits = c.before.before.before.before.before.known-told.given.0.1 } in
-    let g : SFits w32 c.before.before.before.e.given.0.0 = record { sfits = c.before.before.known-told2.given.0.1 } in
-    λ s nx a b p q. value_stored p q c.before.before.before.before.before.before.t.given.1 c.before.before.before.e.given.1 (rw (to_z-of_z f, to_z-of_z g) at c.store_at.ensures)
+    let f : SFits w32 c.in-Is.k = record { sfits = c.in-Is.known_told-1-own.given.0.1 } in
+    let g : SFits w32 c.in-Is-e.x = record { sfits = c.in-Is-e.known_told-in-Is-1-own.given.0.1 } in
+    λ s nx a b p q. value_stored p q c.in-Is.is c.in-Is-e.is (rw (to_z-of_z f, to_z-of_z g) at c.store_at.ensures)
 
-returns-2 : tie.Need-returns-2
-returns-2 c = λ s nx a b p q. value_stops p q c.before.before.before.before.t.given.1 c.before.e2.given.1
+returns-2 : tie.Need-returns-in-Refused-e
+returns-2 c = λ s nx a b p q. value_stops p q c.in-Is.is c.in-Refused-e.is
 
-returns-3 : tie.Need-returns-3
-returns-3 c = λ s nx a b p q. target_stops p c.before.t2.given.1
+returns-3 : tie.Need-returns-in-Refused
+returns-3 c = λ s nx a b p q. target_stops p c.in-Refused.is
 
-pub store-value-spec : {M : Type 1} → statement M
-store-value-spec =
+pub store_value_spec : {M : Type 1} → statement M
+store_value_spec =
     tie.close
     (tie.spec
     (λ c. search rules)

@@ -8,18 +8,23 @@ use borrow.Author.Rules.{rules}
 use Rattle.settings.proofs.acquired_subjects.Statement.{statement}
 use Rattle.settings.proofs.acquired_subjects.Tie as tie
 
-returns : tie.Need-returns
-returns c = let s = c.before in (λ ks. acquired_none (sheet_of ks s.args.sheet) s.args.item.0 s.args.one (not-true _ c.if1.true), omega arith)
+returns : tie.Need-returns-then-not-one
+returns c = let s = c.before in (λ ks. acquired_none (sheet_of ks s.args.sheet) s.args.item.0 s.args.one c.if-not-one.true, omega arith)
 
-returns-2 : tie.Need-returns-2
+returns-2 : tie.Need-returns-then-rate_of-eq0
 returns-2 c =
     let s = c.before.before.before.before in
-    (λ ks. acquired_plain (sheet_of ks s.args.sheet) s.args.item.0 s.args.one (not-false _ c.before.before.before.if1.false) _ (c.before.before.timer-of.ensures ks) (sym c.before.rate-of.ensures ∙ c.if2.true), omega arith)
+    (λ ks. acquired_plain (sheet_of ks s.args.sheet) s.args.item.0 s.args.one c.if-not-one.false _ (c.timer_of-timer.ensures ks) (sym c.rate_of.ensures ∙ c.if-rate_of-eq0.true), omega arith)
 
-returns-3 : tie.Need-returns-3
+returns-3 : tie.Need-returns
 returns-3 c =
     let s = c.before.before.before.before in
-    (λ ks. acquired_timer (sheet_of ks s.args.sheet) s.args.item.0 s.args.one (not-false _ c.before.before.before.if1.false) _ (c.before.before.timer-of.ensures ks) (λ z. c.if2.false (c.before.rate-of.ensures ∙ z)), omega arith)
+    (λ ks. acquired_timer (sheet_of ks s.args.sheet) s.args.item.0 s.args.one c.if-not-one.false _ (c.timer_of-timer.ensures ks) (λ z. c.if-rate_of-eq0.false (c.rate_of.ensures ∙ z)), omega arith)
 
-pub acquired-subjects-spec : {M : Type 1} → statement M
-acquired-subjects-spec = tie.close (tie.spec returns (λ c κs. search rules) (λ c κs. search rules) returns-2 returns-3)
+pub acquired_subjects_spec : {M : Type 1} → statement M
+acquired_subjects_spec = tie.close (tie.spec
+    returns
+    (λ c κs. search rules)
+    (λ c κs. search rules)
+    returns-2
+    returns-3)

@@ -6,11 +6,16 @@ use borrow.Author.Rules.{rules}
 use Rattle.settings.proofs.by_numbers.Statement.{statement}
 use Rattle.settings.proofs.by_numbers.Tie as tie
 
-sub-t7 : tie.Need-overflow-sub-t7
-sub-t7 c = let s = c.before.before in omega (arith, c.power.ensures, c.before.unmet.ensures, less_power s.args.k s.args.f (bit s.args.met))
+sub-t7 : tie.Need-overflow_sub-result
+sub-t7 c = let s = c.before.before in omega (arith, c.power-all.ensures, c.unmet-hidden.ensures, less_power s.args.k s.args.f (bit s.args.met))
 
 returns : tie.Need-returns
-returns c = let s = c.before.before in numbers_made s.args.k s.args.f (bit s.args.met) _ _ c.power.ensures c.before.unmet.ensures
+returns c = let s = c.before.before in numbers_made s.args.k s.args.f (bit s.args.met) _ _ c.power-all.ensures c.unmet-hidden.ensures
 
-pub by-numbers-spec : {M : Type 1} → statement M
-by-numbers-spec = tie.close (tie.spec (λ c. search rules) (λ c κs. search rules) (λ c κs. search rules) sub-t7 returns)
+pub by_numbers_spec : {M : Type 1} → statement M
+by_numbers_spec = tie.close (tie.spec
+    (λ c. search rules)
+    (λ c κs. search rules)
+    (λ c κs. search rules)
+    sub-t7
+    returns)

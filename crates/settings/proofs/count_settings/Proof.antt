@@ -20,22 +20,22 @@ sheet s = sheet_of s.args.attached.now s.args.sheet
 long : (s : tie.Start) → length s.args.slot.requirements ≡ entry_limit
 long s = search rules
 
-count-subjects-requires : tie.Need-count-subjects-requires
+count-subjects-requires : tie.Need-count_subjects-f-requires
 count-subjects-requires c κs = let s = c.before.before.before.before.before.before.before in slot_few (sheet s) s.requires.0 s.args.slot s.requires.1
 
-is-faithful-requires : tie.Need-is-faithful-requires
+is-faithful-requires : tie.Need-is_faithful-met-requires
 is-faithful-requires c κs = let s = c.before.before.before.before.before.before.before.before.before in slot_few (sheet s) s.requires.0 s.args.slot s.requires.1
 
 returns : tie.Need-returns
 returns c =
     let s = c.before.before.before.before.before.before.before.before.before.before.before in
-    let l = rw (to_z-of_z {w = w16} {z = s.args.slot.limit} (record { sfits = c.before.before.before.before.before.before.before.before.struct_told.given.1.0.1 })) at c.before.before.before.before.before.before.before.limit-of.ensures in
-    c.by-numbers.ensures
-    ∙ numbers_are (sheet s) s.requires.0 s.args.slot s.requires.1 (long s) s.args.w s.requires.2 _ (ap (λ (n : ℕ). leb n 1) (sym l) ∙ one_test c.before.before.before.before.before.before.before.limit-of.result) _ (c.before.before.before.before.before.before.own_code.ensures s.args.sheet) _ _ _
-    (c.before.before.before.before.before.acquired-subjects.ensures.0 s.args.attached.now) c.before.before.before.count-subjects.ensures.0 c.before.is-faithful.ensures
+    let l = rw (to_z-of_z {w = w16} {z = s.args.slot.limit} (record { sfits = c.struct_told-1.given.1.0.1 })) at c.limit_of-one.ensures in
+    c.by_numbers.ensures
+    ∙ numbers_are (sheet s) s.requires.0 s.args.slot s.requires.1 (long s) s.args.w s.requires.2 _ (ap (λ (n : ℕ). leb n 1) (sym l) ∙ one_test c.limit_of-one.result) _ (c.own_code-own.ensures s.args.sheet) _ _ _
+    (c.acquired_subjects-k.ensures.0 s.args.attached.now) c.count_subjects-f.ensures.0 c.is_faithful-met.ensures
 
-pub count-settings-spec : {M : Type 1} → statement M
-count-settings-spec =
+pub count_settings_spec : {M : Type 1} → statement M
+count_settings_spec =
     tie.close
     (tie.spec
     (λ c κs. search rules)

@@ -8,20 +8,25 @@ use borrow.Author.Rules.{rules}
 use Rattle.settings.proofs.is_faithful.Statement.{statement}
 use Rattle.settings.proofs.is_faithful.Tie as tie
 
-returns : tie.Need-returns
+returns : tie.Need-returns-then-not-no_pair
 returns c =
     let s = c.before.before in
-    faithful_by s.args.one s.args.own (take s.args.n s.args.row.now) false _ _ (sym c.before.no-pair.ensures ∙ not-true _ c.if1.true) refl refl
+    faithful_by s.args.one s.args.own (take s.args.n s.args.row.now) false _ _ (sym c.no_pair.ensures ∙ c.if-not-no_pair.true) refl refl
 
-returns-2 : tie.Need-returns-2
+returns-2 : tie.Need-returns-then-not-one
 returns-2 c =
     let s = c.before.before.before in
-    faithful_by s.args.one s.args.own (take s.args.n s.args.row.now) true false _ (sym c.before.before.no-pair.ensures ∙ not-false _ c.before.if1.false) (not-true _ c.if2.true) refl
+    faithful_by s.args.one s.args.own (take s.args.n s.args.row.now) true false _ (sym c.no_pair.ensures ∙ c.if-not-no_pair.false) c.if-not-one.true refl
 
-returns-3 : tie.Need-returns-3
+returns-3 : tie.Need-returns
 returns-3 c =
     let s = c.before.before.before.before in
-    faithful_by s.args.one s.args.own (take s.args.n s.args.row.now) true true c.lacks.result (sym c.before.before.before.no-pair.ensures ∙ not-false _ c.before.before.if1.false) (not-false _ c.before.if2.false) (sym c.lacks.ensures)
+    faithful_by s.args.one s.args.own (take s.args.n s.args.row.now) true true c.lacks.result (sym c.no_pair.ensures ∙ c.if-not-no_pair.false) c.if-not-one.false (sym c.lacks.ensures)
 
-pub is-faithful-spec : {M : Type 1} → statement M
-is-faithful-spec = tie.close (tie.spec (λ c κs. search rules) returns returns-2 (λ c κs. search rules) returns-3)
+pub is_faithful_spec : {M : Type 1} → statement M
+is_faithful_spec = tie.close (tie.spec
+    (λ c κs. search rules)
+    returns
+    returns-2
+    (λ c κs. search rules)
+    returns-3)

@@ -16,47 +16,47 @@ use Rattle.settings.proofs.no_pair.Tie as tie
 abbrev alone : List ℕ → ℕ → Bool
 alone cs c = lacks_code (negated_code c) cs
 
-abbrev invariant-loop : tie.invariant-loop
+abbrev invariant-loop : tie.invariant-loop-i
 invariant-loop row n i₀ i = Tested (alone (take n row)) (take n row) i
 
-abbrev decreases-loop : tie.decreases-loop
+abbrev decreases-loop : tie.decreases-loop-i
 decreases-loop row n i₀ i = n - i
 
 -- how many codes there are
-size : (c : tie.After-capacity invariant-loop decreases-loop) → length (take c.before.args.n c.before.args.row.now) ≡ c.before.args.n
-size c = length-take-le c.before.args.n c.before.args.row.now (omega (arith, c.capacity.ensures.0, c.before.requires))
+size : (c : tie.After-capacity invariant-loop decreases-loop) → length (take c.args.n c.args.row.now) ≡ c.args.n
+size c = length-take-le c.args.n c.args.row.now (omega (arith, c.capacity.ensures.0, c.requires))
 
-loop-holds : tie.Need-loop-init invariant-loop decreases-loop
+loop-holds : tie.Need-loop-i-init invariant-loop decreases-loop
 loop-holds c = start _ _
 
-returns : tie.Need-returns invariant-loop decreases-loop
+returns : tie.Need-returns-then-not-lacks invariant-loop decreases-loop
 unfolding no_pair_code
 returns c =
     let s = c.before.before.before.before.before.before.before in
-    let l = c.before.before.before.before.before.loop in
+    let l = c.loop-i in
     let cs : List ℕ = take s.args.n s.args.row.now in
-    let e = get_or-take s.args.n s.args.row.now l.i 0 c.before.before.before.before.loop-test.true in
-    stop (alone cs) cs l.i l.invariant 0 (omega (arith, size c.before.before.before.before.before.before, c.before.before.before.before.loop-test.true))
-    (ap (alone cs) e ∙ sym (ap (λ (x : ℕ). lacks_code x cs) c.before.before.negated.ensures) ∙ sym c.before.lacks.ensures ∙ not-true _ c.if1.true)
+    let e = get_or-take s.args.n s.args.row.now l.i 0 c.loop-i-test.true in
+    stop (alone cs) cs l.i l.invariant 0 (omega (arith, size c.before.before.before.before.before.before.before, c.loop-i-test.true))
+    (ap (alone cs) e ∙ sym (ap (λ (x : ℕ). lacks_code x cs) c.negated.ensures) ∙ sym c.lacks.ensures ∙ c.if-not-lacks.true)
 
-loop-again : tie.Need-loop-preserved invariant-loop decreases-loop
+loop-again : tie.Need-loop-i-preserved invariant-loop decreases-loop
 loop-again c =
     let s = c.before.before.before.before.before.before.before in
-    let l = c.before.before.before.before.before.loop in
+    let l = c.loop-i in
     let cs : List ℕ = take s.args.n s.args.row.now in
-    let e = get_or-take s.args.n s.args.row.now l.i 0 c.before.before.before.before.loop-test.true in
-    more (alone cs) cs l.i l.invariant 0 (omega (arith, size c.before.before.before.before.before.before, c.before.before.before.before.loop-test.true))
-    (ap (alone cs) e ∙ sym (ap (λ (x : ℕ). lacks_code x cs) c.before.before.negated.ensures) ∙ sym c.before.lacks.ensures ∙ not-false _ c.if1.false)
+    let e = get_or-take s.args.n s.args.row.now l.i 0 c.loop-i-test.true in
+    more (alone cs) cs l.i l.invariant 0 (omega (arith, size c.before.before.before.before.before.before.before, c.loop-i-test.true))
+    (ap (alone cs) e ∙ sym (ap (λ (x : ℕ). lacks_code x cs) c.negated.ensures) ∙ sym c.lacks.ensures ∙ c.if-not-lacks.false)
 
-returns-2 : tie.Need-returns-2 invariant-loop decreases-loop
+returns-2 : tie.Need-returns invariant-loop decreases-loop
 unfolding no_pair_code
 returns-2 c =
     let s = c.before.before.before in
     let cs : List ℕ = take s.args.n s.args.row.now in
-    done (alone cs) cs c.before.loop.i c.before.loop.invariant (omega (arith, size c.before.before, c.loop-test.false))
+    done (alone cs) cs c.loop-i.i c.loop-i.invariant (omega (arith, size c.before.before, c.loop-i-test.false))
 
-pub no-pair-spec : {M : Type 1} → statement M
-no-pair-spec =
+pub no_pair_spec : {M : Type 1} → statement M
+no_pair_spec =
     tie.close
     (tie.spec
     invariant-loop

@@ -6,18 +6,18 @@ use borrow.Author.Rules.{rules}
 use Rattle.settings.proofs.own_code.Statement.{statement}
 use Rattle.settings.proofs.own_code.Tie as tie
 
-returns : tie.Need-returns
+returns : tie.Need-returns-in-Nothing
 returns c h =
-    let s = c.before.before.before.before.before in
-    item_code s.args.item.0 ∙ own_code_lem s.args.attached.now h s.args.item.0 _ (sym (ap atc_is c.before.enum_told.given.1) ∙ c.before.before.before.atc-for.ensures)
+    let s = c.before.before.before.before in
+    item_code s.args.item.0 ∙ own_code_lem s.args.attached.now h s.args.item.0 _ (sym (ap atc_is c.in-Nothing.is) ∙ c.atc_for-atc.ensures)
 
-returns-2 : tie.Need-returns-2
+returns-2 : tie.Need-returns-in-Of
 returns-2 c h =
-    let s = c.before.before.before.before.before.before in
-    atc_code s.args.item.0 c.before.before.atc.given.0.0.0 ∙ own_code_lem s.args.attached.now h s.args.item.0 _ (sym (ap atc_is c.before.before.atc.given.1) ∙ c.before.before.before.before.atc-for.ensures)
+    let s = c.before.before.before.before in
+    atc_code s.args.item.0 c.in-Of.a.0 ∙ own_code_lem s.args.attached.now h s.args.item.0 _ (sym (ap atc_is c.in-Of.is) ∙ c.atc_for-atc.ensures)
 
-pub own-code-spec : {M : Type 1} → statement M
-own-code-spec =
+pub own_code_spec : {M : Type 1} → statement M
+own_code_spec =
     tie.close
     (tie.spec
     (λ c κs. search rules)

@@ -11,5 +11,7 @@ use Rattle.settings.proofs.power.Tie as tie
 returns : tie.Need-returns
 returns c = ap (λ (n : ℕ). n % 2 ^ 32) (one-mul (2 ^ c.args.n)) ∙ mod-eq_of_lt (pow-lt {j = 32} (omega arith))
 
-pub power-spec : {M : Type 1} → statement M
-power-spec = tie.close (tie.spec (λ c. search rules) returns)
+pub power_spec : {M : Type 1} → statement M
+power_spec = tie.close (tie.spec
+    (λ c. search rules)
+    returns)

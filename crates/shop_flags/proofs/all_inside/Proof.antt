@@ -19,48 +19,48 @@ use Rattle.shop_flags.proofs.all_inside.Tie as tie
 abbrev inside : ℕ → Bool
 inside c = req_inside (requirement_of c)
 
-abbrev invariant-loop : tie.invariant-loop
+abbrev invariant-loop : tie.invariant-loop-i
 invariant-loop row len n i₀ i = Tested inside (entries n row) i
 
-abbrev decreases-loop : tie.decreases-loop
+abbrev decreases-loop : tie.decreases-loop-i
 decreases-loop row len n i₀ i = n - i
 
 -- the entries, and the one that is tested
 abbrev listed : tie.Start invariant-loop decreases-loop → List ℕ
 listed s = entries s.args.len s.args.row.now
 
-there : (c : tie.In-loop invariant-loop decreases-loop) → c.before.loop.i < length (listed c.before.before.before)
-there c = omega (arith, entries_length c.before.before.before.args.len c.before.before.before.args.row.now, c.loop-test.true)
+there : (c : tie.In-loop-i invariant-loop decreases-loop) → c.loop-i.i < length (listed c.before.before.before)
+there c = omega (arith, entries_length c.args.len c.args.row.now, c.loop-i-test.true)
 
-entry : (c : tie.In-loop invariant-loop decreases-loop) → get_or (listed c.before.before.before) c.before.loop.i 0 ≡ get_or c.before.before.before.args.row.now c.before.loop.i 0
-entry c = entry_is c.before.before.before.args.len c.before.before.before.args.row.now c.before.loop.i c.loop-test.true
+entry : (c : tie.In-loop-i invariant-loop decreases-loop) → get_or (listed c.before.before.before) c.loop-i.i 0 ≡ get_or c.args.row.now c.loop-i.i 0
+entry c = entry_is c.args.len c.args.row.now c.loop-i.i c.loop-i-test.true
 
-loop-holds : tie.Need-loop-init invariant-loop decreases-loop
+loop-holds : tie.Need-loop-i-init invariant-loop decreases-loop
 loop-holds c = start _ _
 
-returns : tie.Need-returns invariant-loop decreases-loop
+returns : tie.Need-returns-then-not-is_inside invariant-loop decreases-loop
 returns c =
     let s = c.before.before.before.before.before.before in
-    let a = c.before.before.before.before.loop in
+    let a = c.loop-i in
     stop inside (listed s) a.i a.invariant 0 (there c.before.before.before)
-    (ap inside (entry c.before.before.before) ∙ sym (ap inside c.before.before.entry_at.ensures) ∙ sym c.before.is-inside.ensures ∙ not-true _ c.if1.true)
+    (ap inside (entry c.before.before.before) ∙ sym (ap inside c.entry_at.ensures) ∙ sym c.is_inside.ensures ∙ c.if-not-is_inside.true)
     ∙ sym (all_map req_inside requirement_of (listed s))
 
-loop-again : tie.Need-loop-preserved invariant-loop decreases-loop
+loop-again : tie.Need-loop-i-preserved invariant-loop decreases-loop
 loop-again c =
     let s = c.before.before.before.before.before.before in
-    let a = c.before.before.before.before.loop in
+    let a = c.loop-i in
     more inside (listed s) a.i a.invariant 0 (there c.before.before.before)
-    (ap inside (entry c.before.before.before) ∙ sym (ap inside c.before.before.entry_at.ensures) ∙ sym c.before.is-inside.ensures ∙ not-false _ c.if1.false)
+    (ap inside (entry c.before.before.before) ∙ sym (ap inside c.entry_at.ensures) ∙ sym c.is_inside.ensures ∙ c.if-not-is_inside.false)
 
-returns-2 : tie.Need-returns-2 invariant-loop decreases-loop
+returns-2 : tie.Need-returns invariant-loop decreases-loop
 returns-2 c =
     let s = c.before.before.before in
-    done inside (listed s) c.before.loop.i c.before.loop.invariant (omega (arith, entries_length s.args.len s.args.row.now, c.loop-test.false))
+    done inside (listed s) c.loop-i.i c.loop-i.invariant (omega (arith, entries_length s.args.len s.args.row.now, c.loop-i-test.false))
     ∙ sym (all_map req_inside requirement_of (listed s))
 
-pub all-inside-spec : {M : Type 1} → statement M
-all-inside-spec =
+pub all_inside_spec : {M : Type 1} → statement M
+all_inside_spec =
     tie.close
     (tie.spec
     invariant-loop

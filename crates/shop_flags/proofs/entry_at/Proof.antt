@@ -6,8 +6,12 @@ use borrow.Author.Rules.{rules}
 use Rattle.shop_flags.proofs.entry_at.Statement.{statement}
 use Rattle.shop_flags.proofs.entry_at.Tie as tie
 
-returns-2 : tie.Need-returns-2
-returns-2 c = sym (get_or-eq_default c.before.args.row.now 0 (omega arith))
+returns-2 : tie.Need-returns
+returns-2 c = sym (get_or-eq_default c.args.row.now 0 (omega arith))
 
-pub entry-at-spec : {M : Type 1} → statement M
-entry-at-spec = tie.close (tie.spec (λ c. search rules) (λ c. search rules) (λ c. search rules) returns-2)
+pub entry_at_spec : {M : Type 1} → statement M
+entry_at_spec = tie.close (tie.spec
+    (λ c. search rules)
+    (λ c. search rules)
+    (λ c. search rules)
+    returns-2)

@@ -24,20 +24,20 @@ inside-subject (missingFlag f) = refl
 inside-by : (c : ℕ) (q x : Requirement) → q ≡ subject (requirement_of c) → q ≡ x → req_inside x ≡ req_inside (requirement_of c)
 inside-by c q x e f = sym (inside-subject (requirement_of c) ∙ ap req_inside (sym e ∙ f))
 
-returns : tie.Need-returns
-returns c = inside-by c.before.before.before.args.code _ _ c.before.before.subject-of.ensures (ap subject_is c.enum_told.given.1)
+returns : tie.Need-returns-in-Item
+returns c = inside-by c.args.code _ _ c.subject_of-about.ensures (ap subject_is c.in-Item.is)
 
-returns-2 : tie.Need-returns-2
-returns-2 c = inside-by c.before.before.before.args.code _ _ c.before.before.subject-of.ensures (ap subject_is c.enum-told2.given.1)
+returns-2 : tie.Need-returns-in-Atc
+returns-2 c = inside-by c.args.code _ _ c.subject_of-about.ensures (ap subject_is c.in-Atc.is)
 
-returns-3 : tie.Need-returns-3
+returns-3 : tie.Need-returns-in-Flag
 returns-3 c =
-    let code = c.before.before.before.before.before.args.code in
-    let about = ap subject_is c.before.before.about.given.1 in
-    (rw (to_z-of_z {w = w32} (record { sfits = subject_low code _ (sym about ∙ c.before.before.before.before.subject-of.ensures) })) at c.is-flag.ensures) ∙ inside-by code _ _ c.before.before.before.before.subject-of.ensures about
+    let code = c.args.code in
+    let about = ap subject_is c.in-Flag.is in
+    (rw (to_z-of_z {w = w32} (record { sfits = subject_low code _ (sym about ∙ c.subject_of-about.ensures) })) at c.is_flag.ensures) ∙ inside-by code _ _ c.subject_of-about.ensures about
 
-pub is-inside-spec : {M : Type 1} → statement M
-is-inside-spec =
+pub is_inside_spec : {M : Type 1} → statement M
+is_inside_spec =
     tie.close
     (tie.spec
     (λ c κs. search rules)

@@ -23,19 +23,19 @@ by-none o rs e = ap (λ (x : SlotItem). inside_for (item_of x) rs) (sym e)
 by-item : (o : SlotItem) (w : ItemId) (rs : List Requirement) → o ≡ Of w → all req_inside rs ≡ inside_for (item_of o) rs
 by-item o w rs e = ap (λ (x : SlotItem). inside_for (item_of x) rs) (sym e)
 
-returns : tie.Need-returns
+returns : tie.Need-returns-in-Nothing
 unfolding slot_inside slot_of slot_at
-returns c = by-none _ _ (sym c.before.before.item-at.ensures ∙ c.enum_told.given.1)
+returns c = by-none _ _ (sym c.item_at-item.ensures ∙ c.in-Nothing.is)
 
-returns-2 : tie.Need-returns-2
+returns-2 : tie.Need-returns-in-Of
 unfolding slot_inside slot_of slot_at
 returns-2 c =
-    let s = c.before.before.before.before.before.before.before.before in
+    let s = c.before.before.before.before.before.before.before in
     let w : entry_limit * s.args.i + entry_limit - entry_limit * s.args.i ≡ entry_limit = omega arith in
-    (rw w at c.all-inside.ensures) ∙ by-item _ _ _ (sym c.before.before.before.before.before.before.item-at.ensures ∙ c.before.before.before.before.enum-told2.given.1)
+    (rw w at c.all_inside.ensures) ∙ by-item _ _ _ (sym c.item_at-item.ensures ∙ c.in-Of.is)
 
-pub slot-inside-spec : {M : Type 1} → statement M
-slot-inside-spec =
+pub slot_inside_spec : {M : Type 1} → statement M
+slot_inside_spec =
     tie.close
     (tie.spec
     (λ c κs. search rules)

@@ -8,23 +8,23 @@ use borrow.Author.Rules.{rules}
 use Rattle.shop_with_slots.proofs.put_lens.Statement.{statement}
 use Rattle.shop_with_slots.proofs.put_lens.Tie as tie
 
-abbrev invariant-loop : tie.invariant-loop
+abbrev invariant-loop : tie.invariant-loop-i
 invariant-loop from n to₀ m i₀ to i = Put 0 slot_count from to i × (i ≤ m)
 
-abbrev decreases-loop : tie.decreases-loop
+abbrev decreases-loop : tie.decreases-loop-i
 decreases-loop from n to₀ m i₀ to i = m - i
 
-loop-holds : tie.Need-loop-init invariant-loop decreases-loop
+loop-holds : tie.Need-loop-i-init invariant-loop decreases-loop
 loop-holds c = (none_put 0 slot_count _, omega arith)
 
-loop-again : tie.Need-loop-preserved invariant-loop decreases-loop
-loop-again c = (one_put c.before.before.loop.invariant.0 0 _ (omega arith) (omega arith) refl, omega arith)
+loop-again : tie.Need-loop-i-preserved invariant-loop decreases-loop
+loop-again c = (one_put c.loop-i.invariant.0 0 _ (omega arith) (omega arith) refl, omega arith)
 
 returns : tie.Need-returns invariant-loop decreases-loop
-returns c = all_put c.before.loop.invariant.0 c.before.before.before.before.before.args.n (omega arith)
+returns c = all_put c.loop-i.invariant.0 c.args.n (omega arith)
 
-pub put-lens-spec : {M : Type 1} → statement M
-put-lens-spec =
+pub put_lens_spec : {M : Type 1} → statement M
+put_lens_spec =
     tie.close
     (tie.spec
     invariant-loop

@@ -6,7 +6,7 @@ use Rattle.shop_with_slots.proofs.with_slots.Tie as tie
 
 returns : tie.Need-returns
 returns c =
-    twenty_is _ _ _ _ _ _ _ _ _ c.before.before.before.before.before.before.before.before.least.ensures c.before.before.before.before.before.before.put-items.ensures c.before.before.before.before.put-limits.ensures c.before.before.put-codes.ensures c.put-lens.ensures
+    twenty_is _ _ _ _ _ _ _ _ _ c.least-n.ensures c.put_items.ensures c.put_limits.ensures c.put_codes.ensures c.put_lens.ensures
 
 pub with_slots_spec : {M : Type 1} → statement M
 with_slots_spec =

@@ -4,7 +4,7 @@ use mathlib.Core.Bool.{Bool}
 use Rattle.model.specs.Sheet as Model
 use Rattle.model.specs.Sheet.{all, sheet_ok}
 use Rattle.model.specs.Shop.{slot_ok}
-use Rattle.model.specs.Laws.Checks.{is_true, is_false}
+use Rattle.model.proofs.Laws.Checks.{answered}
 use Rattle.shop.specs.Shapes.{sheet_of, slots_of}
 use Rattle.shop_arrays.specs.Arrays.{Arrays, arrays_in, shop_from}
 use Rattle.signed_check.specs.Shops.{refused_sheet, refused_shop}
@@ -23,21 +23,21 @@ shop s = arrays_in s.args.items.now s.args.limits.now s.args.codes.now s.args.le
 abbrev shopOk : tie.Start → Bool
 shopOk s = all (slot_ok (sheet s)) (slots_of (shop_from (shop s)))
 
-returns : tie.Need-returns
-returns c = let s = c.before.before.before.before in c.refused.ensures ∙ refused_sheet (sheet s) (shop s) (is_false (sheet_ok (sheet s)) c.before.before.check-sheet.ensures c.before.if1.true)
+returns : tie.Need-returns-then-not-check_sheet
+returns c = let s = c.before.before.before.before in c.refused.ensures ∙ refused_sheet (sheet s) (shop s) (answered (sheet_ok (sheet s)) c.check_sheet.ensures c.if-not-check_sheet.true)
 
-returns-2 : tie.Need-returns-2
+returns-2 : tie.Need-returns-then-not-check_arrays
 returns-2 c =
     let s = c.before.before.before.before.before.before in
-    c.refused2.ensures ∙ refused_shop (sheet s) (shop s) (is_true (sheet_ok (sheet s)) c.before.before.before.before.check-sheet.ensures c.before.before.before.if1.false) (is_false (shopOk s) (c.before.before.check-arrays.ensures s.args.limits.now) c.before.if2.true)
+    c.refused-then-not-check_arrays.ensures ∙ refused_shop (sheet s) (shop s) (answered (sheet_ok (sheet s)) c.check_sheet.ensures c.if-not-check_sheet.false) (answered (shopOk s) (c.check_arrays.ensures s.args.limits.now) c.if-not-check_arrays.true)
 
-told-all-requires : tie.Need-told-all-requires
+told-all-requires : tie.Need-told_all-requires
 told-all-requires c κs =
     let s = c.before.before.before.before.before in
-    (is_true (sheet_ok (sheet s)) c.before.before.before.check-sheet.ensures c.before.before.if1.false, is_true (shopOk s) (c.before.check-arrays.ensures s.args.limits.now) c.if2.false)
+    (answered (sheet_ok (sheet s)) c.check_sheet.ensures c.if-not-check_sheet.false, answered (shopOk s) (c.check_arrays.ensures s.args.limits.now) c.if-not-check_arrays.false)
 
-pub check-shop-spec : {M : Type 1} → statement M
-check-shop-spec =
+pub check_shop_spec : {M : Type 1} → statement M
+check_shop_spec =
     tie.close
     (tie.spec
     (λ c κs. search rules)

@@ -9,19 +9,25 @@ use borrow.Author.Rules.{rules}
 use Rattle.signed_check.proofs.concerns.Statement.{statement}
 use Rattle.signed_check.proofs.concerns.Tie as tie
 
-returns : tie.Need-returns
-returns c = let s = c.before.before in c.is-outside.ensures ∙ concerns_outside s.args.own (take s.args.n s.args.row.now) s.args.c s.args.verdict c.before.if1.true
+returns : tie.Need-returns-then-verdict-eq-OUTSIDE
+returns c = let s = c.before.before in c.is_outside.ensures ∙ concerns_outside s.args.own (take s.args.n s.args.row.now) s.args.c s.args.verdict c.if-verdict-eq-OUTSIDE.true
 
-returns-2 : tie.Need-returns-2
+returns-2 : tie.Need-returns-then-verdict-eq-PAIR
 returns-2 c =
     let s = c.before.before.before.before in
     let cs = take s.args.n s.args.row.now in
-    ap not (c.lacks.ensures ∙ ap (λ (x : ℕ). lacks_code x cs) c.before.negated.ensures) ∙ concerns_pair s.args.own cs s.args.c s.args.verdict c.before.before.before.if1.false c.before.before.if2.true
+    ap not (c.lacks.ensures ∙ ap (λ (x : ℕ). lacks_code x cs) c.negated.ensures) ∙ concerns_pair s.args.own cs s.args.c s.args.verdict c.if-verdict-eq-OUTSIDE.false c.if-verdict-eq-PAIR.true
 
-returns-3 : tie.Need-returns-3
-returns-3 c = let s = c.before.before in concerns_own s.args.own (take s.args.n s.args.row.now) s.args.c s.args.verdict c.before.if1.false c.if2.false
+returns-3 : tie.Need-returns
+returns-3 c = let s = c.before.before in concerns_own s.args.own (take s.args.n s.args.row.now) s.args.c s.args.verdict c.if-verdict-eq-OUTSIDE.false c.if-verdict-eq-PAIR.false
 
-pub concerns-spec : {M : Type 1} → statement M
-concerns-spec =
+pub concerns_spec : {M : Type 1} → statement M
+concerns_spec =
     tie.close
-    (tie.spec (λ c κs. search rules) returns (λ c κs. search rules) (λ c κs. search rules) returns-2 returns-3)
+    (tie.spec
+    (λ c κs. search rules)
+    returns
+    (λ c κs. search rules)
+    (λ c κs. search rules)
+    returns-2
+    returns-3)

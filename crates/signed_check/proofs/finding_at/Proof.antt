@@ -23,32 +23,32 @@ sheet s = sheet_of s.args.attached.now s.args.sheet
 abbrev slot : tie.Start → Slot
 slot s = slot_at (arrays_in s.args.items.now s.args.limits.now s.args.codes.now s.args.lens.now) s.args.i
 
-sort-row-requires : tie.Need-sort-row-requires
+sort-row-requires : tie.Need-sort_row-n-requires
 unfolding slot_at
 sort-row-requires c κs =
     let s = c.before.before.before in
     (s.requires.0, slot_few (sheet s) s.requires.1 (slot s) s.requires.2, refl)
 
-without-item-requires : tie.Need-without-item-requires
+without-item-requires : tie.Need-without_item-requires
 without-item-requires c κs =
-    let s = c.before.before.before.before.before.before in
-    let e = c.before.before.sort-row.ensures s.args.items.now s.args.limits.now (slot_exact (sheet s) s.requires.1 (slot s) s.requires.2) in
-    (c.enum_told.given.1, set_long (slot s) _ _ e ∙ ap (λ (x : Slot). length (sorted (slot_of x).requirements)) {x = slot s} (sym {b = slot s} c.before.before.before.before.slot-at.ensures))
+    let s = c.before.before.before.before.before in
+    let e = c.sort_row-n.ensures s.args.items.now s.args.limits.now (slot_exact (sheet s) s.requires.1 (slot s) s.requires.2) in
+    (c.in-Nothing.is, set_long (slot s) _ _ e ∙ ap (λ (x : Slot). length (sorted (slot_of x).requirements)) {x = slot s} (sym {b = slot s} c.slot_at-slot.ensures))
 
-with-item-requires : tie.Need-with-item-requires
+with-item-requires : tie.Need-with_item-requires
 with-item-requires c κs =
-    let s = c.before.before.before.before.before.before.before.before in
-    let e = c.before.before.before.before.sort-row.ensures s.args.items.now s.args.limits.now (slot_exact (sheet s) s.requires.1 (slot s) s.requires.2) in
-    (s.requires.1, ap (λ (x : Slot). slot_ok (sheet s) (slot_of x)) {y = slot s} c.before.before.before.before.before.before.slot-at.ensures ∙ s.requires.2, c.before.before.item.given.1, e ∙ ap sorted_reqs {x = slot s} (sym {b = slot s} c.before.before.before.before.before.before.slot-at.ensures))
+    let s = c.before.before.before.before.before.before in
+    let e = c.sort_row-n.ensures s.args.items.now s.args.limits.now (slot_exact (sheet s) s.requires.1 (slot s) s.requires.2) in
+    (s.requires.1, ap (λ (x : Slot). slot_ok (sheet s) (slot_of x)) {y = slot s} c.slot_at-slot.ensures ∙ s.requires.2, c.in-Of.is, e ∙ ap sorted_reqs {x = slot s} (sym {b = slot s} c.slot_at-slot.ensures))
 
-returns : tie.Need-returns
-returns c = let s = c.before.before.before.before.before.before.before in c.without-item.ensures (sheet s) ∙ ap (λ (x : Slot). finding_of (finding (sheet s) (slot_of x))) {y = slot s} c.before.before.before.before.before.slot-at.ensures
+returns : tie.Need-returns-in-Nothing
+returns c = let s = c.before.before.before.before.before.before in c.without_item.ensures (sheet s) ∙ ap (λ (x : Slot). finding_of (finding (sheet s) (slot_of x))) {y = slot s} c.slot_at-slot.ensures
 
-returns-2 : tie.Need-returns-2
-returns-2 c = let s = c.before.before.before.before.before.before.before.before.before in c.with_item.ensures ∙ ap (λ (x : Slot). finding_of (finding (sheet s) (slot_of x))) {y = slot s} c.before.before.before.before.before.before.before.slot-at.ensures
+returns-2 : tie.Need-returns-in-Of
+returns-2 c = let s = c.before.before.before.before.before.before.before in c.with_item.ensures ∙ ap (λ (x : Slot). finding_of (finding (sheet s) (slot_of x))) {y = slot s} c.slot_at-slot.ensures
 
-pub finding-at-spec : {M : Type 1} → statement M
-finding-at-spec =
+pub finding_at_spec : {M : Type 1} → statement M
+finding_at_spec =
     tie.close
     (tie.spec
     (λ c κs. search rules)

@@ -10,37 +10,37 @@ use borrow.Author.Rules.{rules}
 use Rattle.signed_check.proofs.haves_left.Statement.{statement}
 use Rattle.signed_check.proofs.haves_left.Tie as tie
 
-abbrev invariant-loop : tie.invariant-loop
+abbrev invariant-loop : tie.invariant-loop-i
 invariant-loop row n one own out₀ m₀ i₀ out m i = Picked (left_code one own (take n row)) (take n row) out m i
 
-abbrev decreases-loop : tie.decreases-loop
+abbrev decreases-loop : tie.decreases-loop-i
 decreases-loop row n one own out₀ m₀ i₀ out m i = n - i
 
 -- how many codes there are
-size : (c : tie.After-capacity invariant-loop decreases-loop) → length (take c.before.args.n c.before.args.row.now) ≡ c.before.args.n
-size c = length-take-le c.before.args.n c.before.args.row.now (omega (arith, c.capacity.ensures.0, c.before.requires.0))
+size : (c : tie.After-capacity invariant-loop decreases-loop) → length (take c.args.n c.args.row.now) ≡ c.args.n
+size c = length-take-le c.args.n c.args.row.now (omega (arith, c.capacity.ensures.0, c.requires.0))
 
-loop-holds : tie.Need-loop-init invariant-loop decreases-loop
+loop-holds : tie.Need-loop-i-init invariant-loop decreases-loop
 loop-holds c = let s = c.before in picked_none (left_code s.args.one s.args.own (take s.args.n s.args.row.now)) (take s.args.n s.args.row.now) _ s.requires.1
 
-add-left-requires : tie.Need-add-left-requires invariant-loop decreases-loop
-add-left-requires c κs = let s = c.before.before.before.before.before in (s.requires.0, omega (arith, s.requires.0, c.before.before.before.loop.invariant.few, c.before.before.loop-test.true))
+add-left-requires : tie.Need-add_left-m-requires invariant-loop decreases-loop
+add-left-requires c κs = let s = c.before.before.before.before.before in (s.requires.0, omega (arith, s.requires.0, c.loop-i.invariant.few, c.loop-i-test.true))
 
-loop-again : tie.Need-loop-preserved invariant-loop decreases-loop
+loop-again : tie.Need-loop-i-preserved invariant-loop decreases-loop
 loop-again c =
     let s = c.before.before.before.before.before.before in
-    let l = c.before.before.before.before.loop in
-    let e = get_or-take s.args.n s.args.row.now l.i 0 c.before.before.before.loop-test.true in
-    picked_more (left_code s.args.one s.args.own (take s.args.n s.args.row.now)) (take s.args.n s.args.row.now) l.out l.m l.i l.invariant (omega (arith, size c.before.before.before.before.before, c.before.before.before.loop-test.true)) (omega (arith, size c.before.before.before.before.before, s.requires.0)) _ _ (rw e c.add_left.ensures.0) (rw e c.add_left.ensures.1)
+    let l = c.loop-i in
+    let e = get_or-take s.args.n s.args.row.now l.i 0 c.loop-i-test.true in
+    picked_more (left_code s.args.one s.args.own (take s.args.n s.args.row.now)) (take s.args.n s.args.row.now) l.out l.m l.i l.invariant (omega (arith, size c.before.before.before.before.before.before, c.loop-i-test.true)) (omega (arith, size c.before.before.before.before.before.before, s.requires.0)) _ _ (rw e c.add_left-m.ensures.0) (rw e c.add_left-m.ensures.1)
 
-cast-result : tie.Need-overflow-cast-result invariant-loop decreases-loop
-cast-result c = let s = c.before.before.before in omega (arith, s.requires.0, c.before.loop.invariant.few, c.before.loop.invariant.low, size c.before.before)
+cast-result : tie.Need-overflow_cast-result invariant-loop decreases-loop
+cast-result c = let s = c.before.before.before in omega (arith, s.requires.0, c.loop-i.invariant.few, c.loop-i.invariant.low, size c.before.before)
 
 returns : tie.Need-returns invariant-loop decreases-loop
-returns c = let s = c.before.before.before in picked_all (left_code s.args.one s.args.own (take s.args.n s.args.row.now)) (take s.args.n s.args.row.now) c.before.loop.out c.before.loop.m c.before.loop.i c.before.loop.invariant (omega (arith, size c.before.before, c.loop-test.false))
+returns c = let s = c.before.before.before in picked_all (left_code s.args.one s.args.own (take s.args.n s.args.row.now)) (take s.args.n s.args.row.now) c.loop-i.out c.loop-i.m c.loop-i.i c.loop-i.invariant (omega (arith, size c.before.before, c.loop-i-test.false))
 
-pub haves-left-spec : {M : Type 1} → statement M
-haves-left-spec =
+pub haves_left_spec : {M : Type 1} → statement M
+haves_left_spec =
     tie.close
     (tie.spec
     invariant-loop

@@ -10,11 +10,15 @@ use borrow.Author.Rules.{rules}
 use Rattle.signed_check.proofs.is_outside.Statement.{statement}
 use Rattle.signed_check.proofs.is_outside.Tie as tie
 
-returns : tie.Need-returns
-returns c = code_low c.before.args.code c.if1.true
+returns : tie.Need-returns-then-code-lt-HAVE_FLAG
+returns c = code_low c.args.code c.if-code-lt-HAVE_FLAG.true
 
-returns-2 : tie.Need-returns-2
-returns-2 c = ap not ((rw (to_z-of_z {w = w32} {z = c.before.number_of_lem.result} (record { sfits = c.before.number_of_lem.type-inv })) at c.is-flag.ensures) ∙ ap flag_inside c.before.number_of_lem.ensures) ∙ code_high c.before.before.before.args.code (omega (arith, c.before.before.if1.false))
+returns-2 : tie.Need-returns
+returns-2 c = ap not ((rw (to_z-of_z {w = w32} {z = c.number_of.result} (record { sfits = c.number_of.type_inv })) at c.is_flag.ensures) ∙ ap flag_inside c.number_of.ensures) ∙ code_high c.args.code (omega (arith, c.if-code-lt-HAVE_FLAG.false))
 
-pub is-outside-spec : {M : Type 1} → statement M
-is-outside-spec = tie.close (tie.spec returns (λ c κs. search rules) (λ c κs. search rules) returns-2)
+pub is_outside_spec : {M : Type 1} → statement M
+is_outside_spec = tie.close (tie.spec
+    returns
+    (λ c κs. search rules)
+    (λ c κs. search rules)
+    returns-2)

@@ -13,25 +13,29 @@ use Rattle.signed_check.proofs.settings_for.Tie as tie
 abbrev left : tie.Start → List ℕ
 left s = pick (left_code s.args.one s.args.own (take s.args.n s.args.row.now)) (take s.args.n s.args.row.now)
 
-returns : tie.Need-returns
+returns : tie.Need-returns-then-verdict-eq-FAITHFUL
 unfolding reqs_of
 returns c =
     let s = c.before in
-    let e : [] ≡ shown_code s.args.verdict (left s) = rw (eq-eqb s.args.verdict 0 c.if1.true) in
+    let e : [] ≡ shown_code s.args.verdict (left s) = rw (eq-eqb s.args.verdict 0 c.if-verdict-eq-FAITHFUL.true) in
     ap (λ (l : List ℕ). reqs_in l 0) s.requires.1 ∙ ap reqs_of e
 
-returns-2 : tie.Need-returns-2
+returns-2 : tie.Need-returns-then-verdict-eq-OUTSIDE
 unfolding reqs_of
 returns-2 c =
     let s = c.before.before in
-    let e : [] ≡ shown_code s.args.verdict (left s) = rw (ne_eqb s.args.verdict 0 c.before.if1.false, eq-eqb s.args.verdict 3 c.if2.true) in
+    let e : [] ≡ shown_code s.args.verdict (left s) = rw (ne_eqb s.args.verdict 0 c.if-verdict-eq-FAITHFUL.false, eq-eqb s.args.verdict 3 c.if-verdict-eq-OUTSIDE.true) in
     ap (λ (l : List ℕ). reqs_in l 0) s.requires.1 ∙ ap reqs_of e
 
-returns-3 : tie.Need-returns-3
+returns-3 : tie.Need-returns
 returns-3 c =
     let s = c.before.before.before.before in
-    let e : left s ≡ shown_code s.args.verdict (left s) = rw (ne_eqb s.args.verdict 0 c.before.before.before.if1.false, ne_eqb s.args.verdict 3 c.before.before.if2.false) in
-    ◌∙◌ {b = reqs_of (left s)} c.haves-left.ensures (ap reqs_of e)
+    let e : left s ≡ shown_code s.args.verdict (left s) = rw (ne_eqb s.args.verdict 0 c.if-verdict-eq-FAITHFUL.false, ne_eqb s.args.verdict 3 c.if-verdict-eq-OUTSIDE.false) in
+    ◌∙◌ {b = reqs_of (left s)} c.haves_left.ensures (ap reqs_of e)
 
-pub settings-for-spec : {M : Type 1} → statement M
-settings-for-spec = tie.close (tie.spec returns returns-2 (λ c κs. search rules) returns-3)
+pub settings_for_spec : {M : Type 1} → statement M
+settings_for_spec = tie.close (tie.spec
+    returns
+    returns-2
+    (λ c κs. search rules)
+    returns-3)

@@ -11,10 +11,10 @@ use borrow.Author.Rules.{rules}
 use Rattle.signed_check.proofs.told_all.Statement.{statement}
 use Rattle.signed_check.proofs.told_all.Tie as tie
 
-abbrev invariant-loop : tie.invariant-loop
+abbrev invariant-loop : tie.invariant-loop-i
 invariant-loop attached sheet items limits codes lens out₀ i₀ out i = Filled (told_at (sheet_of attached sheet) (arrays_in items limits codes lens)) out i
 
-abbrev decreases-loop : tie.decreases-loop
+abbrev decreases-loop : tie.decreases-loop-i
 decreases-loop attached sheet items limits codes lens out₀ i₀ out i = slot_count - i
 
 abbrev sheet : tie.Start invariant-loop decreases-loop → Model.Sheet
@@ -23,23 +23,23 @@ sheet s = sheet_of s.args.attached.now s.args.sheet
 abbrev shop : tie.Start invariant-loop decreases-loop → Arrays
 shop s = arrays_in s.args.items.now s.args.limits.now s.args.codes.now s.args.lens.now
 
-loop-holds : tie.Need-loop-init invariant-loop decreases-loop
-loop-holds c = filled_none _ _ c.refused.ensures
+loop-holds : tie.Need-loop-i-init invariant-loop decreases-loop
+loop-holds c = filled_none _ _ c.refused-out.ensures
 
-finding-at-requires : tie.Need-finding-at-requires invariant-loop decreases-loop
-finding-at-requires c κs = let s = c.before.before.before.before in (c.loop-test.true, s.requires.0, slot_passed (sheet s) (shop s) s.requires.1 c.before.loop.i c.loop-test.true)
+finding-at-requires : tie.Need-finding_at-f-requires invariant-loop decreases-loop
+finding-at-requires c κs = let s = c.before.before.before.before in (c.loop-i-test.true, s.requires.0, slot_passed (sheet s) (shop s) s.requires.1 c.loop-i.i c.loop-i-test.true)
 
-loop-again : tie.Need-loop-preserved invariant-loop decreases-loop
-loop-again c = let s = c.before.before.before.before.before in filled_more (told_at (sheet s) (shop s)) c.before.before.loop.out c.before.before.loop.i c.before.before.loop.invariant c.before.loop-test.true _ c.finding-at.ensures
+loop-again : tie.Need-loop-i-preserved invariant-loop decreases-loop
+loop-again c = let s = c.before.before.before.before.before in filled_more (told_at (sheet s) (shop s)) c.loop-i.out c.loop-i.i c.loop-i.invariant c.loop-i-test.true _ c.finding_at-f.ensures
 
 returns : tie.Need-returns invariant-loop decreases-loop
 returns c =
     let s = c.before.before.before.before in
-    let i : c.before.loop.i ≡ slot_count = omega (arith, c.before.loop.invariant.low, c.loop-test.false) in
-    told_shop (sheet s) (shop s) s.requires.0 s.requires.1 c.before.loop.out (rw i at c.before.loop.invariant)
+    let i : c.loop-i.i ≡ slot_count = omega (arith, c.loop-i.invariant.low, c.loop-i-test.false) in
+    told_shop (sheet s) (shop s) s.requires.0 s.requires.1 c.loop-i.out (rw i at c.loop-i.invariant)
 
-pub told-all-spec : {M : Type 1} → statement M
-told-all-spec =
+pub told_all_spec : {M : Type 1} → statement M
+told_all_spec =
     tie.close
     (tie.spec
     invariant-loop

@@ -10,30 +10,30 @@ use Rattle.signed_check.proofs.verdict_of.Statement.{statement}
 use Rattle.signed_check.proofs.verdict_of.Tie as tie
 
 -- how many codes there are
-size : (c : tie.After-capacity) → length (take c.before.args.n c.before.args.row.now) ≡ c.before.args.n
-size c = length-take-le c.before.args.n c.before.args.row.now (omega (arith, c.capacity.ensures.0, c.before.requires))
+size : (c : tie.After-capacity) → length (take c.args.n c.args.row.now) ≡ c.args.n
+size c = length-take-le c.args.n c.args.row.now (omega (arith, c.capacity.ensures.0, c.requires))
 
-returns : tie.Need-returns
-returns c = let s = c.before.before.before in ap verdict_of (verdict_outside s.args.one s.args.own (take s.args.n s.args.row.now) s.args.n (size c.before.before) _ c.before.first-place.ensures c.if1.true)
+returns : tie.Need-returns-then-outside-n
+returns c = let s = c.before.before.before in ap verdict_of (verdict_outside s.args.one s.args.own (take s.args.n s.args.row.now) s.args.n (size c.before.before) _ c.first_place-outside.ensures c.if-outside-n.true)
 
-returns-2 : tie.Need-returns-2
-returns-2 c = let s = c.before.before.before.before.before in ap verdict_of (verdict_pair s.args.one s.args.own (take s.args.n s.args.row.now) s.args.n (size c.before.before.before.before) _ c.before.before.before.first-place.ensures c.before.before.if1.false _ c.before.first-place2.ensures c.if2.true)
+returns-2 : tie.Need-returns-then-pair-n
+returns-2 c = let s = c.before.before.before.before.before in ap verdict_of (verdict_pair s.args.one s.args.own (take s.args.n s.args.row.now) s.args.n (size c.before.before.before.before) _ c.first_place-outside.ensures c.if-outside-n.false _ c.first_place-pair.ensures c.if-pair-n.true)
 
-returns-3 : tie.Need-returns-3
+returns-3 : tie.Need-returns-then-at-n
 returns-3 c =
     let s = c.before.before.before.before.before.before.before.before in
-    ap verdict_of (verdict_own s.args.one s.args.own (take s.args.n s.args.row.now) s.args.n (size c.before.before.before.before.before.before.before) _ c.before.before.before.before.before.before.first-place.ensures c.before.before.before.before.before.if1.false _ c.before.before.before.before.first-place2.ensures c.before.before.before.if2.false c.before.before.if3.true _ c.before.first-place3.ensures c.if4.true)
+    ap verdict_of (verdict_own s.args.one s.args.own (take s.args.n s.args.row.now) s.args.n (size c.before.before.before.before.before.before.before) _ c.first_place-outside.ensures c.if-outside-n.false _ c.first_place-pair.ensures c.if-pair-n.false c.if-one.true _ c.first_place-at.ensures c.if-at-n.true)
 
-returns-4 : tie.Need-returns-4
+returns-4 : tie.Need-returns-else-at-n
 returns-4 c =
     let s = c.before.before.before.before.before.before.before.before in
-    ap verdict_of (verdict_own_none s.args.one s.args.own (take s.args.n s.args.row.now) s.args.n (size c.before.before.before.before.before.before.before) _ c.before.before.before.before.before.before.first-place.ensures c.before.before.before.before.before.if1.false _ c.before.before.before.before.first-place2.ensures c.before.before.before.if2.false c.before.before.if3.true _ c.before.first-place3.ensures c.if4.false)
+    ap verdict_of (verdict_own_none s.args.one s.args.own (take s.args.n s.args.row.now) s.args.n (size c.before.before.before.before.before.before.before) _ c.first_place-outside.ensures c.if-outside-n.false _ c.first_place-pair.ensures c.if-pair-n.false c.if-one.true _ c.first_place-at.ensures c.if-at-n.false)
 
-returns-5 : tie.Need-returns-5
-returns-5 c = let s = c.before.before.before.before.before.before in ap verdict_of (verdict_any s.args.one s.args.own (take s.args.n s.args.row.now) s.args.n (size c.before.before.before.before.before) _ c.before.before.before.before.first-place.ensures c.before.before.before.if1.false _ c.before.before.first-place2.ensures c.before.if2.false c.if3.false)
+returns-5 : tie.Need-returns-else-one
+returns-5 c = let s = c.before.before.before.before.before.before in ap verdict_of (verdict_any s.args.one s.args.own (take s.args.n s.args.row.now) s.args.n (size c.before.before.before.before.before) _ c.first_place-outside.ensures c.if-outside-n.false _ c.first_place-pair.ensures c.if-pair-n.false c.if-one.false)
 
-pub verdict-of-spec : {M : Type 1} → statement M
-verdict-of-spec =
+pub verdict_of_spec : {M : Type 1} → statement M
+verdict_of_spec =
     tie.close
     (tie.spec
     (λ c κs. search rules)

@@ -4,11 +4,13 @@ use Rattle.signed_check.specs.Slots.{none_told, sorted_few}
 use Rattle.signed_check.proofs.without_item.Statement.{statement}
 use Rattle.signed_check.proofs.without_item.Tie as tie
 
-sub-t3 : tie.Need-overflow-sub-t3
+sub-t3 : tie.Need-overflow_sub-result
 sub-t3 c = let s = c.before in omega (arith, sorted_few s.args.slot s.args.n s.requires.1)
 
 returns : tie.Need-returns
 returns c = let s = c.before in none_told s.args.slot s.args.n s.requires.0 s.requires.1
 
-pub without-item-spec : {M : Type 1} → statement M
-without-item-spec = tie.close (tie.spec sub-t3 returns)
+pub without_item_spec : {M : Type 1} → statement M
+without_item_spec = tie.close (tie.spec
+    sub-t3
+    returns)

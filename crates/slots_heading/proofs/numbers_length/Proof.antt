@@ -5,8 +5,21 @@ use borrow.Author.Rules.{rules}
 use Rattle.slots_heading.proofs.numbers_length.Statement.{statement}
 use Rattle.slots_heading.proofs.numbers_length.Tie as tie
 
-add-result-2 : tie.Need-overflow-add-result-2
-add-result-2 c = record { fits = omega (arith, c.word-length.ensures, word_short c.before.before.before.before.before.before.args.setup, c.before.short-length5.ensures.short, c.before.before.short-length4.ensures.short, c.before.before.before.short-length3.ensures.short, c.before.before.before.before.short-length2.ensures.short, c.before.before.before.before.before.short-length.ensures.short, c.before.before.before.before.before.short-length.ensures.low) }
+add-result-2 : tie.Need-overflow_add-result-2
+add-result-2 c = record { fits = omega (arith, c.word_length.ensures, word_short c.args.setup, c.short_length-5.ensures.short, c.short_length-4.ensures.short, c.short_length-3.ensures.short, c.short_length-2.ensures.short, c.short_length.ensures.short, c.short_length.ensures.low) }
 
-pub numbers-length-spec : {M : Type 1} → statement M
-numbers-length-spec = tie.close (tie.spec (λ c κs. search rules) (λ c κs. search rules) (λ c. search rules) (λ c. search rules) (λ c κs. search rules) (λ c κs. search rules) (λ c. search rules) (λ c κs. search rules) (λ c. search rules) (λ c. search rules) (λ c κs. search rules) add-result-2 (λ c. search rules))
+pub numbers_length_spec : {M : Type 1} → statement M
+numbers_length_spec = tie.close (tie.spec
+    (λ c κs. search rules)
+    (λ c κs. search rules)
+    (λ c. search rules)
+    (λ c. search rules)
+    (λ c κs. search rules)
+    (λ c κs. search rules)
+    (λ c. search rules)
+    (λ c κs. search rules)
+    (λ c. search rules)
+    (λ c. search rules)
+    (λ c κs. search rules)
+    add-result-2
+    (λ c. search rules))

@@ -8,23 +8,31 @@ use borrow.Author.Rules.{rules}
 use Rattle.slots_heading.proofs.write_heading.Statement.{statement}
 use Rattle.slots_heading.proofs.write_heading.Tie as tie
 
-returns : tie.Need-returns
-returns c = call_no c.before.before.before.before.args.attached.now c.before.before.before.before.args.sheet c.before.before.before.before.args.setup c.before.before.before.before.args.out.now (sym c.before.check-sheet.ensures ∙ not-true _ c.if1.true)
+returns : tie.Need-returns-then-not-check_sheet
+returns c = call_no c.args.attached.now c.args.sheet c.args.setup c.args.out.now (sym c.check_sheet.ensures ∙ c.if-not-check_sheet.true)
 
-cast-n : tie.Need-overflow-cast-n
-cast-n c = record { fits = omega (arith, items_few c.before.before.before.before.args.attached.now c.before.before.before.before.args.sheet c.before.before.before.before.args.setup (sym c.before.check-sheet.ensures ∙ not-false _ c.if1.false)) }
+cast-n : tie.Need-overflow_cast-n
+cast-n c = record { fits = omega (arith, items_few c.args.attached.now c.args.sheet c.args.setup (sym c.check_sheet.ensures ∙ c.if-not-check_sheet.false)) }
 
-returns-2 : tie.Need-returns-2
-returns-2 c = call_short c.before.before.before.before.before.before.args.attached.now c.before.before.before.before.before.before.args.sheet c.before.before.before.before.before.before.args.setup c.before.before.before.before.before.before.args.out.now (sym c.before.before.before.check-sheet.ensures ∙ not-false _ c.before.before.if1.false) (omega (arith, c.if2.true, c.before.numbers-length.ensures))
+returns-2 : tie.Need-returns-then-out-len
+returns-2 c = call_short c.args.attached.now c.args.sheet c.args.setup c.args.out.now (sym c.check_sheet.ensures ∙ c.if-not-check_sheet.false) (omega (arith, c.if-out-len.true, c.numbers_length-len.ensures))
 
-write-numbers-requires : tie.Need-write-numbers-requires
-write-numbers-requires c κs = (refl, call_room c.before.before.before.before.before.before.before.args.attached.now c.before.before.before.before.before.before.before.args.sheet c.before.before.before.before.before.before.before.args.setup c.before.before.before.before.before.before.before.args.out.now (sym c.before.before.before.before.check-sheet.ensures ∙ not-false _ c.before.before.before.if1.false) (omega (arith, c.before.if2.false, c.before.before.numbers-length.ensures)))
+write-numbers-requires : tie.Need-write_numbers-end-requires
+write-numbers-requires c κs = (refl, call_room c.args.attached.now c.args.sheet c.args.setup c.args.out.now (sym c.check_sheet.ensures ∙ c.if-not-check_sheet.false) (omega (arith, c.if-out-len.false, c.numbers_length-len.ensures)))
 
-same_length : tie.Need-same-length
-same_length c = stored_length c.before.before.write-numbers.ensures
+same_length : tie.Need-shape_of-out
+same_length c = stored_length c.write_numbers-end.ensures
 
-returns-3 : tie.Need-returns-3
-returns-3 c = call_fine c.before.before.before.before.before.before.before.before.before.before.args.attached.now c.before.before.before.before.before.before.before.before.before.before.args.sheet c.before.before.before.before.before.before.before.before.before.before.args.setup c.before.before.before.before.before.before.before.before.before.before.args.out.now (sym c.before.before.before.before.before.before.before.check-sheet.ensures ∙ not-false _ c.before.before.before.before.before.before.if1.false) (omega (arith, c.before.before.before.before.if2.false, c.before.before.before.before.before.numbers-length.ensures)) c.before.before.write-numbers.ensures
+returns-3 : tie.Need-returns
+returns-3 c = call_fine c.args.attached.now c.args.sheet c.args.setup c.args.out.now (sym c.check_sheet.ensures ∙ c.if-not-check_sheet.false) (omega (arith, c.if-out-len.false, c.numbers_length-len.ensures)) c.write_numbers-end.ensures
 
-pub write-heading-spec : {M : Type 1} → statement M
-write-heading-spec = tie.close (tie.spec (λ c κs. search rules) returns cast-n (λ c κs. search rules) returns-2 write-numbers-requires same_length returns-3)
+pub write_heading_spec : {M : Type 1} → statement M
+write_heading_spec = tie.close (tie.spec
+    (λ c κs. search rules)
+    returns
+    cast-n
+    (λ c κs. search rules)
+    returns-2
+    write-numbers-requires
+    same_length
+    returns-3)

@@ -8,17 +8,22 @@ use borrow.Author.Rules.{rules}
 use Rattle.slots_heading.proofs.write_items.Statement.{statement}
 use Rattle.slots_heading.proofs.write_items.Tie as tie
 
-write-short-requires : tie.Need-write-short-requires
-write-short-requires c κs = room_first (word c.before.before.before.args.atcs ++ entries_bytes c.before.before.before.args.attached.now (length c.before.before.before.args.attached.now) 0) c.before.before.before.requires
+write-short-requires : tie.Need-write_short-p-requires
+write-short-requires c κs = room_first (word c.args.atcs ++ entries_bytes c.args.attached.now (length c.args.attached.now) 0) c.requires
 
-write-short-requires-2 : tie.Need-write-short-requires-2
-write-short-requires-2 c κs = room_first (entries_bytes c.before.before.before.before.before.before.before.args.attached.now (length c.before.before.before.before.before.before.before.args.attached.now) 0) (room_next c.before.before.before.write-short.ensures c.before.before.before.before.before.before.before.requires)
+write-short-requires-2 : tie.Need-write_short-q-requires
+write-short-requires-2 c κs = room_first (entries_bytes c.args.attached.now (length c.args.attached.now) 0) (room_next c.write_short-p.ensures c.requires)
 
-write-atcs-requires : tie.Need-write-atcs-requires
-write-atcs-requires c κs = room_next c.before.before.before.write-short2.ensures (room_next c.before.before.before.before.before.before.before.write-short.ensures c.before.before.before.before.before.before.before.before.before.before.before.requires)
+write-atcs-requires : tie.Need-write_atcs-requires
+write-atcs-requires c κs = room_next c.write_short-q.ensures (room_next c.write_short-p.ensures c.requires)
 
 returns : tie.Need-returns
-returns c = stored_on c.before.before.before.before.before.before.before.before.before.before.write-short.ensures (stored_on c.before.before.before.before.before.before.write-short2.ensures c.before.before.write-atcs.ensures)
+returns c = stored_on c.write_short-p.ensures (stored_on c.write_short-q.ensures c.write_atcs.ensures)
 
-pub write-items-spec : {M : Type 1} → statement M
-write-items-spec = tie.close (tie.spec write-short-requires write-short-requires-2 write-atcs-requires (λ c. search rules) returns)
+pub write_items_spec : {M : Type 1} → statement M
+write_items_spec = tie.close (tie.spec
+    write-short-requires
+    write-short-requires-2
+    write-atcs-requires
+    (λ c. search rules)
+    returns)

@@ -5,14 +5,18 @@ use borrow.Author.Rules.{rules}
 use Rattle.slots_heading.proofs.write_numbers.Statement.{statement}
 use Rattle.slots_heading.proofs.write_numbers.Tie as tie
 
-write-items-requires : tie.Need-write-items-requires
-write-items-requires c κs = room_first (timers_bytes c.before.before.before.args.sheet c.before.before.before.args.setup) (room_as (halves c.before.before.before.args.attached.now c.before.before.before.args.sheet c.before.before.before.args.setup c.before.before.before.args.n c.before.before.before.requires.0) c.before.before.before.requires.1)
+write-items-requires : tie.Need-write_items-p-requires
+write-items-requires c κs = room_first (timers_bytes c.args.sheet c.args.setup) (room_as (halves c.args.attached.now c.args.sheet c.args.setup c.args.n c.requires.0) c.requires.1)
 
-write-timers-requires : tie.Need-write-timers-requires
-write-timers-requires c κs = room_next c.before.before.before.write-items.ensures (room_as (halves c.before.before.before.before.before.before.before.args.attached.now c.before.before.before.before.before.before.before.args.sheet c.before.before.before.before.before.before.before.args.setup c.before.before.before.before.before.before.before.args.n c.before.before.before.before.before.before.before.requires.0) c.before.before.before.before.before.before.before.requires.1)
+write-timers-requires : tie.Need-write_timers-requires
+write-timers-requires c κs = room_next c.write_items-p.ensures (room_as (halves c.args.attached.now c.args.sheet c.args.setup c.args.n c.requires.0) c.requires.1)
 
 returns : tie.Need-returns
-returns c = stored_as (halves c.before.before.before.before.before.before.before.before.before.before.args.attached.now c.before.before.before.before.before.before.before.before.before.before.args.sheet c.before.before.before.before.before.before.before.before.before.before.args.setup c.before.before.before.before.before.before.before.before.before.before.args.n c.before.before.before.before.before.before.before.before.before.before.requires.0) (stored_on c.before.before.before.before.before.before.write-items.ensures c.before.before.write-timers.ensures)
+returns c = stored_as (halves c.args.attached.now c.args.sheet c.args.setup c.args.n c.requires.0) (stored_on c.write_items-p.ensures c.write_timers.ensures)
 
-pub write-numbers-spec : {M : Type 1} → statement M
-write-numbers-spec = tie.close (tie.spec write-items-requires write-timers-requires (λ c. search rules) returns)
+pub write_numbers_spec : {M : Type 1} → statement M
+write_numbers_spec = tie.close (tie.spec
+    write-items-requires
+    write-timers-requires
+    (λ c. search rules)
+    returns)

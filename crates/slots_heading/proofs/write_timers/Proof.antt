@@ -6,20 +6,26 @@ use borrow.Author.Rules.{rules}
 use Rattle.slots_heading.proofs.write_timers.Statement.{statement}
 use Rattle.slots_heading.proofs.write_timers.Tie as tie
 
-write-short-requires : tie.Need-write-short-requires
-write-short-requires c κs = room_first (word c.before.before.args.sheet.timer10.0 ++ (word c.before.before.args.sheet.timer15.0 ++ word c.before.before.args.setup)) c.before.before.requires
+write-short-requires : tie.Need-write_short-p-requires
+write-short-requires c κs = room_first (word c.args.sheet.timer10.0 ++ (word c.args.sheet.timer15.0 ++ word c.args.setup)) c.requires
 
-write-short-requires-2 : tie.Need-write-short-requires-2
-write-short-requires-2 c κs = room_first (word c.before.before.before.before.before.before.args.sheet.timer15.0 ++ word c.before.before.before.before.before.before.args.setup) (room_next c.before.before.before.write-short.ensures c.before.before.before.before.before.before.requires)
+write-short-requires-2 : tie.Need-write_short-q-requires
+write-short-requires-2 c κs = room_first (word c.args.sheet.timer15.0 ++ word c.args.setup) (room_next c.write_short-p.ensures c.requires)
 
-write-short-requires-3 : tie.Need-write-short-requires-3
-write-short-requires-3 c κs = room_first (word c.before.before.before.before.before.before.before.before.before.before.args.setup) (room_next c.before.before.before.write-short2.ensures (room_next c.before.before.before.before.before.before.before.write-short.ensures c.before.before.before.before.before.before.before.before.before.before.requires))
+write-short-requires-3 : tie.Need-write_short-s-requires
+write-short-requires-3 c κs = room_first (word c.args.setup) (room_next c.write_short-q.ensures (room_next c.write_short-p.ensures c.requires))
 
-write-wide-requires : tie.Need-write-wide-requires
-write-wide-requires c κs = room_next c.before.before.before.write-short3.ensures (room_next c.before.before.before.before.before.before.before.write-short2.ensures (room_next c.before.before.before.before.before.before.before.before.before.before.before.write-short.ensures c.before.before.before.before.before.before.before.before.before.before.before.before.before.before.requires))
+write-wide-requires : tie.Need-write_wide-requires
+write-wide-requires c κs = room_next c.write_short-s.ensures (room_next c.write_short-q.ensures (room_next c.write_short-p.ensures c.requires))
 
 returns : tie.Need-returns
-returns c = stored_on c.before.before.before.before.before.before.before.before.before.before.before.before.before.before.write-short.ensures (stored_on c.before.before.before.before.before.before.before.before.before.before.write-short2.ensures (stored_on c.before.before.before.before.before.before.write-short3.ensures c.before.before.write-wide.ensures))
+returns c = stored_on c.write_short-p.ensures (stored_on c.write_short-q.ensures (stored_on c.write_short-s.ensures c.write_wide.ensures))
 
-pub write-timers-spec : {M : Type 1} → statement M
-write-timers-spec = tie.close (tie.spec write-short-requires write-short-requires-2 write-short-requires-3 write-wide-requires (λ c. search rules) returns)
+pub write_timers_spec : {M : Type 1} → statement M
+write_timers_spec = tie.close (tie.spec
+    write-short-requires
+    write-short-requires-2
+    write-short-requires-3
+    write-wide-requires
+    (λ c. search rules)
+    returns)

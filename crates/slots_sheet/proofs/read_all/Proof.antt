@@ -1,3 +1,4 @@
+
 -- `sheet_read::read_all` meets its contract: the first refusal met answers. Assumes nothing.
 use Rattle.slots_sheet.specs.Told.{took, left}
 use Rattle.slots_sheet.specs.Steps.{accepted, rejected}
@@ -7,26 +8,26 @@ use borrow.Author.Rules.{rules}
 use Rattle.slots_sheet.proofs.read_all.Statement.{statement}
 use Rattle.slots_sheet.proofs.read_all.Tie as tie
 
-returns : tie.Need-returns
-returns c = told_no _ _ _ c.before.if1.true (head_no _ c.before.before.before.before.before.before.args.attached.now _ (rejected c.before.if1.true c.before.before.before.read-items.ensures)) _ c.no-heading.ensures _
+returns : tie.Need-returns-then-i-ne0
+returns c = told_no _ _ _ c.if-i-ne0.true (head_no _ c.args.attached.now _ (rejected c.if-i-ne0.true c.read_items-i.ensures)) _ c.no_heading.ensures _
 
-returns-2 : tie.Need-returns-2
-returns-2 c = told_no _ _ _ c.before.if2.true (timers_no _ _ _ _ (accepted c.before.before.before.before.if1.false c.before.before.before.before.before.before.read-items.ensures) _ (rejected c.before.if2.true c.before.before.before.read-timers.ensures)) _ c.no-heading2.ensures _
+returns-2 : tie.Need-returns-then-t-ne0
+returns-2 c = told_no _ _ _ c.if-t-ne0.true (timers_no _ _ _ _ (accepted c.if-i-ne0.false c.read_items-i.ensures) _ (rejected c.if-t-ne0.true c.read_timers-t.ensures)) _ c.no_heading-then-t-ne0.ensures _
 
-returns-3 : tie.Need-returns-3
+returns-3 : tie.Need-returns-then-b-ne0
 returns-3 c =
-    let u = accepted c.before.before.before.before.before.before.before.if1.false c.before.before.before.before.before.before.before.before.before.read-items.ensures in
-    let v = accepted c.before.before.before.before.if2.false c.before.before.before.before.before.before.read-timers.ensures in
-    told_no _ _ _ c.before.if3.true (setup_no _ _ _ _ u _ v _ (rejected c.before.if3.true c.before.before.before.read-setup.ensures)) _ c.no-heading3.ensures _
+    let u = accepted c.if-i-ne0.false c.read_items-i.ensures in
+    let v = accepted c.if-t-ne0.false c.read_timers-t.ensures in
+    told_no _ _ _ c.if-b-ne0.true (setup_no _ _ _ _ u _ v _ (rejected c.if-b-ne0.true c.read_setup-b.ensures)) _ c.no_heading-then-b-ne0.ensures _
 
-returns-4 : tie.Need-returns-4
+returns-4 : tie.Need-returns
 returns-4 c =
-    let u = accepted c.before.before.before.before.before.before.if1.false c.before.before.before.before.before.before.before.before.read-items.ensures in
-    let v = accepted c.before.before.before.if2.false c.before.before.before.before.before.read-timers.ensures in
-    took refl (head_got _ _ _ _ u _ v _ _ (accepted c.if3.false c.before.before.read-setup.ensures))
+    let u = accepted c.if-i-ne0.false c.read_items-i.ensures in
+    let v = accepted c.if-t-ne0.false c.read_timers-t.ensures in
+    took refl (head_got _ _ _ _ u _ v _ _ (accepted c.if-b-ne0.false c.read_setup-b.ensures))
 
-pub read-all-spec : {M : Type 1} → statement M
-read-all-spec =
+pub read_all_spec : {M : Type 1} → statement M
+read_all_spec =
     tie.close
     (tie.spec
     (λ c κs. search rules)

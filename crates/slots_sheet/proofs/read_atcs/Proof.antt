@@ -1,3 +1,4 @@
+
 -- `sheet_read::read_atcs` meets its contract. The loop's invariant: the atcs of the first i items stand in the array, and the rest of it is as it was. Assumes nothing.
 use Prim.Native.Nat.{◌≤◌, ◌-◌}
 use Rattle.slots_sheet.specs.Told.{took, left}
@@ -8,29 +9,29 @@ use borrow.Author.Rules.{rules}
 use Rattle.slots_sheet.proofs.read_atcs.Statement.{statement}
 use Rattle.slots_sheet.proofs.read_atcs.Tie as tie
 
-abbrev invariant-loop : tie.invariant-loop
+abbrev invariant-loop : tie.invariant-loop-i
 invariant-loop s at attached₀ n m p₀ i₀ attached p i = (i ≤ n) × AtcsPart s at n m attached₀ i p attached
 
-abbrev decreases-loop : tie.decreases-loop
+abbrev decreases-loop : tie.decreases-loop-i
 decreases-loop s at attached₀ n m p₀ i₀ attached p i = n - i
 
-loop-holds : tie.Need-loop-init invariant-loop decreases-loop
-loop-holds c = (omega arith, atcs_start _ _ _ _ _ c.before.before.before.requires.2 c.known-attached.ensures)
+loop-holds : tie.Need-loop-i-init invariant-loop decreases-loop
+loop-holds c = (omega arith, atcs_start _ _ _ _ _ c.requires.2 c.known_attached.ensures)
 
-returns : tie.Need-returns invariant-loop decreases-loop
-returns c = rw c.no-entry.ensures (left c.before.if1.true (atcs_no _ _ _ _ _ _ _ _ c.before.before.before.before.before.loop.invariant.1 c.before.before.before.before.loop-test.true _ (rejected c.before.if1.true c.before.before.before.read-within.ensures)))
+returns : tie.Need-returns-then-k-ne0 invariant-loop decreases-loop
+returns c = rw c.no_entry.ensures (left c.if-k-ne0.true (atcs_no _ _ _ _ _ _ _ _ c.loop-i.invariant.1 c.loop-i-test.true _ (rejected c.if-k-ne0.true c.read_within-k.ensures)))
 
-cast-attached : tie.Need-overflow-cast-attached invariant-loop decreases-loop
-cast-attached c = omega (arith, c.before.before.before.before.before.before.before.before.before.requires.1, within_most 0 c.before.before.before.before.before.before.before.before.before.args.m c.before.before.before.read-within.result.value (accepted c.before.if1.false c.before.before.before.read-within.ensures).good)
+cast-attached : tie.Need-overflow_cast-attached invariant-loop decreases-loop
+cast-attached c = omega (arith, c.requires.1, within_most 0 c.args.m c.read_within-k.result.value (accepted c.if-k-ne0.false c.read_within-k.ensures).good)
 
-loop-again : tie.Need-loop-preserved invariant-loop decreases-loop
-loop-again c = (omega (arith, c.before.before.before.before.loop-test.true), atcs_next _ _ _ _ _ _ _ _ c.before.before.before.before.before.loop.invariant.1 c.before.before.before.before.loop-test.true c.before.before.before.before.before.before.before.before.before.requires.0 _ _ (accepted c.before.if1.false c.before.before.before.read-within.ensures))
+loop-again : tie.Need-loop-i-preserved invariant-loop decreases-loop
+loop-again c = (omega (arith, c.loop-i-test.true), atcs_next _ _ _ _ _ _ _ _ c.loop-i.invariant.1 c.loop-i-test.true c.requires.0 _ _ (accepted c.if-k-ne0.false c.read_within-k.ensures))
 
-returns-2 : tie.Need-returns-2 invariant-loop decreases-loop
-returns-2 c = took refl (atcs_done _ _ _ _ _ _ _ _ c.before.loop.invariant.1 c.loop-test.false c.before.loop.invariant.0 c.before.before.before.before.before.requires.0)
+returns-2 : tie.Need-returns invariant-loop decreases-loop
+returns-2 c = took refl (atcs_done _ _ _ _ _ _ _ _ c.loop-i.invariant.1 c.loop-i-test.false c.loop-i.invariant.0 c.requires.0)
 
-pub read-atcs-spec : {M : Type 1} → statement M
-read-atcs-spec =
+pub read_atcs_spec : {M : Type 1} → statement M
+read_atcs_spec =
     tie.close
     (tie.spec
     invariant-loop

@@ -1,3 +1,4 @@
+
 -- `sheet_read::read_items` meets its contract: the first refusal met answers. Assumes nothing.
 use Rattle.model.specs.Limits.{fewest_items, most_items, most_atcs}
 use Rattle.slots_sheet.specs.Told.{took, left}
@@ -8,32 +9,32 @@ use borrow.Author.Rules.{rules}
 use Rattle.slots_sheet.proofs.read_items.Statement.{statement}
 use Rattle.slots_sheet.proofs.read_items.Tie as tie
 
-returns : tie.Need-returns
-returns c = rw c.no_items.ensures (left c.before.if1.true (items_no _ _ (rejected c.before.if1.true c.before.before.before.read-within.ensures)))
+returns : tie.Need-returns-then-n-ne0
+returns c = rw c.no_items.ensures (left c.if-n-ne0.true (items_no _ _ (rejected c.if-n-ne0.true c.read_within-n.ensures)))
 
-returns-2 : tie.Need-returns-2
-returns-2 c = rw c.no-items2.ensures (left c.before.if2.true (atcs_count_no _ _ _ (accepted c.before.before.before.before.if1.false c.before.before.before.before.before.before.read-within.ensures) _ (rejected c.before.if2.true c.before.before.before.read-within2.ensures)))
+returns-2 : tie.Need-returns-then-m-ne0
+returns-2 c = rw c.no_items-then-m-ne0.ensures (left c.if-m-ne0.true (atcs_count_no _ _ _ (accepted c.if-n-ne0.false c.read_within-n.ensures) _ (rejected c.if-m-ne0.true c.read_within-m.ensures)))
 
-read-atcs-requires : tie.Need-read-atcs-requires
+read-atcs-requires : tie.Need-read_atcs-a-requires
 read-atcs-requires c κs =
-    let x = accepted c.before.before.before.before.if1.false c.before.before.before.before.before.before.read-within.ensures in
-    let y = accepted c.before.if2.false c.before.before.before.read-within2.ensures in
-    (within_most fewest_items most_items c.before.before.before.before.before.before.read-within.result.value x.good, within_most 0 most_atcs c.before.before.before.read-within2.result.value y.good, y.place)
+    let x = accepted c.if-n-ne0.false c.read_within-n.ensures in
+    let y = accepted c.if-m-ne0.false c.read_within-m.ensures in
+    (within_most fewest_items most_items c.read_within-n.result.value x.good, within_most 0 most_atcs c.read_within-m.result.value y.good, y.place)
 
-returns-3 : tie.Need-returns-3
+returns-3 : tie.Need-returns-then-a-ne0
 returns-3 c =
-    let x = accepted c.before.before.before.before.before.before.before.before.if1.false c.before.before.before.before.before.before.before.before.before.before.read-within.ensures in
-    let y = accepted c.before.before.before.before.before.if2.false c.before.before.before.before.before.before.before.read-within2.ensures in
-    rw c.no-items3.ensures (left c.before.if3.true (atcs_refused _ _ _ x _ _ y _ c.before.before.before.read-atcs.result _ c.before.if3.true c.before.before.before.read-atcs.ensures))
+    let x = accepted c.if-n-ne0.false c.read_within-n.ensures in
+    let y = accepted c.if-m-ne0.false c.read_within-m.ensures in
+    rw c.no_items-then-a-ne0.ensures (left c.if-a-ne0.true (atcs_refused _ _ _ x _ _ y _ c.read_atcs-a.result _ c.if-a-ne0.true c.read_atcs-a.ensures))
 
-returns-4 : tie.Need-returns-4
+returns-4 : tie.Need-returns
 returns-4 c =
-    let x = accepted c.before.before.before.before.before.before.before.if1.false c.before.before.before.before.before.before.before.before.before.read-within.ensures in
-    let y = accepted c.before.before.before.before.if2.false c.before.before.before.before.before.before.read-within2.ensures in
-    took refl (items_got _ _ _ x _ _ y _ c.before.before.read-atcs.result _ c.if3.false c.before.before.read-atcs.ensures)
+    let x = accepted c.if-n-ne0.false c.read_within-n.ensures in
+    let y = accepted c.if-m-ne0.false c.read_within-m.ensures in
+    took refl (items_got _ _ _ x _ _ y _ c.read_atcs-a.result _ c.if-a-ne0.false c.read_atcs-a.ensures)
 
-pub read-items-spec : {M : Type 1} → statement M
-read-items-spec =
+pub read_items_spec : {M : Type 1} → statement M
+read_items_spec =
     tie.close
     (tie.spec
     (λ c κs. search rules)

@@ -1,26 +1,27 @@
+
 -- `sheet_read::read_timer` meets its contract, test by test. Assumes nothing.
 use Rattle.slots_sheet.specs.Steps.{entry_bad, entry_no, entry_got, timer_out, timer_first, timer_second, timer_in}
 use borrow.Author.Rules.{rules}
 use Rattle.slots_sheet.proofs.read_timer.Statement.{statement}
 use Rattle.slots_sheet.proofs.read_timer.Tie as tie
 
-returns : tie.Need-returns
-returns c = entry_no _ _ _ _ c.before.before.before.before.before.read_number.ensures _ _ c.before.before.before.k.given.1 (timer_out c.before.before.before.before.before.before.before.args.n c.before.before.before.before.before.before.before.args.a c.before.before.before.before.before.before.before.args.b _ c.before.if1.true) _ c.no-entry.ensures
+returns : tie.Need-returns-then-n-v
+returns c = entry_no _ _ _ _ c.read_number-k.ensures _ _ c.in-Got.is (timer_out c.args.n c.args.a c.args.b _ c.if-n-v.true) _ c.no_entry.ensures
 
-returns-2 : tie.Need-returns-2
-returns-2 c = entry_no _ _ _ _ c.before.before.before.before.before.before.read_number.ensures _ _ c.before.before.before.before.k.given.1 (timer_first c.before.before.before.before.before.before.before.before.args.n c.before.before.before.before.before.before.before.before.args.a c.before.before.before.before.before.before.before.before.args.b _ c.before.before.if1.false c.before.if2.true) _ c.no-entry2.ensures
+returns-2 : tie.Need-returns-then-id-a
+returns-2 c = entry_no _ _ _ _ c.read_number-k.ensures _ _ c.in-Got.is (timer_first c.args.n c.args.a c.args.b _ c.if-n-v.false c.if-id-a.true) _ c.no_entry-then-id-a.ensures
 
-returns-3 : tie.Need-returns-3
-returns-3 c = entry_no _ _ _ _ c.before.before.before.before.before.before.before.read_number.ensures _ _ c.before.before.before.before.before.k.given.1 (timer_second c.before.before.before.before.before.before.before.before.before.args.n c.before.before.before.before.before.before.before.before.before.args.a c.before.before.before.before.before.before.before.before.before.args.b _ c.before.before.before.if1.false c.before.before.if2.false c.before.if3.true) _ c.no-entry3.ensures
+returns-3 : tie.Need-returns-then-id-b
+returns-3 c = entry_no _ _ _ _ c.read_number-k.ensures _ _ c.in-Got.is (timer_second c.args.n c.args.a c.args.b _ c.if-n-v.false c.if-id-a.false c.if-id-b.true) _ c.no_entry-then-id-b.ensures
 
-returns-4 : tie.Need-returns-4
-returns-4 c = entry_got _ _ _ _ c.before.before.before.before.before.before.read_number.ensures _ _ c.before.before.before.before.k.given.1 (timer_in c.before.before.before.before.before.before.before.before.args.n c.before.before.before.before.before.before.before.before.args.a c.before.before.before.before.before.before.before.before.args.b _ c.before.before.if1.false c.before.if2.false c.if3.false)
+returns-4 : tie.Need-returns-else-id-b
+returns-4 c = entry_got _ _ _ _ c.read_number-k.ensures _ _ c.in-Got.is (timer_in c.args.n c.args.a c.args.b _ c.if-n-v.false c.if-id-a.false c.if-id-b.false)
 
-returns-5 : tie.Need-returns-5
-returns-5 c = entry_bad _ _ _ _ c.before.before.before.read_number.ensures c.before.enum_told.given.1 _ c.no-entry4.ensures
+returns-5 : tie.Need-returns-in-Bad
+returns-5 c = entry_bad _ _ _ _ c.read_number-k.ensures c.in-Bad.is _ c.no_entry-in-Bad.ensures
 
-pub read-timer-spec : {M : Type 1} → statement M
-read-timer-spec =
+pub read_timer_spec : {M : Type 1} → statement M
+read_timer_spec =
     tie.close
     (tie.spec
     (λ c κs. search rules)

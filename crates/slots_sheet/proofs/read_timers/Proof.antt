@@ -1,3 +1,4 @@
+
 -- `sheet_read::read_timers` meets its contract: the first refusal met answers. Assumes nothing.
 use mathlib.Core.Bool.{Bool}
 use Prim.Native.Nat.{ℕ}
@@ -19,41 +20,41 @@ second s five = timer s.args.n five.value s.args.n
 abbrev third : tie.Start → Entry → Entry → ℕ → Bool
 third s five ten = timer s.args.n five.value ten.value
 
-returns : tie.Need-returns
+returns : tie.Need-returns-then-five-ne0
 returns c =
     let s = c.before.before.before.before.before in
-    rw c.no-timers.ensures (left c.before.if1.true (five_no s.args.s.now s.args.at s.args.n _ (entry_refused s.args.s.now s.args.at (first s) c.before.before.before.read-timer.result c.before.if1.true c.before.before.before.read-timer.ensures)))
+    rw c.no_timers.ensures (left c.if-five-ne0.true (five_no s.args.s.now s.args.at s.args.n _ (entry_refused s.args.s.now s.args.at (first s) c.read_timer-five.result c.if-five-ne0.true c.read_timer-five.ensures)))
 
-returns-2 : tie.Need-returns-2
+returns-2 : tie.Need-returns-then-ten-ne0
 returns-2 c =
     let s = c.before.before.before.before.before.before.before.before in
-    let five = c.before.before.before.before.before.before.read-timer.result in
-    let x = entry_read s.args.s.now s.args.at (first s) five c.before.before.before.before.if1.false c.before.before.before.before.before.before.read-timer.ensures in
-    let y = entry_refused s.args.s.now five.at (second s five) c.before.before.before.read-timer2.result c.before.if2.true c.before.before.before.read-timer2.ensures in
-    rw c.no-timers2.ensures (left c.before.if2.true (ten_no s.args.s.now s.args.at s.args.n _ _ x _ y))
+    let five = c.read_timer-five.result in
+    let x = entry_read s.args.s.now s.args.at (first s) five c.if-five-ne0.false c.read_timer-five.ensures in
+    let y = entry_refused s.args.s.now five.at (second s five) c.read_timer-ten.result c.if-ten-ne0.true c.read_timer-ten.ensures in
+    rw c.no_timers-then-ten-ne0.ensures (left c.if-ten-ne0.true (ten_no s.args.s.now s.args.at s.args.n _ _ x _ y))
 
-returns-3 : tie.Need-returns-3
+returns-3 : tie.Need-returns-then-fifteen-ne0
 returns-3 c =
     let s = c.before.before.before.before.before.before.before.before.before.before.before in
-    let five = c.before.before.before.before.before.before.before.before.before.read-timer.result in
-    let ten = c.before.before.before.before.before.before.read-timer2.result in
-    let x = entry_read s.args.s.now s.args.at (first s) five c.before.before.before.before.before.before.before.if1.false c.before.before.before.before.before.before.before.before.before.read-timer.ensures in
-    let y = entry_read s.args.s.now five.at (second s five) ten c.before.before.before.before.if2.false c.before.before.before.before.before.before.read-timer2.ensures in
-    let z = entry_refused s.args.s.now ten.at (third s five ten) c.before.before.before.read-timer3.result c.before.if3.true c.before.before.before.read-timer3.ensures in
-    rw c.no-timers3.ensures (left c.before.if3.true (fifteen_no s.args.s.now s.args.at s.args.n _ _ x _ _ y _ z))
+    let five = c.read_timer-five.result in
+    let ten = c.read_timer-ten.result in
+    let x = entry_read s.args.s.now s.args.at (first s) five c.if-five-ne0.false c.read_timer-five.ensures in
+    let y = entry_read s.args.s.now five.at (second s five) ten c.if-ten-ne0.false c.read_timer-ten.ensures in
+    let z = entry_refused s.args.s.now ten.at (third s five ten) c.read_timer-fifteen.result c.if-fifteen-ne0.true c.read_timer-fifteen.ensures in
+    rw c.no_timers-then-fifteen-ne0.ensures (left c.if-fifteen-ne0.true (fifteen_no s.args.s.now s.args.at s.args.n _ _ x _ _ y _ z))
 
-returns-4 : tie.Need-returns-4
+returns-4 : tie.Need-returns
 returns-4 c =
     let s = c.before.before.before.before.before.before.before.before.before.before in
-    let five = c.before.before.before.before.before.before.before.before.read-timer.result in
-    let ten = c.before.before.before.before.before.read-timer2.result in
-    let x = entry_read s.args.s.now s.args.at (first s) five c.before.before.before.before.before.before.if1.false c.before.before.before.before.before.before.before.before.read-timer.ensures in
-    let y = entry_read s.args.s.now five.at (second s five) ten c.before.before.before.if2.false c.before.before.before.before.before.read-timer2.ensures in
-    let z = entry_read s.args.s.now ten.at (third s five ten) c.before.before.read-timer3.result c.if3.false c.before.before.read-timer3.ensures in
+    let five = c.read_timer-five.result in
+    let ten = c.read_timer-ten.result in
+    let x = entry_read s.args.s.now s.args.at (first s) five c.if-five-ne0.false c.read_timer-five.ensures in
+    let y = entry_read s.args.s.now five.at (second s five) ten c.if-ten-ne0.false c.read_timer-ten.ensures in
+    let z = entry_read s.args.s.now ten.at (third s five ten) c.read_timer-fifteen.result c.if-fifteen-ne0.false c.read_timer-fifteen.ensures in
     took refl (timers_got s.args.s.now s.args.at s.args.n _ _ x _ _ y _ _ z)
 
-pub read-timers-spec : {M : Type 1} → statement M
-read-timers-spec =
+pub read_timers_spec : {M : Type 1} → statement M
+read_timers_spec =
     tie.close
     (tie.spec
     (λ c κs. search rules)

@@ -28,26 +28,27 @@ put-digits-below t =
 abbrev put-digits-claims : ℕ → put-digits-lts.Claims
 put-digits-claims t = (digit-reads.Asked, digit-reads.Learnt, put-byte-reads.Asked, put-byte-reads.Learnt, put-digits-below t, put-digits.Post)
 
-put-digits-returns : (t : ℕ) → put-digits-lts.Need-returns (put-digits-claims t) (put-digits-at t) put-digits.Post
-put-digits-returns t c = digits_none c.before.args.n c.if1.true
+put-digits-returns : (t : ℕ) → put-digits-lts.Need-returns-then-f-eq0 (put-digits-claims t) (put-digits-at t) put-digits.Post
+put-digits-returns t c = digits_none c.args.n c.if-f-eq0.true
 
-put-digits-put-byte-requires : (t : ℕ) → put-digits-lts.Need-put-byte-requires (put-digits-claims t) (put-digits-at t) put-digits.Post
-put-digits-put-byte-requires t c κs = digit_space c.before.before.before.before.args.f c.before.before.before.before.args.n c.before.before.before.if1.false c.before.before.before.before.requires.1 c.before.before.if2.true
+put-digits-put-byte-requires : (t : ℕ) → put-digits-lts.Need-put_byte-requires (put-digits-claims t) (put-digits-at t) put-digits.Post
+put-digits-put-byte-requires t c κs = digit_space c.args.f c.args.n c.if-f-eq0.false c.requires.1 c.if-n-lt10.true
 
-put-digits-returns-2 : (t : ℕ) → put-digits-lts.Need-returns-2 (put-digits-claims t) (put-digits-at t) put-digits.Post
-put-digits-returns-2 t c = one_digit c.before.before.before.before.before.args.f c.before.before.before.before.before.args.n c.before.before.before.before.if1.false c.before.before.before.if2.true c.before.digit.ensures c.put_byte.ensures
+put-digits-returns-2 : (t : ℕ) → put-digits-lts.Need-returns-then-n-lt10 (put-digits-claims t) (put-digits-at t) put-digits.Post
+put-digits-returns-2 t c = one_digit c.args.f c.args.n c.if-f-eq0.false c.if-n-lt10.true c.digit.ensures c.put_byte.ensures
 
-put-digits-put-digits-requires : (t : ℕ) → put-digits-lts.Need-put-digits-requires (put-digits-claims t) (put-digits-at t) put-digits.Post
-put-digits-put-digits-requires t c κs = (omega (arith, c.before.before.if1.false, c.before.before.before.requires.0), high_space c.before.before.before.args.f c.before.before.before.args.n c.before.before.if1.false c.before.before.before.requires.1 c.before.if2.false)
+put-digits-put-digits-requires : (t : ℕ) → put-digits-lts.Need-put_digits-p-requires (put-digits-claims t) (put-digits-at t) put-digits.Post
+put-digits-put-digits-requires t c κs = (omega (arith, c.if-f-eq0.false, c.requires.0), high_space c.args.f c.args.n c.if-f-eq0.false c.requires.1 c.if-n-lt10.false)
 
-put-digits-put-byte-requires-2 : (t : ℕ) → put-digits-lts.Need-put-byte-requires-2 (put-digits-claims t) (put-digits-at t) put-digits.Post
-put-digits-put-byte-requires-2 t c κs = low_space c.before.before.before.before.before.before.args.f c.before.before.before.before.before.before.args.n c.before.before.before.before.before.if1.false c.before.before.before.before.before.before.requires.1 c.before.before.before.before.if2.false c.before.before.put-digits.ensures
+put-digits-put-byte-requires-2 : (t : ℕ) → put-digits-lts.Need-put_byte-requires-2 (put-digits-claims t) (put-digits-at t) put-digits.Post
+put-digits-put-byte-requires-2 t c κs = low_space c.args.f c.args.n c.if-f-eq0.false c.requires.1 c.if-n-lt10.false c.put_digits-p.ensures
 
-put-digits-returns-3 : (t : ℕ) → put-digits-lts.Need-returns-3 (put-digits-claims t) (put-digits-at t) put-digits.Post
-put-digits-returns-3 t c = all_digits c.before.before.before.before.before.before.before.args.f c.before.before.before.before.before.before.before.args.n c.before.before.before.before.before.before.if1.false c.before.before.before.before.before.if2.false c.before.digit2.ensures c.before.before.before.put-digits.ensures c.put-byte2.ensures
+put-digits-returns-3 : (t : ℕ) → put-digits-lts.Need-returns (put-digits-claims t) (put-digits-at t) put-digits.Post
+put-digits-returns-3 t c = all_digits c.args.f c.args.n c.if-f-eq0.false c.if-n-lt10.false c.digit-2.ensures c.put_digits-p.ensures c.put_byte-2.ensures
 
-pub +put-digits-spec : {M : Type 1} → statement M
-+put-digits-spec = close μ-put-digits λ t. put-digits-lts.spec (put-digits-claims t)
+pub +put_digits_spec : {M : Type 1} → statement M
++put_digits_spec = close μ-put-digits λ t. put-digits-lts.spec
+    (put-digits-claims t)
     (put-digits-at t)
     put-digits.Post
     (put-digits-returns t)

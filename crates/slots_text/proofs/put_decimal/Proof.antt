@@ -3,13 +3,15 @@ use Rattle.model.specs.Printer.{decimal}
 use Rattle.slots_text.proofs.put_decimal.Statement.{statement}
 use Rattle.slots_text.proofs.put_decimal.Tie as tie
 
-put-digits-requires : tie.Need-put-digits-requires
+put-digits-requires : tie.Need-put_digits-requires
 unfolding decimal
-put-digits-requires c κs = c.before.requires
+put-digits-requires c κs = c.requires
 
 returns : tie.Need-returns
 unfolding decimal
-returns c = c.put-digits.ensures
+returns c = c.put_digits.ensures
 
-pub put-decimal-spec : {M : Type 1} → statement M
-put-decimal-spec = tie.close (tie.spec put-digits-requires returns)
+pub put_decimal_spec : {M : Type 1} → statement M
+put_decimal_spec = tie.close (tie.spec
+    put-digits-requires
+    returns)

@@ -7,20 +7,20 @@ use borrow.Author.Rules.{rules}
 use Rattle.slots_text.proofs.put_item.Statement.{statement}
 use Rattle.slots_text.proofs.put_item.Tie as tie
 
-put-byte-requires : tie.Need-put-byte-requires
-put-byte-requires c κs = let s = (space_as (item_none _ c.before.enum_told.given.1) c.before.before.before.requires).fits in omega arith
+put-byte-requires : tie.Need-put_byte-requires
+put-byte-requires c κs = let s = (space_as (item_none _ c.in-Nothing.is) c.requires).fits in omega arith
 
-put-decimal-requires : tie.Need-put-decimal-requires
-put-decimal-requires c κs = space_as (item_some _ _ c.before.before.before.item.given.1) c.before.before.before.before.before.requires
+put-decimal-requires : tie.Need-put_decimal-requires
+put-decimal-requires c κs = space_as (item_some _ _ c.in-Of.is) c.requires
 
-returns : tie.Need-returns
-returns c = stored_as (item_none _ c.before.before.enum_told.given.1) c.put_byte.ensures
+returns : tie.Need-returns-in-Nothing
+returns c = stored_as (item_none _ c.in-Nothing.is) c.put_byte.ensures
 
-returns-2 : tie.Need-returns-2
-returns-2 c = stored_as (item_some _ _ c.before.before.before.before.item.given.1) c.put-decimal.ensures
+returns-2 : tie.Need-returns-in-Of
+returns-2 c = stored_as (item_some _ _ c.in-Of.is) c.put_decimal.ensures
 
-pub put-item-spec : {M : Type 1} → statement M
-put-item-spec =
+pub put_item_spec : {M : Type 1} → statement M
+put_item_spec =
     tie.close
     (tie.spec
     (λ c. search rules)

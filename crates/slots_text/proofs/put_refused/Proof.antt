@@ -5,20 +5,19 @@ use borrow.Author.Rules.{rules}
 use Rattle.slots_text.proofs.put_refused.Statement.{statement}
 use Rattle.slots_text.proofs.put_refused.Tie as tie
 
-put-decimal-requires : tie.Need-put-decimal-requires
-put-decimal-requires c κs = part_space _ (refused_space c.before.before.before.before.args.n) (part_on (refused_start c.before.before.before.before.args.n) c.before.put-bytes.ensures)
+put-decimal-requires : tie.Need-put_decimal-q-requires
+put-decimal-requires c κs = part_space _ (refused_space c.args.n) (part_on (refused_start c.args.n) c.put_bytes-p.ensures)
 
-put-byte-requires : tie.Need-put-byte-requires
-put-byte-requires c κs = byte_space (refused_space c.before.before.before.before.before.before.args.n) (part_on (part_on (refused_start c.before.before.before.before.before.before.args.n) c.before.before.before.put-bytes.ensures) c.before.put-decimal.ensures)
+put-byte-requires : tie.Need-put_byte-requires
+put-byte-requires c κs = byte_space (refused_space c.args.n) (part_on (part_on (refused_start c.args.n) c.put_bytes-p.ensures) c.put_decimal-q.ensures)
 
 returns : tie.Need-returns
-returns c = wrote (part_end (part_on (part_on (refused_start c.before.before.before.before.before.before.before.args.n) c.before.before.before.before.put-bytes.ensures) c.before.before.put-decimal.ensures) c.put_byte.ensures)
+returns c = wrote (part_end (part_on (part_on (refused_start c.args.n) c.put_bytes-p.ensures) c.put_decimal-q.ensures) c.put_byte.ensures)
 
-pub put-refused-spec : {M : Type 1} → statement M
-put-refused-spec =
+pub put_refused_spec : {M : Type 1} → statement M
+put_refused_spec =
     tie.close
     (tie.spec
-    (λ c. search rules)
     (λ c κs. search rules)
     put-decimal-requires
     put-byte-requires

@@ -12,14 +12,14 @@ use borrow.Author.Rules.{rules}
 use Rattle.slots_text.proofs.put_requirement.Statement.{statement}
 use Rattle.slots_text.proofs.put_requirement.Tie as tie
 
-put-signed-requires : tie.Need-put-signed-requires
-put-signed-requires c κs = let s = c.before.before.before.before.before.before.before.before in let l = rw c.before.before.before.before.kind-of.ensures at (c.before.before.before.letter-of.ensures (unshift (s.args.code % wide))) in let e = to_z-of_z {w = w32} (record { sfits = c.number_of_lem.type-inv }) ∙ c.number_of_lem.ensures in let p = part_byte_is l (part_byte (requirement_start s.args.code) c.before.before.before.before.before.before.put_byte.ensures) c.before.before.put-byte2.ensures in last_space s.requires (part_as (ap signed_decimal (sym e)) p)
+put-signed-requires : tie.Need-put_signed-requires
+put-signed-requires c κs = let s = c.before.before.before.before.before.before.before.before in let l = rw c.kind_of.ensures at (c.letter_of.ensures (unshift (s.args.code % wide))) in let e = to_z-of_z {w = w32} (record { sfits = c.number_of.type_inv }) ∙ c.number_of.ensures in let p = part_byte_is l (part_byte (requirement_start s.args.code) c.put_byte-p.ensures) c.put_byte-q.ensures in last_space s.requires (part_as (ap signed_decimal (sym e)) p)
 
 returns : tie.Need-returns
-returns c = let s = c.before.before.before.before.before.before.before.before.before in let l = rw c.before.before.before.before.before.kind-of.ensures at (c.before.before.before.before.letter-of.ensures (unshift (s.args.code % wide))) in let e = to_z-of_z {w = w32} (record { sfits = c.before.number_of_lem.type-inv }) ∙ c.before.number_of_lem.ensures in let p = part_byte_is l (part_byte (requirement_start s.args.code) c.before.before.before.before.before.before.before.put_byte.ensures) c.before.before.before.put-byte2.ensures in part_end (part_as (ap signed_decimal (sym e)) p) c.put-signed.ensures
+returns c = let s = c.before.before.before.before.before.before.before.before.before in let l = rw c.kind_of.ensures at (c.letter_of.ensures (unshift (s.args.code % wide))) in let e = to_z-of_z {w = w32} (record { sfits = c.number_of.type_inv }) ∙ c.number_of.ensures in let p = part_byte_is l (part_byte (requirement_start s.args.code) c.put_byte-p.ensures) c.put_byte-q.ensures in part_end (part_as (ap signed_decimal (sym e)) p) c.put_signed.ensures
 
-pub put-requirement-spec : {M : Type 1} → statement M
-put-requirement-spec =
+pub put_requirement_spec : {M : Type 1} → statement M
+put_requirement_spec =
     tie.close
     (tie.spec
     (λ c κs. search rules)

@@ -12,29 +12,29 @@ use borrow.Author.Rules.{rules}
 use Rattle.slots_text.proofs.put_requirements.Statement.{statement}
 use Rattle.slots_text.proofs.put_requirements.Tie as tie
 
-abbrev invariant-loop : tie.invariant-loop
+abbrev invariant-loop : tie.invariant-loop-i
 invariant-loop out₀ at slot n p₀ i₀ out p i = (i ≤ n) × Part out₀ at (requirements_text (slot_of slot).requirements) (entries_from i slot) out p
 
-abbrev decreases-loop : tie.decreases-loop
+abbrev decreases-loop : tie.decreases-loop-i
 decreases-loop out₀ at slot n p₀ i₀ out p i = n - i
 
-size : (c : tie.Start invariant-loop decreases-loop) → length c.args.t3.requirements ≡ entry_limit
+size : (c : tie.Start invariant-loop decreases-loop) → length c.args.slot.requirements ≡ entry_limit
 size c = search rules
 
-loop-holds : tie.Need-loop-init invariant-loop decreases-loop
-loop-holds c = (omega arith, part_of (entries_all c.args.t3 (size (c)) c.requires.0))
+loop-holds : tie.Need-loop-i-init invariant-loop decreases-loop
+loop-holds c = (omega arith, part_of (entries_all c.args.slot (size c) c.requires.0))
 
-put-requirement-requires : tie.Need-put-requirement-requires invariant-loop decreases-loop
-put-requirement-requires c κs = part_space _ c.before.before.before.before.requires.1 (part_as (entries_next c.before.before.before.before.args.t3 (size c.before.before.before.before) c.before.before.before.before.requires.0 c.before.before.before.loop.i c.before.before.loop-test.true) c.before.before.before.loop.invariant.1)
+put-requirement-requires : tie.Need-put_requirement-p-requires invariant-loop decreases-loop
+put-requirement-requires c κs = part_space _ c.requires.1 (part_as (entries_next c.args.slot (size c.before.before.before.before) c.requires.0 c.loop-i.i c.loop-i-test.true) c.loop-i.invariant.1)
 
-loop-again : tie.Need-loop-preserved invariant-loop decreases-loop
-loop-again c = (omega arith, part_on (part_as (entries_next c.before.before.before.before.before.args.t3 (size c.before.before.before.before.before) c.before.before.before.before.before.requires.0 c.before.before.before.before.loop.i c.before.before.before.loop-test.true) c.before.before.before.before.loop.invariant.1) c.put-requirement.ensures)
+loop-again : tie.Need-loop-i-preserved invariant-loop decreases-loop
+loop-again c = (omega arith, part_on (part_as (entries_next c.args.slot (size c.before.before.before.before.before) c.requires.0 c.loop-i.i c.loop-i-test.true) c.loop-i.invariant.1) c.put_requirement-p.ensures)
 
 returns : tie.Need-returns invariant-loop decreases-loop
-returns c = part_done (entries_end c.before.before.args.t3 (size c.before.before) c.before.before.requires.0 c.before.loop.i c.loop-test.false) c.before.loop.invariant.1
+returns c = part_done (entries_end c.args.slot (size c.before.before) c.requires.0 c.loop-i.i c.loop-i-test.false) c.loop-i.invariant.1
 
-pub put-requirements-spec : {M : Type 1} → statement M
-put-requirements-spec =
+pub put_requirements_spec : {M : Type 1} → statement M
+put_requirements_spec =
     tie.close
     (tie.spec
     invariant-loop

@@ -9,45 +9,45 @@ use native.Mathlib.Omega.{arith}
 use Rattle.slots_text.proofs.put_signed.Statement.{statement}
 use Rattle.slots_text.proofs.put_signed.Tie as tie
 
-put-byte-requires : tie.Need-put-byte-requires
+put-byte-requires : tie.Need-put_byte-p-requires
 put-byte-requires c κs =
     let m = c.before.before in
     let s = m.before in
-    byte_space {xs = s.args.out.now} s.requires (part_of (signed_low s.args.z _ (rw (to_z-of_z s.ranges.z) at m.shifted.ensures) c.before.if1.true))
+    byte_space {xs = s.args.out.now} s.requires (part_of (signed_low s.args.z _ (rw (to_z-of_z s.ranges.z) at m.shifted-m.ensures) c.if-m-lt-ZERO.true))
 
-put-decimal-requires : tie.Need-put-decimal-requires
+put-decimal-requires : tie.Need-put_decimal-requires
 put-decimal-requires c κs =
     let m = c.before.before.before.before in
     let s = m.before in
-    last_space s.requires (part_byte (part_of (signed_low s.args.z _ (rw (to_z-of_z s.ranges.z) at m.shifted.ensures) c.before.before.before.if1.true)) c.before.put_byte.ensures)
+    last_space s.requires (part_byte (part_of (signed_low s.args.z _ (rw (to_z-of_z s.ranges.z) at m.shifted-m.ensures) c.if-m-lt-ZERO.true)) c.put_byte-p.ensures)
 
-returns : tie.Need-returns
+returns : tie.Need-returns-then-m-lt-ZERO
 returns c =
     let m = c.before.before.before.before.before in
     let s = m.before in
-    part_end (part_byte (part_of (signed_low s.args.z _ (rw (to_z-of_z s.ranges.z) at m.shifted.ensures) c.before.before.before.before.if1.true)) c.before.before.put_byte.ensures) c.put-decimal.ensures
+    part_end (part_byte (part_of (signed_low s.args.z _ (rw (to_z-of_z s.ranges.z) at m.shifted-m.ensures) c.if-m-lt-ZERO.true)) c.put_byte-p.ensures) c.put_decimal.ensures
 
-cast-put-decimal-2 : tie.Need-overflow-cast-put-decimal-2
+cast-put-decimal-2 : tie.Need-overflow_cast-m-2
 cast-put-decimal-2 c =
     let m = c.before.before in
     let s = m.before in
-    let t = rw (to_z-of_z s.ranges.z) at m.shifted.ensures in
+    let t = rw (to_z-of_z s.ranges.z) at m.shifted-m.ensures in
     record { fits = omega (arith, t.0, shift_most s.args.z t.1) }
 
-put-decimal-requires-2 : tie.Need-put-decimal-requires-2
+put-decimal-requires-2 : tie.Need-put_decimal-requires-2
 put-decimal-requires-2 c κs =
     let m = c.before.before in
     let s = m.before in
-    space_as (signed_high s.args.z _ (rw (to_z-of_z s.ranges.z) at m.shifted.ensures) c.before.if1.false) s.requires
+    space_as (signed_high s.args.z _ (rw (to_z-of_z s.ranges.z) at m.shifted-m.ensures) c.if-m-lt-ZERO.false) s.requires
 
-returns-2 : tie.Need-returns-2
+returns-2 : tie.Need-returns
 returns-2 c =
     let m = c.before.before.before in
     let s = m.before in
-    stored_as (signed_high s.args.z _ (rw (to_z-of_z s.ranges.z) at m.shifted.ensures) c.before.before.if1.false) c.put-decimal2.ensures
+    stored_as (signed_high s.args.z _ (rw (to_z-of_z s.ranges.z) at m.shifted-m.ensures) c.if-m-lt-ZERO.false) c.put_decimal-2.ensures
 
-pub put-signed-spec : {M : Type 1} → statement M
-put-signed-spec =
+pub put_signed_spec : {M : Type 1} → statement M
+put_signed_spec =
     tie.close
     (tie.spec
     (λ c κs. search rules)

@@ -13,29 +13,29 @@ use Rattle.shop.proofs.All.{length_mapped}
 use Rattle.slots_text.proofs.put_slots.Statement.{statement}
 use Rattle.slots_text.proofs.put_slots.Tie as tie
 
-abbrev invariant-loop : tie.invariant-loop
+abbrev invariant-loop : tie.invariant-loop-i
 invariant-loop out₀ shop p₀ i₀ out p i = (i ≤ slot_count) × Part out₀ 0 (slot_lines 0 (slots_of shop)) (lines_from i shop) out p
 
-abbrev decreases-loop : tie.decreases-loop
+abbrev decreases-loop : tie.decreases-loop-i
 decreases-loop out₀ shop p₀ i₀ out p i = slot_count - i
 
-size : (c : tie.Start invariant-loop decreases-loop) → length c.args.t2.slots ≡ slot_count
+size : (c : tie.Start invariant-loop decreases-loop) → length c.args.shop.slots ≡ slot_count
 size c = search (length_mapped, rules)
 
-loop-holds : tie.Need-loop-init invariant-loop decreases-loop
-loop-holds c = (omega arith, part_of (lines_all c.args.t2 (size (c))))
+loop-holds : tie.Need-loop-i-init invariant-loop decreases-loop
+loop-holds c = (omega arith, part_of (lines_all c.args.shop (size c)))
 
-put-slot-requires : tie.Need-put-slot-requires invariant-loop decreases-loop
-put-slot-requires c κs = (c.before.before.before.before.requires.each c.before.before.before.loop.i c.before.before.loop-test.true, part_space _ (lines_space c.before.before.before.before.args.t2 (size c.before.before.before.before) c.before.before.before.before.requires) (part_as (lines_next c.before.before.before.before.args.t2 (size c.before.before.before.before) c.before.before.before.loop.i c.before.before.loop-test.true) c.before.before.before.loop.invariant.1))
+put-slot-requires : tie.Need-put_slot-p-requires invariant-loop decreases-loop
+put-slot-requires c κs = (c.requires.each c.loop-i.i c.loop-i-test.true, part_space _ (lines_space c.args.shop (size c.before.before.before.before) c.requires) (part_as (lines_next c.args.shop (size c.before.before.before.before) c.loop-i.i c.loop-i-test.true) c.loop-i.invariant.1))
 
-loop-again : tie.Need-loop-preserved invariant-loop decreases-loop
-loop-again c = (omega arith, part_on (part_as (lines_next c.before.before.before.before.before.args.t2 (size c.before.before.before.before.before) c.before.before.before.before.loop.i c.before.before.before.loop-test.true) c.before.before.before.before.loop.invariant.1) c.put-slot.ensures)
+loop-again : tie.Need-loop-i-preserved invariant-loop decreases-loop
+loop-again c = (omega arith, part_on (part_as (lines_next c.args.shop (size c.before.before.before.before.before) c.loop-i.i c.loop-i-test.true) c.loop-i.invariant.1) c.put_slot-p.ensures)
 
 returns : tie.Need-returns invariant-loop decreases-loop
-returns c = wrote (part_done (lines_end c.before.before.args.t2 (size c.before.before) c.before.loop.i c.loop-test.false) c.before.loop.invariant.1)
+returns c = wrote (part_done (lines_end c.args.shop (size c.before.before) c.loop-i.i c.loop-i-test.false) c.loop-i.invariant.1)
 
-pub put-slots-spec : {M : Type 1} → statement M
-put-slots-spec =
+pub put_slots_spec : {M : Type 1} → statement M
+put_slots_spec =
     tie.close
     (tie.spec
     invariant-loop

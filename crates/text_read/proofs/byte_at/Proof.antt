@@ -4,12 +4,16 @@ use borrow.Author.Rules.{rules}
 use Rattle.text_read.proofs.byte_at.Statement.{statement}
 use Rattle.text_read.proofs.byte_at.Tie as tie
 
-returns : tie.Need-returns
-returns c = byte_here _ _ _ c.before.before.if1.true c.wide-byte.ensures
+returns : tie.Need-returns-then-at-s
+returns c = byte_here _ _ _ c.if-at-s.true c.wide_byte.ensures
 
-returns-2 : tie.Need-returns-2
-returns-2 c = byte_behind _ _ c.if1.false
+returns-2 : tie.Need-returns
+returns-2 c = byte_behind _ _ c.if-at-s.false
 
-pub byte-at-spec : {M : Type 1} → statement M
-byte-at-spec =
-    tie.close (tie.spec (λ c. search rules) (λ c κs. search rules) returns returns-2)
+pub byte_at_spec : {M : Type 1} → statement M
+byte_at_spec =
+    tie.close (tie.spec
+    (λ c. search rules)
+    (λ c κs. search rules)
+    returns
+    returns-2)

@@ -4,8 +4,12 @@ use borrow.Author.Rules.{rules}
 use Rattle.text_read.proofs.item_of.Statement.{statement}
 use Rattle.text_read.proofs.item_of.Tie as tie
 
-returns-2 : tie.Need-returns-2
-returns-2 c = word_suc _ c.if1.false
+returns-2 : tie.Need-returns
+returns-2 c = word_suc _ c.if-word-eq0.false
 
-pub item-of-spec : {M : Type 1} → statement M
-item-of-spec = tie.close (tie.spec (λ c. search rules) (λ c. search rules) (λ c. search rules) returns-2)
+pub item_of_spec : {M : Type 1} → statement M
+item_of_spec = tie.close (tie.spec
+    (λ c. search rules)
+    (λ c. search rules)
+    (λ c. search rules)
+    returns-2)

@@ -4,7 +4,9 @@ use Rattle.text_read.proofs.no_line.Statement.{statement}
 use Rattle.text_read.proofs.no_line.Tie as tie
 
 returns : tie.Need-returns
-returns c = rw c.empty-slot.ensures
+returns c = rw c.empty_slot-slot.ensures
 
-pub no-line-spec : {M : Type 1} → statement M
-no-line-spec = tie.close (tie.spec (λ c κs. search rules) returns)
+pub no_line_spec : {M : Type 1} → statement M
+no_line_spec = tie.close (tie.spec
+    (λ c κs. search rules)
+    returns)

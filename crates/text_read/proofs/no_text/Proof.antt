@@ -4,7 +4,9 @@ use Rattle.text_read.proofs.no_text.Statement.{statement}
 use Rattle.text_read.proofs.no_text.Tie as tie
 
 returns : tie.Need-returns
-returns c = rw c.empty-shop.ensures
+returns c = rw c.empty_shop-shop.ensures
 
-pub no-text-spec : {M : Type 1} → statement M
-no-text-spec = tie.close (tie.spec (λ c κs. search rules) returns)
+pub no_text_spec : {M : Type 1} → statement M
+no_text_spec = tie.close (tie.spec
+    (λ c κs. search rules)
+    returns)

@@ -8,43 +8,43 @@ use borrow.Author.Rules.{rules}
 use Rattle.text_read.proofs.read_line.Statement.{statement}
 use Rattle.text_read.proofs.read_line.Tie as tie
 
-returns : tie.Need-returns
-returns c = told_no_line c.before.if1.true (line_no c.before.before.before.before.before.args.s.now c.before.before.before.before.before.args.at c.before.before.before.before.before.args.i _ (rejected c.before.if1.true c.before.before.before.read-start.ensures)) _ c.no_line.ensures
+returns : tie.Need-returns-then-n-ne0
+returns c = told_no_line c.if-n-ne0.true (line_no c.args.s.now c.args.at c.args.i _ (rejected c.if-n-ne0.true c.read_start-n.ensures)) _ c.no_line.ensures
 
-returns-2 : tie.Need-returns-2
+returns-2 : tie.Need-returns-then-w-ne0
 returns-2 c =
-    let n = accepted c.before.before.before.before.if1.false c.before.before.before.before.before.before.read-start.ensures in
-    told_no_line c.before.if2.true (line_no_item _ c.before.before.before.before.before.before.before.before.args.at c.before.before.before.before.before.before.before.before.args.i _ n _ (rejected c.before.if2.true c.before.before.before.read-item.ensures)) _ c.no-line2.ensures
+    let n = accepted c.if-n-ne0.false c.read_start-n.ensures in
+    told_no_line c.if-w-ne0.true (line_no_item _ c.args.at c.args.i _ n _ (rejected c.if-w-ne0.true c.read_item-w.ensures)) _ c.no_line-then-w-ne0.ensures
 
-returns-3 : tie.Need-returns-3
+returns-3 : tie.Need-returns-then-l-ne0
 returns-3 c =
-    let n = accepted c.before.before.before.before.before.before.before.if1.false c.before.before.before.before.before.before.before.before.before.read-start.ensures in
-    let o = accepted c.before.before.before.before.if2.false c.before.before.before.before.before.before.read-item.ensures in
-    told_no_line c.before.if3.true (line_no_limit _ c.before.before.before.before.before.before.before.before.before.before.before.args.at c.before.before.before.before.before.before.before.before.before.before.before.args.i _ n _ _ o _ (rejected c.before.if3.true c.before.before.before.read-signed.ensures)) _ c.no-line3.ensures
+    let n = accepted c.if-n-ne0.false c.read_start-n.ensures in
+    let o = accepted c.if-w-ne0.false c.read_item-w.ensures in
+    told_no_line c.if-l-ne0.true (line_no_limit _ c.args.at c.args.i _ n _ _ o _ (rejected c.if-l-ne0.true c.read_signed-l.ensures)) _ c.no_line-then-l-ne0.ensures
 
-returns-4 : tie.Need-returns-4
+returns-4 : tie.Need-returns-then-q-ne0
 returns-4 c =
-    let n = accepted c.before.before.before.before.before.before.before.before.before.before.if1.false c.before.before.before.before.before.before.before.before.before.before.before.before.read-start.ensures in
-    let o = accepted c.before.before.before.before.before.before.before.if2.false c.before.before.before.before.before.before.before.before.before.read-item.ensures in
-    let z = accepted c.before.before.before.before.if3.false c.before.before.before.before.before.before.read-signed.ensures in
-    told_no_line c.before.if4.true (line_no_requirements _ c.before.before.before.before.before.before.before.before.before.before.before.before.before.before.args.at c.before.before.before.before.before.before.before.before.before.before.before.before.before.before.args.i _ n _ _ o _ _ z _ (rejected c.before.if4.true c.before.before.before.read-requirements.ensures)) _ c.no-line4.ensures
+    let n = accepted c.if-n-ne0.false c.read_start-n.ensures in
+    let o = accepted c.if-w-ne0.false c.read_item-w.ensures in
+    let z = accepted c.if-l-ne0.false c.read_signed-l.ensures in
+    told_no_line c.if-q-ne0.true (line_no_requirements _ c.args.at c.args.i _ n _ _ o _ _ z _ (rejected c.if-q-ne0.true c.read_requirements-q.ensures)) _ c.no_line-then-q-ne0.ensures
 
-item-of-requires : tie.Need-item-of-requires
-item-of-requires c κs = (accepted c.before.before.before.before.before.before.if2.false c.before.before.before.before.before.before.before.before.read-item.ensures).is.low
+item-of-requires : tie.Need-item_of-item-requires
+item-of-requires c κs = (accepted c.if-w-ne0.false c.read_item-w.ensures).is.low
 
-limit-of-requires : tie.Need-limit-of-requires
-limit-of-requires c κs = let x = accepted c.before.before.before.before.before.if3.false c.before.before.before.before.before.before.before.read-signed.ensures in limit_range x.value x.is
+limit-of-requires : tie.Need-limit_of-requires
+limit-of-requires c κs = let x = accepted c.if-l-ne0.false c.read_signed-l.ensures in limit_range x.value x.is
 
-returns-5 : tie.Need-returns-5
+returns-5 : tie.Need-returns
 returns-5 c =
-    let n = accepted c.before.before.before.before.before.before.before.before.before.before.before.before.if1.false c.before.before.before.before.before.before.before.before.before.before.before.before.before.before.read-start.ensures in
-    let o = accepted c.before.before.before.before.before.before.before.before.before.if2.false c.before.before.before.before.before.before.before.before.before.before.before.read-item.ensures in
-    let z = accepted c.before.before.before.before.before.before.if3.false c.before.before.before.before.before.before.before.before.read-signed.ensures in
-    let q = accepted c.before.before.before.if4.false c.before.before.before.before.before.read-requirements.ensures in
-    line_took _ c.before.before.before.before.before.before.before.before.before.before.before.before.before.before.before.before.args.at c.before.before.before.before.before.before.before.before.before.before.before.before.before.before.before.before.args.i _ n _ _ o _ _ z _ _ _ q _ c.before.before.item_of.ensures _ (to_z-of_z {w = w16} (record { sfits = c.limit-of.type-inv }) ∙ c.limit-of.ensures)
+    let n = accepted c.if-n-ne0.false c.read_start-n.ensures in
+    let o = accepted c.if-w-ne0.false c.read_item-w.ensures in
+    let z = accepted c.if-l-ne0.false c.read_signed-l.ensures in
+    let q = accepted c.if-q-ne0.false c.read_requirements-q.ensures in
+    line_took _ c.args.at c.args.i _ n _ _ o _ _ z _ _ _ q _ c.item_of-item.ensures _ (to_z-of_z {w = w16} (record { sfits = c.limit_of.type_inv }) ∙ c.limit_of.ensures)
 
-pub read-line-spec : {M : Type 1} → statement M
-read-line-spec =
+pub read_line_spec : {M : Type 1} → statement M
+read_line_spec =
     tie.close
     (tie.spec
     (λ c κs. search rules)

@@ -8,50 +8,50 @@ use borrow.Author.Rules.{rules}
 use Rattle.text_read.proofs.read_natural.Statement.{statement}
 use Rattle.text_read.proofs.read_natural.Tie as tie
 
-abbrev invariant-loop : tie.invariant-loop
+abbrev invariant-loop : tie.invariant-loop-d
 invariant-loop s at bound e first n₀ p₀ d₀ n p d = Digits s at e bound n p d
 
-abbrev decreases-loop : tie.decreases-loop
+abbrev decreases-loop : tie.decreases-loop-d
 decreases-loop s at bound e first n₀ p₀ d₀ n p d = length s - p
 
-returns : tie.Need-returns invariant-loop decreases-loop
-returns c = told_no (λ k. omega (arith, c.before.before.before.before.requires.some)) (natural_none _ _ _ _ _ c.before.before.before.before.requires c.before.before.digit_at.ensures c.before.if1.true) (IsNumber c.before.before.before.before.args.bound) _ c.no_read.ensures
+returns : tie.Need-returns-then-first-gt9 invariant-loop decreases-loop
+returns c = told_no (λ k. omega (arith, c.requires.some)) (natural_none _ _ _ _ _ c.requires c.digit_at-first.ensures c.if-first-gt9.true) (IsNumber c.args.bound) _ c.no_read.ensures
 
-add-t10 : tie.Need-overflow-add-t10 invariant-loop decreases-loop
-add-t10 c = omega (arith, digit_in (omega arith) c.before.before.digit_at.ensures)
+add-t10 : tie.Need-overflow_add-result invariant-loop decreases-loop
+add-t10 c = omega (arith, digit_in (omega arith) c.digit_at-first.ensures)
 
-returns-2 : tie.Need-returns-2 invariant-loop decreases-loop
-returns-2 c = natural_alone _ _ _ _ _ c.before.before.before.before.requires c.before.before.digit_at.ensures c.if2.true
+returns-2 : tie.Need-returns-then-first-eq0 invariant-loop decreases-loop
+returns-2 c = natural_alone _ _ _ _ _ c.requires c.digit_at-first.ensures c.if-first-eq0.true
 
-add-p : tie.Need-overflow-add-p invariant-loop decreases-loop
-add-p c = omega (arith, digit_in (omega arith) c.before.before.digit_at.ensures)
+add-p : tie.Need-overflow_add-p invariant-loop decreases-loop
+add-p c = omega (arith, digit_in (omega arith) c.digit_at-first.ensures)
 
-loop-holds : tie.Need-loop-init invariant-loop decreases-loop
-loop-holds c = digits_start _ _ _ _ _ c.before.before.before.before.before.requires c.before.before.before.digit_at.ensures c.before.before.if1.false c.before.if2.false _ c.digit-at2.ensures
+loop-holds : tie.Need-loop-d-init invariant-loop decreases-loop
+loop-holds c = digits_start _ _ _ _ _ c.requires c.digit_at-first.ensures c.if-first-gt9.false c.if-first-eq0.false _ c.digit_at-d.ensures
 
-mul-n : tie.Need-overflow-mul-n invariant-loop decreases-loop
-mul-n c = omega (arith, c.before.loop.invariant.low, c.before.before.before.before.before.before.before.requires.most)
+mul-n : tie.Need-overflow_mul-n invariant-loop decreases-loop
+mul-n c = omega (arith, c.loop-d.invariant.low, c.requires.most)
 
-add-n : tie.Need-overflow-add-n invariant-loop decreases-loop
-add-n c = omega (arith, c.before.loop.invariant.low, c.before.before.before.before.before.before.before.requires.most)
+add-n : tie.Need-overflow_add-n invariant-loop decreases-loop
+add-n c = omega (arith, c.loop-d.invariant.low, c.requires.most)
 
-returns-3 : tie.Need-returns-3 invariant-loop decreases-loop
-returns-3 c = told_no (λ k. omega (arith, c.before.before.before.before.before.before.before.before.before.requires.some)) (digits_over _ _ _ _ 0 c.before.before.before.before.before.before.before.before.before.requires _ _ _ c.before.before.before.loop.invariant c.before.before.loop-test.true c.before.if3.true) (IsNumber c.before.before.before.before.before.before.before.before.before.args.bound) _ c.no-read2.ensures
+returns-3 : tie.Need-returns-then-bound-n invariant-loop decreases-loop
+returns-3 c = told_no (λ k. omega (arith, c.requires.some)) (digits_over _ _ _ _ 0 c.requires _ _ _ c.loop-d.invariant c.loop-d-test.true c.if-bound-n.true) (IsNumber c.args.bound) _ c.no_read-then-bound-n.ensures
 
-add-p-2 : tie.Need-overflow-add-p-2 invariant-loop decreases-loop
-add-p-2 c = omega (arith, digit_in c.before.loop-test.true c.before.before.loop.invariant.next)
+add-p-2 : tie.Need-overflow_add-p-in-loop-d invariant-loop decreases-loop
+add-p-2 c = omega (arith, digit_in c.loop-d-test.true c.loop-d.invariant.next)
 
-loop-less : tie.Need-loop-smaller invariant-loop decreases-loop
-loop-less c = omega (arith, digit_in c.before.before.loop-test.true c.before.before.before.loop.invariant.next)
+loop-less : tie.Need-loop-d-smaller invariant-loop decreases-loop
+loop-less c = omega (arith, digit_in c.loop-d-test.true c.loop-d.invariant.next)
 
-loop-again : tie.Need-loop-preserved invariant-loop decreases-loop
-loop-again c = digits_next _ _ _ _ 0 c.before.before.before.before.before.before.before.before.before.requires _ _ _ c.before.before.before.loop.invariant c.before.before.loop-test.true c.before.if3.false _ c.digit-at3.ensures
+loop-again : tie.Need-loop-d-preserved invariant-loop decreases-loop
+loop-again c = digits_next _ _ _ _ 0 c.requires _ _ _ c.loop-d.invariant c.loop-d-test.true c.if-bound-n.false _ c.digit_at-d-in-loop-d.ensures
 
-returns-4 : tie.Need-returns-4 invariant-loop decreases-loop
-returns-4 c = digits_done _ _ _ _ 0 c.before.before.before.before.before.before.before.requires _ _ _ c.before.loop.invariant c.loop-test.false
+returns-4 : tie.Need-returns invariant-loop decreases-loop
+returns-4 c = digits_done _ _ _ _ 0 c.requires _ _ _ c.loop-d.invariant c.loop-d-test.false
 
-pub read-natural-spec : {M : Type 1} → statement M
-read-natural-spec =
+pub read_natural_spec : {M : Type 1} → statement M
+read_natural_spec =
     tie.close
     (tie.spec
     invariant-loop

@@ -7,38 +7,38 @@ use borrow.Author.Rules.{rules}
 use Rattle.text_read.proofs.read_requirement.Statement.{statement}
 use Rattle.text_read.proofs.read_requirement.Tie as tie
 
-returns : tie.Need-returns
-returns c = told_no (λ k. omega arith) (requirement_none _ _ _ _ c.before.before.before.byte_at.ensures c.before.before.kind-for.ensures c.before.if1.true) IsRequirement _ c.no_read.ensures
+returns : tie.Need-returns-then-kind-gt5
+returns c = told_no (λ k. omega arith) (requirement_none _ _ _ _ c.byte_at-c.ensures c.kind_for-kind.ensures c.if-kind-gt5.true) IsRequirement _ c.no_read.ensures
 
-add-read-signed : tie.Need-overflow-add-read-signed
-add-read-signed c = let h = letter_in _ _ _ _ c.before.before.before.byte_at.ensures c.before.before.kind-for.ensures c.before.if1.false in omega arith
+add-read-signed : tie.Need-overflow_add-at
+add-read-signed c = let h = letter_in _ _ _ _ c.byte_at-c.ensures c.kind_for-kind.ensures c.if-kind-gt5.false in omega arith
 
-returns-2 : tie.Need-returns-2
-returns-2 c = told_no c.before.if3.true (flag_no _ _ _ _ c.before.before.before.before.before.before.before.byte_at.ensures c.before.before.before.before.before.before.kind-for.ensures c.before.before.before.before.if2.true c.before.before.before.before.before.if1.false _ (rejected c.before.if3.true c.before.before.before.read-signed.ensures)) IsRequirement _ c.no-read2.ensures
+returns-2 : tie.Need-returns-then-z-ne0
+returns-2 c = told_no c.if-z-ne0.true (flag_no _ _ _ _ c.byte_at-c.ensures c.kind_for-kind.ensures c.if-kind-gt3.true c.if-kind-gt5.false _ (rejected c.if-z-ne0.true c.read_signed-z.ensures)) IsRequirement _ c.no_read-then-z-ne0.ensures
 
-add-t11 : tie.Need-overflow-add-t11
-add-t11 c = let x = accepted c.before.if3.false c.before.before.before.read-signed.ensures in omega (arith, signed_wide x.value x.is, c.before.before.before.before.before.if1.false)
+add-t11 : tie.Need-overflow_add-result
+add-t11 c = let x = accepted c.if-z-ne0.false c.read_signed-z.ensures in omega (arith, signed_wide x.value x.is, c.if-kind-gt5.false)
 
-returns-3 : tie.Need-returns-3
-returns-3 c = flag_took _ _ _ _ c.before.before.before.before.before.before.before.byte_at.ensures c.before.before.before.before.before.before.kind-for.ensures c.before.before.before.before.if2.true c.before.before.before.before.before.if1.false _ _ (accepted c.before.if3.false c.before.before.before.read-signed.ensures)
+returns-3 : tie.Need-returns-then-kind-gt3
+returns-3 c = flag_took _ _ _ _ c.byte_at-c.ensures c.kind_for-kind.ensures c.if-kind-gt3.true c.if-kind-gt5.false _ _ (accepted c.if-z-ne0.false c.read_signed-z.ensures)
 
-add-read-natural : tie.Need-overflow-add-read-natural
-add-read-natural c = let h = letter_in _ _ _ _ c.before.before.before.byte_at.ensures c.before.before.kind-for.ensures c.before.if1.false in omega arith
+add-read-natural : tie.Need-overflow_add-at-2
+add-read-natural c = let h = letter_in _ _ _ _ c.byte_at-c.ensures c.kind_for-kind.ensures c.if-kind-gt5.false in omega arith
 
-returns-4 : tie.Need-returns-4
-returns-4 c = told_no c.before.if4.true (id_no _ _ _ _ c.before.before.before.before.before.before.before.byte_at.ensures c.before.before.before.before.before.before.kind-for.ensures c.before.before.before.before.if2.false _ (rejected c.before.if4.true c.before.before.before.read-natural.ensures)) IsRequirement _ c.no-read3.ensures
+returns-4 : tie.Need-returns-then-k-ne0
+returns-4 c = told_no c.if-k-ne0.true (id_no _ _ _ _ c.byte_at-c.ensures c.kind_for-kind.ensures c.if-kind-gt3.false _ (rejected c.if-k-ne0.true c.read_natural-k.ensures)) IsRequirement _ c.no_read-then-k-ne0.ensures
 
-add-t14 : tie.Need-overflow-add-t14
-add-t14 c = let x = accepted c.before.if4.false c.before.before.before.read-natural.ensures in omega (arith, x.is.same, x.is.low)
+add-t14 : tie.Need-overflow_add-result-2
+add-t14 c = let x = accepted c.if-k-ne0.false c.read_natural-k.ensures in omega (arith, x.is.same, x.is.low)
 
-add-t15 : tie.Need-overflow-add-t15
-add-t15 c = let x = accepted c.before.if4.false c.before.before.before.read-natural.ensures in omega (arith, x.is.same, x.is.low, c.before.before.before.before.before.if1.false)
+add-t15 : tie.Need-overflow_add-result-3
+add-t15 c = let x = accepted c.if-k-ne0.false c.read_natural-k.ensures in omega (arith, x.is.same, x.is.low, c.if-kind-gt5.false)
 
-returns-5 : tie.Need-returns-5
-returns-5 c = id_took _ _ _ _ c.before.before.before.before.before.before.before.byte_at.ensures c.before.before.before.before.before.before.kind-for.ensures c.before.before.before.before.if2.false _ _ (accepted c.before.if4.false c.before.before.before.read-natural.ensures)
+returns-5 : tie.Need-returns
+returns-5 c = id_took _ _ _ _ c.byte_at-c.ensures c.kind_for-kind.ensures c.if-kind-gt3.false _ _ (accepted c.if-k-ne0.false c.read_natural-k.ensures)
 
-pub read-requirement-spec : {M : Type 1} → statement M
-read-requirement-spec =
+pub read_requirement_spec : {M : Type 1} → statement M
+read_requirement_spec =
     tie.close
     (tie.spec
     (λ c κs. search rules)

@@ -9,44 +9,44 @@ use borrow.Author.Rules.{rules}
 use Rattle.text_read.proofs.read_requirements.Statement.{statement}
 use Rattle.text_read.proofs.read_requirements.Tie as tie
 
-abbrev invariant-loop : tie.invariant-loop
+abbrev invariant-loop : tie.invariant-loop-c
 invariant-loop s at row₀ n₀ p₀ c₀ row n p c = (n ≤ entry_limit) × Listed s at n p row × ByteAt s p c
 
-abbrev decreases-loop : tie.decreases-loop
+abbrev decreases-loop : tie.decreases-loop-c
 decreases-loop s at row₀ n₀ p₀ c₀ row n p c = entry_limit - n
 
-loop-holds : tie.Need-loop-init invariant-loop decreases-loop
-loop-holds c = (omega arith, listed_start _ _, c.byte_at.ensures)
+loop-holds : tie.Need-loop-c-init invariant-loop decreases-loop
+loop-holds c = (omega arith, listed_start _ _, c.byte_at-c.ensures)
 
-returns : tie.Need-returns invariant-loop decreases-loop
-returns c = told_no_requirements (λ k. omega arith) (listed_over _ _ _ _ _ c.before.before.before.loop.invariant.1 _ c.before.before.before.loop.invariant.2 c.before.before.loop-test.true c.before.if1.true) _ c.no-requirements.ensures
+returns : tie.Need-returns-then-n-ge-ENTRIES invariant-loop decreases-loop
+returns c = told_no_requirements (λ k. omega arith) (listed_over _ _ _ _ _ c.loop-c.invariant.1 _ c.loop-c.invariant.2 c.loop-c-test.true c.if-n-ge-ENTRIES.true) _ c.no_requirements.ensures
 
-add-read-requirement : tie.Need-overflow-add-read-requirement invariant-loop decreases-loop
-add-read-requirement c = omega (arith, (byte_is 32 c.before.loop-test.true (omega arith) c.before.before.loop.invariant.2).0)
+add-read-requirement : tie.Need-overflow_add-p invariant-loop decreases-loop
+add-read-requirement c = omega (arith, (byte_is 32 c.loop-c-test.true (omega arith) c.loop-c.invariant.2).0)
 
-returns-2 : tie.Need-returns-2 invariant-loop decreases-loop
-returns-2 c = told_no_requirements c.before.if2.true (listed_no _ _ _ _ _ c.before.before.before.before.before.before.loop.invariant.1 _ c.before.before.before.before.before.before.loop.invariant.2 c.before.before.before.before.before.loop-test.true c.before.before.before.before.if1.false _ (rejected c.before.if2.true c.before.before.before.read-requirement.ensures)) _ c.no-requirements2.ensures
+returns-2 : tie.Need-returns-then-k-ne0 invariant-loop decreases-loop
+returns-2 c = told_no_requirements c.if-k-ne0.true (listed_no _ _ _ _ _ c.loop-c.invariant.1 _ c.loop-c.invariant.2 c.loop-c-test.true c.if-n-ge-ENTRIES.false _ (rejected c.if-k-ne0.true c.read_requirement-k.ensures)) _ c.no_requirements-then-k-ne0.ensures
 
-loop-less : tie.Need-loop-smaller invariant-loop decreases-loop
-loop-less c = omega (arith, c.before.before.before.before.if1.false)
+loop-less : tie.Need-loop-c-smaller invariant-loop decreases-loop
+loop-less c = omega (arith, c.if-n-ge-ENTRIES.false)
 
-loop-again : tie.Need-loop-preserved invariant-loop decreases-loop
-loop-again c = (omega (arith, c.before.before.before.before.if1.false), listed_next _ _ _ _ _ c.before.before.before.before.before.before.loop.invariant.1 _ c.before.before.before.before.before.before.loop.invariant.2 c.before.before.before.before.before.loop-test.true c.before.before.before.before.if1.false _ _ (accepted c.before.if2.false c.before.before.before.read-requirement.ensures), c.byte-at2.ensures)
+loop-again : tie.Need-loop-c-preserved invariant-loop decreases-loop
+loop-again c = (omega (arith, c.if-n-ge-ENTRIES.false), listed_next _ _ _ _ _ c.loop-c.invariant.1 _ c.loop-c.invariant.2 c.loop-c-test.true c.if-n-ge-ENTRIES.false _ _ (accepted c.if-k-ne0.false c.read_requirement-k.ensures), c.byte_at-c-in-loop-c.ensures)
 
-returns-3 : tie.Need-returns-3 invariant-loop decreases-loop
-returns-3 c = told_no_requirements (λ k. omega arith) (listed_no_end _ _ _ _ _ c.before.before.before.loop.invariant.1 _ c.before.before.before.loop.invariant.2 c.before.before.loop-test.false c.before.if3.true) _ c.no-requirements3.ensures
+returns-3 : tie.Need-returns-then-c-ne10 invariant-loop decreases-loop
+returns-3 c = told_no_requirements (λ k. omega arith) (listed_no_end _ _ _ _ _ c.loop-c.invariant.1 _ c.loop-c.invariant.2 c.loop-c-test.false c.if-c-ne10.true) _ c.no_requirements-then-c-ne10.ensures
 
-cast-t14 : tie.Need-overflow-cast-t14 invariant-loop decreases-loop
-cast-t14 c = omega (arith, c.before.before.loop.invariant.0)
+cast-result : tie.Need-overflow_cast-result invariant-loop decreases-loop
+cast-result c = omega (arith, c.loop-c.invariant.0)
 
-add-t15 : tie.Need-overflow-add-t15 invariant-loop decreases-loop
-add-t15 c = omega (arith, (byte_is 10 c.if3.false (omega arith) c.before.before.loop.invariant.2).0)
+add-result : tie.Need-overflow_add-result invariant-loop decreases-loop
+add-result c = omega (arith, (byte_is 10 c.if-c-ne10.false (omega arith) c.loop-c.invariant.2).0)
 
-returns-4 : tie.Need-returns-4 invariant-loop decreases-loop
-returns-4 c = listed_done _ _ _ _ _ c.before.before.loop.invariant.1 _ c.before.before.loop.invariant.2 c.if3.false
+returns-4 : tie.Need-returns invariant-loop decreases-loop
+returns-4 c = listed_done _ _ _ _ _ c.loop-c.invariant.1 _ c.loop-c.invariant.2 c.if-c-ne10.false
 
-pub read-requirements-spec : {M : Type 1} → statement M
-read-requirements-spec =
+pub read_requirements_spec : {M : Type 1} → statement M
+read_requirements_spec =
     tie.close
     (tie.spec
     invariant-loop
@@ -67,6 +67,6 @@ read-requirements-spec =
     loop-again
     (λ c κs. search rules)
     returns-3
-    cast-t14
-    add-t15
+    cast-result
+    add-result
     returns-4)

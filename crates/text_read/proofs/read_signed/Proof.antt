@@ -6,32 +6,32 @@ use borrow.Author.Rules.{rules}
 use Rattle.text_read.proofs.read_signed.Statement.{statement}
 use Rattle.text_read.proofs.read_signed.Tie as tie
 
-add-read-natural : tie.Need-overflow-add-read-natural
-add-read-natural c = omega (arith, (byte_is 45 c.if1.true (omega arith) c.before.byte_at.ensures).0)
+add-read-natural : tie.Need-overflow_add-at
+add-read-natural c = omega (arith, (byte_is 45 c.if-c-eq45.true (omega arith) c.byte_at-c.ensures).0)
 
-returns : tie.Need-returns
-returns c = told_no c.before.if2.true (minus_no _ _ _ _ _ c.before.before.before.before.before.before.before.requires.1 c.before.before.before.before.before.byte_at.ensures c.before.before.before.before.if1.true _ (rejected c.before.if2.true c.before.before.before.read-natural.ensures)) (IsSigned c.before.before.before.before.before.before.before.args.bound) _ c.no_read.ensures
+returns : tie.Need-returns-then-k-ne0
+returns c = told_no c.if-k-ne0.true (minus_no _ _ _ _ _ c.requires.1 c.byte_at-c.ensures c.if-c-eq45.true _ (rejected c.if-k-ne0.true c.read_natural-k.ensures)) (IsSigned c.args.bound) _ c.no_read.ensures
 
-returns-2 : tie.Need-returns-2
-returns-2 c = told_no (λ k. omega (arith, c.before.before.before.before.before.before.before.before.before.requires.0.some)) (minus_zero _ _ _ _ _ c.before.before.before.before.before.before.before.before.before.requires.1 c.before.before.before.before.before.before.before.byte_at.ensures c.before.before.before.before.before.before.if1.true _ _ c.before.if3.true (accepted c.before.before.before.if2.false c.before.before.before.before.before.read-natural.ensures)) (IsSigned c.before.before.before.before.before.before.before.before.before.args.bound) _ c.no-read2.ensures
+returns-2 : tie.Need-returns-then-k-eq0
+returns-2 c = told_no (λ k. omega (arith, c.requires.0.some)) (minus_zero _ _ _ _ _ c.requires.1 c.byte_at-c.ensures c.if-c-eq45.true _ _ c.if-k-eq0.true (accepted c.if-k-ne0.false c.read_natural-k.ensures)) (IsSigned c.args.bound) _ c.no_read-then-k-eq0.ensures
 
-sub-t10 : tie.Need-overflow-sub-t10
-sub-t10 c = let x = accepted c.before.before.before.if2.false c.before.before.before.before.before.read-natural.ensures in omega (arith, x.is.same, x.is.low, c.before.before.before.before.before.before.before.before.before.requires.1)
+sub-t10 : tie.Need-overflow_sub-result
+sub-t10 c = let x = accepted c.if-k-ne0.false c.read_natural-k.ensures in omega (arith, x.is.same, x.is.low, c.requires.1)
 
-returns-3 : tie.Need-returns-3
-returns-3 c = minus_took _ _ _ _ _ c.before.before.before.before.before.before.before.before.before.requires.1 c.before.before.before.before.before.before.before.byte_at.ensures c.before.before.before.before.before.before.if1.true _ _ c.before.if3.false (accepted c.before.before.before.if2.false c.before.before.before.before.before.read-natural.ensures)
+returns-3 : tie.Need-returns-then-c-eq45
+returns-3 c = minus_took _ _ _ _ _ c.requires.1 c.byte_at-c.ensures c.if-c-eq45.true _ _ c.if-k-eq0.false (accepted c.if-k-ne0.false c.read_natural-k.ensures)
 
-returns-4 : tie.Need-returns-4
-returns-4 c = told_no c.before.if4.true (plus_no _ _ _ _ _ c.before.before.before.before.before.before.before.requires.1 c.before.before.before.before.before.byte_at.ensures c.before.before.before.before.if1.false _ (rejected c.before.if4.true c.before.before.before.read-natural2.ensures)) (IsSigned c.before.before.before.before.before.before.before.args.bound) _ c.no-read3.ensures
+returns-4 : tie.Need-returns-then-k-ne0-2
+returns-4 c = told_no c.if-k-ne0-2.true (plus_no _ _ _ _ _ c.requires.1 c.byte_at-c.ensures c.if-c-eq45.false _ (rejected c.if-k-ne0-2.true c.read_natural-k-2.ensures)) (IsSigned c.args.bound) _ c.no_read-then-k-ne0-2.ensures
 
-add-t12 : tie.Need-overflow-add-t12
-add-t12 c = let x = accepted c.before.if4.false c.before.before.before.read-natural2.ensures in omega (arith, x.is.same, x.is.low, c.before.before.before.before.before.before.before.requires.1)
+add-t12 : tie.Need-overflow_add-result
+add-t12 c = let x = accepted c.if-k-ne0-2.false c.read_natural-k-2.ensures in omega (arith, x.is.same, x.is.low, c.requires.1)
 
-returns-5 : tie.Need-returns-5
-returns-5 c = plus_took _ _ _ _ _ c.before.before.before.before.before.before.before.requires.1 c.before.before.before.before.before.byte_at.ensures c.before.before.before.before.if1.false _ _ (accepted c.before.if4.false c.before.before.before.read-natural2.ensures)
+returns-5 : tie.Need-returns
+returns-5 c = plus_took _ _ _ _ _ c.requires.1 c.byte_at-c.ensures c.if-c-eq45.false _ _ (accepted c.if-k-ne0-2.false c.read_natural-k-2.ensures)
 
-pub read-signed-spec : {M : Type 1} → statement M
-read-signed-spec =
+pub read_signed_spec : {M : Type 1} → statement M
+read_signed_spec =
     tie.close
     (tie.spec
     (λ c κs. search rules)

@@ -7,17 +7,17 @@ use borrow.Author.Rules.{rules}
 use Rattle.text_read.proofs.read_start.Statement.{statement}
 use Rattle.text_read.proofs.read_start.Tie as tie
 
-returns : tie.Need-returns
-returns c = told_no c.before.if1.true (start_no c.before.before.before.before.before.args.s.now c.before.before.before.before.before.args.at c.before.before.before.before.before.args.i _ (rejected c.before.if1.true c.before.before.before.read-natural.ensures)) (λ v. Any) _ c.no_read.ensures
+returns : tie.Need-returns-then-k-ne0
+returns c = told_no c.if-k-ne0.true (start_no c.args.s.now c.args.at c.args.i _ (rejected c.if-k-ne0.true c.read_natural-k.ensures)) (λ v. Any) _ c.no_read.ensures
 
-returns-2 : tie.Need-returns-2
-returns-2 c = told_no (λ k. omega arith) (start_other c.before.before.before.before.before.before.before.args.s.now c.before.before.before.before.before.before.before.args.at c.before.before.before.before.before.before.before.args.i _ _ c.before.if2.true (accepted c.before.before.before.if1.false c.before.before.before.before.before.read-natural.ensures)) (λ v. Any) _ c.no-read2.ensures
+returns-2 : tie.Need-returns-then-k-i
+returns-2 c = told_no (λ k. omega arith) (start_other c.args.s.now c.args.at c.args.i _ _ c.if-k-i.true (accepted c.if-k-ne0.false c.read_natural-k.ensures)) (λ v. Any) _ c.no_read-then-k-i.ensures
 
-returns-3 : tie.Need-returns-3
-returns-3 c = blank_on _ _ _ _ (λ v. Any) _ _ _ (omega arith) (start_is c.before.before.before.before.before.before.before.args.s.now c.before.before.before.before.before.before.before.args.at c.before.before.before.before.before.before.before.args.i _ _ c.before.if2.false (accepted c.before.before.before.if1.false c.before.before.before.before.before.read-natural.ensures)) tt c.behind-blank.ensures
+returns-3 : tie.Need-returns
+returns-3 c = blank_on _ _ _ _ (λ v. Any) _ _ _ (omega arith) (start_is c.args.s.now c.args.at c.args.i _ _ c.if-k-i.false (accepted c.if-k-ne0.false c.read_natural-k.ensures)) tt c.behind_blank.ensures
 
-pub read-start-spec : {M : Type 1} → statement M
-read-start-spec =
+pub read_start_spec : {M : Type 1} → statement M
+read_start_spec =
     tie.close
     (tie.spec
     (λ c κs. search rules)

@@ -9,29 +9,29 @@ use borrow.Author.Rules.{rules}
 use Rattle.text_read.proofs.read_text.Statement.{statement}
 use Rattle.text_read.proofs.read_text.Tie as tie
 
-abbrev invariant-loop : tie.invariant-loop
+abbrev invariant-loop : tie.invariant-loop-i
 invariant-loop s shop₀ p₀ i₀ shop p i = (i ≤ slot_count) × Lines s i p shop
 
-abbrev decreases-loop : tie.decreases-loop
+abbrev decreases-loop : tie.decreases-loop-i
 decreases-loop s shop₀ p₀ i₀ shop p i = slot_count - i
 
-loop-holds : tie.Need-loop-init invariant-loop decreases-loop
-loop-holds c = (omega arith, lines_start _ _ c.empty-shop.ensures)
+loop-holds : tie.Need-loop-i-init invariant-loop decreases-loop
+loop-holds c = (omega arith, lines_start _ _ c.empty_shop-shop.ensures)
 
-returns : tie.Need-returns invariant-loop decreases-loop
-returns c = lines_no _ _ _ _ c.before.before.before.before.before.loop.invariant.1 c.before.before.before.before.loop-test.true _ (rejected c.before.if1.true c.before.before.before.read-line.ensures) _ c.no_text.ensures
+returns : tie.Need-returns-then-k-ne0 invariant-loop decreases-loop
+returns c = lines_no _ _ _ _ c.loop-i.invariant.1 c.loop-i-test.true _ (rejected c.if-k-ne0.true c.read_line-k.ensures) _ c.no_text.ensures
 
-loop-again : tie.Need-loop-preserved invariant-loop decreases-loop
-loop-again c = (omega arith, lines_next _ _ _ _ c.before.before.before.before.before.loop.invariant.1 c.before.before.before.before.loop-test.true _ _ (accepted c.before.if1.false c.before.before.before.read-line.ensures) _ refl)
+loop-again : tie.Need-loop-i-preserved invariant-loop decreases-loop
+loop-again c = (omega arith, lines_next _ _ _ _ c.loop-i.invariant.1 c.loop-i-test.true _ _ (accepted c.if-k-ne0.false c.read_line-k.ensures) _ refl)
 
-returns-2 : tie.Need-returns-2 invariant-loop decreases-loop
-returns-2 c = lines_over _ _ _ _ c.before.before.before.loop.invariant.1 c.before.before.loop-test.false c.before.before.before.loop.invariant.0 c.before.if2.true _ c.no-text2.ensures
+returns-2 : tie.Need-returns-then-p-s invariant-loop decreases-loop
+returns-2 c = lines_over _ _ _ _ c.loop-i.invariant.1 c.loop-i-test.false c.loop-i.invariant.0 c.if-p-s.true _ c.no_text-then-p-s.ensures
 
-returns-3 : tie.Need-returns-3 invariant-loop decreases-loop
-returns-3 c = lines_done _ _ _ _ c.before.before.loop.invariant.1 c.before.loop-test.false c.before.before.loop.invariant.0 c.if2.false
+returns-3 : tie.Need-returns invariant-loop decreases-loop
+returns-3 c = lines_done _ _ _ _ c.loop-i.invariant.1 c.loop-i-test.false c.loop-i.invariant.0 c.if-p-s.false
 
-pub read-text-spec : {M : Type 1} → statement M
-read-text-spec =
+pub read_text_spec : {M : Type 1} → statement M
+read_text_spec =
     tie.close
     (tie.spec
     invariant-loop

@@ -3,11 +3,11 @@ use borrow.Author.Rules.{rules}
 use Rattle.reclaim_pack.proofs.answer.keep_birth.Statement.{statement}
 use Rattle.reclaim_pack.proofs.answer.keep_birth.Tie as tie
 
-returns : tie.Need-returns
-returns c = (rw c.before.if1.true, rw c.before.if1.true)
+returns : tie.Need-returns-then-lives
+returns c = (rw c.if-lives.true, rw c.if-lives.true)
 
-pub keep-birth-spec : {M : Type 1} → statement M
-keep-birth-spec =
+pub keep_birth_spec : {M : Type 1} → statement M
+keep_birth_spec =
     tie.close
     (tie.spec
     (λ c. search rules)

@@ -4,8 +4,11 @@ use borrow.Author.Rules.{rules}
 use Rattle.reclaim_pack.proofs.answer.moved_word.Statement.{statement}
 use Rattle.reclaim_pack.proofs.answer.moved_word.Tie as tie
 
-returns : tie.Need-returns
-returns c = rw c.if1.true (add-one _)
+returns : tie.Need-returns-then-lives
+returns c = rw c.if-lives.true (add-one _)
 
-pub moved-word-spec : {M : Type 1} → statement M
-moved-word-spec = tie.close (tie.spec (λ c. search rules) returns (λ c. search rules))
+pub moved_word_spec : {M : Type 1} → statement M
+moved_word_spec = tie.close (tie.spec
+    (λ c. search rules)
+    returns
+    (λ c. search rules))
