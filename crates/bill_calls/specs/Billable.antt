@@ -25,8 +25,8 @@ use Rattle.library.specs.Delivered.{Asked, AsPromised, Made, compile, means_of, 
 use Rattle.bill_model.specs.Tariff.{Tariff, tariff_refusal}
 use Rattle.bill_model.specs.Bill.{leaves}
 use Rattle.bill_model.specs.Sorting.{bill_by_item}
-use Rattle.bill_model.specs.Totals.{by_item_answer}
-use Rattle.bill_model.specs.Left.{LeftBy, TakesFrom, counts_from, left_by_lem}
+use Rattle.bill_model.proofs.Totals.{by_item_answer}
+use Rattle.bill_model.proofs.Left.{LeftBy, TakesFrom, counts_from, left_by_lem}
 use Rattle.bill.specs.Billed.{BilledAs}
 
 -- ---- the shop accepted last at a block passed 1 and 8

@@ -7,9 +7,9 @@ use Rattle.model.specs.Limits.{entry_limit, slot_count, user_count}
 use Rattle.model.specs.Sheet as Model
 use Rattle.model.specs.Sheet.{all}
 use Rattle.rights_model.specs.Rights.{Edit, Field, LastEdit, Table, after_edits, answers, edit_call, edit_refusal, field_of, may_change, show_call, touches}
-use Rattle.rights_model.specs.Fields.{allowed}
-use Rattle.rights_model.specs.Changed.{changed, held_in}
-use Rattle.rights_model.specs.Seen.{AlikeTo, answers_same, seen_same}
+use Rattle.rights_model.proofs.Fields.{allowed}
+use Rattle.rights_model.proofs.Changed.{changed, held_in}
+use Rattle.rights_model.proofs.Seen.{AlikeTo, answers_same, seen_same}
 use Rattle.shop.specs.Shapes.{sheet_of}
 use Rattle.shop_arrays.specs.Arrays.{Arrays}
 use Rattle.shop_arrays.specs.Back.{Full}

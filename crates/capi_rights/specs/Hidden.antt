@@ -6,7 +6,7 @@ use Rattle.std.proofs.Math.Decide.{ℕ_discrete}
 use Rattle.model.specs.Limits.{entry_limit, slot_count}
 use Rattle.model.specs.Sheet as Model
 use Rattle.rights_model.specs.Rights.{Table, edit_refusal}
-use Rattle.rights_model.specs.Fields.{allowed}
+use Rattle.rights_model.proofs.Fields.{allowed}
 use Rattle.shop_arrays.specs.Arrays.{Arrays}
 use Rattle.shop_arrays.specs.Back.{Full, same_arrays}
 use Rattle.shop_arrays.specs.Slots.{row_at_lem}

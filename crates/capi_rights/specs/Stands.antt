@@ -10,7 +10,7 @@ use Rattle.model.specs.Refusal.{check, no_user}
 use Rattle.model.specs.Sheet as Model
 use Rattle.model.specs.Shop.{Slot}
 use Rattle.rights_model.specs.Rights.{Edit, Edited, Table, edit_call, edit_refusal, show_call}
-use Rattle.rights_model.specs.Fields.{allowed}
+use Rattle.rights_model.proofs.Fields.{allowed}
 use Rattle.shop.specs.Shapes.{no_shop, no_slot, slot_of, slots_of}
 use Rattle.shop.specs.declared.Shop.{Shop}
 use Rattle.shop.specs.declared.Slot as code

@@ -21,7 +21,7 @@ use Rattle.shop_arrays.specs.Slots.{slots_long, slot_in_lem}
 use Rattle.slots_text.specs.Written.{Wrote, text_limit}
 use Rattle.slots_text.specs.Lines.{beyond, FewEach, lines_space}
 use Rattle.text_model.specs.Text.{ReadText, slots, bad, read_text}
-use Rattle.text_model.specs.Reasons.{bad_told}
+use Rattle.text_model.proofs.Reasons.{bad_told}
 use Rattle.text_read.specs.Shops.{shop_for, text_shop}
 use Rattle.text_read.specs.declared.TextShop.{TextShop}
 use Rattle.capi_text.specs.Calls.{read_call, few, print_call}

@@ -27,10 +27,10 @@ use Rattle.shop_arrays.specs.Arrays.{Arrays, no_such_item, item_from, item_to, r
 use Rattle.shop_arrays.specs.Back.{Full}
 use Rattle.shop_arrays.specs.Slots.{slots_long, slot_in_lem}
 use Rattle.slots_text.specs.Written.{text_limit}
-use Rattle.text_model.specs.Fits.{both}
+use Rattle.text_model.proofs.Fits.{both}
 use Rattle.text_model.specs.Text.{ReadText, slots, bad, read_text, item_printable, req_printable, slot_printable, printable}
-use Rattle.text_model.specs.Reasons.{bad_told}
-use Rattle.text_model.specs.Inverse.{printed_reads, read_prints, read_printable}
+use Rattle.text_model.proofs.Reasons.{bad_told}
+use Rattle.text_model.proofs.Inverse.{printed_reads, read_prints, read_printable}
 use Rattle.text_read.specs.Shops.{item_for, slot_for, shop_for}
 use Rattle.text_read.specs.Back.{row_long, slot_few, shop_back}
 use Rattle.capi_text.specs.Calls.{read_call, wrote_text, few, print_call}

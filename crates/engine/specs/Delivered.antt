@@ -37,8 +37,8 @@ use Rattle.preview.specs.Agree.{AgreesCall, call_agrees, preview_agrees}
 use Rattle.reclaim_model.specs.Rename.{Every, links_of}
 use Rattle.reclaim_model.specs.Reclaim.{moved_word, word_tells}
 use Rattle.reclaim_model.specs.Changes as change
-use Rattle.reclaim_model.specs.Laws.Others.{AsWas}
-use Rattle.reclaim_model.specs.Laws.Renames.{rename_agree, rename_same}
+use Rattle.reclaim_model.proofs.Laws.Others.{AsWas}
+use Rattle.reclaim_model.proofs.Laws.Renames.{rename_agree, rename_same}
 use Rattle.reclaim_record.specs.Calls.{change_refusal_in, changed_in, changes_in, moved_in, number_after_in, reclaim_refusal_in}
 use Rattle.reclaim_record.specs.Moved.{moved_tells}
 use Rattle.reclaim_record.specs.Stands.{LongBorn}

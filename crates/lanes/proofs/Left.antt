@@ -20,7 +20,7 @@ use Rattle.shop.specs.Shapes.{sheet_of}
 use Rattle.shop.specs.declared.Sheet as code
 use Rattle.lanes_model.specs.Walk.{Walked, unless_refused, blocks_entered}
 use Rattle.lanes_model.specs.Flat.{part, saves_from, saves_in, joined, left_by, walk_in, walk_refusal_in}
-use Rattle.lanes_model.specs.Laws.Walks.{by_lanes, PassedIn, walk_passed_in, walk_in_lem}
+use Rattle.lanes_model.proofs.Laws.Walks.{by_lanes, PassedIn, walk_passed_in, walk_in_lem}
 use Rattle.lanes.specs.Alone.{Alone, one_walked}
 use Rattle.lanes.specs.Calls.{left_of}
 use Rattle.lanes.specs.Walks.{rans_from, LanesWalked}

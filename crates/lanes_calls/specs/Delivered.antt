@@ -24,8 +24,8 @@ use Rattle.reclaim_record.specs.Stands.{LongBorn}
 use Rattle.engine.specs.Delivered as engine
 use Rattle.library.specs.Delivered.{AsPromised, Made, call_by, followed, made, promises}
 use Rattle.lanes_model.specs.Flat.{Left, left_by, saves_in, saves_ok, walk_in, walk_refusal_in}
-use Rattle.lanes_model.specs.Laws.Ends.{walk_ends_in}
-use Rattle.lanes_model.specs.Laws.Walks.{saves_many, walk_passed_in}
+use Rattle.lanes_model.proofs.Laws.Ends.{walk_ends_in}
+use Rattle.lanes_model.proofs.Laws.Walks.{saves_many, walk_passed_in}
 use Rattle.lanes_calls.specs.Record.{Served, walk_served}
 
 -- a walk of n saves that lie in f, as it was answered: w is what it answered and left, rs, es and vs what the arrays held before

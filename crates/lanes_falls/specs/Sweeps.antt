@@ -13,7 +13,7 @@ use Rattle.reclaim_model.specs.Reclaim.{mark_roots}
 use Rattle.reclaim_reach.specs.Words.{links_at, Safe}
 use Rattle.reclaim_reach.specs.Marks.{blocks_of, links_in}
 use Rattle.lanes_model.specs.Falls.{falls_at, marks_after, sweep, falls}
-use Rattle.lanes_model.specs.Laws.Falls.{falls_any}
+use Rattle.lanes_model.proofs.Laws.Falls.{falls_any}
 use Rattle.lanes_falls.specs.Marking.{Fits, Marking}
 
 -- what falls_from answers, whatever the expressions

@@ -5,7 +5,7 @@ use Rattle.model.specs.Sheet.{all}
 use Rattle.model.specs.Script.{Block, block_at}
 use Rattle.reclaim_model.specs.Rename.{links_of}
 use Rattle.reclaim_model.specs.Reclaim.{mark_roots}
-use Rattle.reclaim_model.specs.Laws.Reached.{Leads}
+use Rattle.reclaim_model.proofs.Laws.Reached.{Leads}
 
 -- ---- by paths
 

@@ -1,6 +1,3 @@
 pub mod Falls
 pub mod Walk
 pub mod Flat
-pub mod Lanes
-pub mod Laws
-pub mod Cases

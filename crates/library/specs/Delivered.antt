@@ -27,7 +27,7 @@ use Rattle.preview.specs.Shown.{previewed_of}
 use Rattle.preview.specs.Agree.{AgreesCall}
 use Rattle.preview.specs.Accepted.{with_all}
 use Rattle.reclaim_model.specs.Changes.{given_to, names_of}
-use Rattle.reclaim_model.specs.Laws.Others.{AsWas}
+use Rattle.reclaim_model.proofs.Laws.Others.{AsWas}
 use Rattle.reclaim_record.specs.Stands.{LongBorn}
 use Rattle.reclaim.specs.Answer.{ReclaimedAs}
 use Rattle.capi.specs.declared.Kept.{Kept}

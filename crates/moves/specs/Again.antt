@@ -23,9 +23,9 @@ use Rattle.reclaim_record.specs.Stands.{LongBorn}
 use Rattle.reclaim_record.specs.Compiles.{passed_in}
 use Rattle.capi.specs.Answers.{loader_by}
 use Rattle.library.specs.Delivered.{delivered, left_by, shop_of, shop_long}
-use Rattle.moves_model.specs.Again.{shifted}
-use Rattle.moves_model.specs.Shifted.{shop_shifted}
-use Rattle.moves_model.specs.Settles.{shop_again}
+use Rattle.moves_model.proofs.Again.{shifted}
+use Rattle.moves_model.proofs.Shifted.{shop_shifted}
+use Rattle.moves_model.proofs.Settles.{shop_again}
 use Rattle.moves.specs.Rounds.{Compiled, ReadBack, Round, Rounds, appended_by, calls_of}
 
 -- ---- what an accepted compile appended

@@ -16,7 +16,7 @@ use Rattle.capi.specs.declared.Ran.{Ran}
 use Rattle.capi.specs.Answers.{ran_as}
 use Rattle.library.specs.Delivered.{Asked, compile, reclaim, Made, AsPromised, delivered, given_by, left_by, made, shop_long}
 use Rattle.moves_model.specs.OneMore.{OneMore, Differ}
-use Rattle.moves_model.specs.Differs.{means_differ}
+use Rattle.moves_model.proofs.Differs.{means_differ}
 
 -- ---- a shop that was accepted has twenty slots
 

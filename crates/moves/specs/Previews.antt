@@ -20,7 +20,7 @@ use Rattle.capi.specs.declared.Previewed.{Previewed}
 use Rattle.capi.specs.Answers.{previewed_as}
 use Rattle.library.specs.Delivered.{shop_of, shop_long}
 use Rattle.moves_model.specs.OneMore.{Lower, OneMore, same, stocks}
-use Rattle.moves_model.specs.Held.{after_lower, slot_near}
+use Rattle.moves_model.proofs.Held.{after_lower, slot_near}
 
 -- what may differ between the answers of two previews, -1 standing where there is no item: of a slot of the item with limit above 1 the count, which is lower by 0 or 1, and variable 0 likewise
 pub record PreviewsDiffer (h : Sheet) (w : ℕ) (xs : List Slot) (p q : Previewed) : Type 0 where

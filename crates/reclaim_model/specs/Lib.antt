@@ -2,5 +2,3 @@ pub mod Rename
 pub mod Reclaim
 pub mod Changes
 pub mod Laws
-pub mod Cases
-pub mod Demand

@@ -11,8 +11,8 @@ use Rattle.model.specs.Limits.{block_limit, command_limit}
 use Rattle.model.specs.Memory.{memory_in, block_words}
 use Rattle.memory.specs.PutBlocks.{FiveWords, five_long, five_other, five_hold}
 use Rattle.reclaim_model.specs.Reclaim.{rank}
-use Rattle.reclaim_model.specs.Laws.Survivors.{rank_grows, rank_most}
-use Rattle.reclaim_model.specs.Laws.Reached.{mark_in}
+use Rattle.reclaim_model.proofs.Laws.Survivors.{rank_grows, rank_most}
+use Rattle.reclaim_model.proofs.Laws.Reached.{mark_in}
 use Rattle.reclaim_record.specs.Packed.{follow_code, follow_link, Packed}
 use Rattle.reclaim_pack.specs.Table.{plus_if, rank_to, ranks_to, table_rank, Ranks, Small, followed_at, followed_to, packed_at, packed_to}
 use Rattle.reclaim_pack.specs.Laws.{rank_low}

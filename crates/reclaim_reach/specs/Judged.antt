@@ -17,8 +17,8 @@ use Rattle.memory.specs.RecordLaws.{judged_sound}
 use Rattle.memory.specs.Transfer.{accepted_script, blocks_counted, judged_kept}
 use Rattle.reclaim_model.specs.Rename.{links_of, Every}
 use Rattle.reclaim_model.specs.Reclaim.{reached}
-use Rattle.reclaim_model.specs.Laws.Reached.{Leads, root, onward, marks_are, reached_long, reached_root, reached_closed, reached_only}
-use Rattle.reclaim_model.specs.Laws.Reclaimed.{links_below, sound_at}
+use Rattle.reclaim_model.proofs.Laws.Reached.{Leads, root, onward, marks_are, reached_long, reached_root, reached_closed, reached_only}
+use Rattle.reclaim_model.proofs.Laws.Reclaimed.{links_below, sound_at}
 use Rattle.reclaim_reach.specs.Words.{links_at, Safe}
 use Rattle.reclaim_reach.specs.Marks.{blocks_of, Reaching, links_in}
 

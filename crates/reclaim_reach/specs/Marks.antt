@@ -9,7 +9,7 @@ use Rattle.memory.specs.RecordLaws.{block_at_lem}
 use Rattle.memory.specs.Transfer.{blocks_counted}
 use Rattle.reclaim_model.specs.Rename.{links_of, Every}
 use Rattle.reclaim_model.specs.Reclaim.{reached}
-use Rattle.reclaim_model.specs.Laws.Reached.{Leads, root, onward, mark_in, every_at, marks_are, every_of}
+use Rattle.reclaim_model.proofs.Laws.Reached.{Leads, root, onward, mark_in, every_at, marks_are, every_of}
 use Rattle.reclaim_reach.specs.Words.{links_at, links_are, every_to, below_low, Safe, SafeAt}
 use Rattle.reclaim_reach.specs.Queue.{Queue, queue_in, IsLive, Queued}
 use Rattle.reclaim_reach.specs.Pieces.{Marking}

@@ -8,7 +8,7 @@ use borrow.Author.Tests.{ne_eqb}
 use Rattle.model.specs.Limits.{block_limit, command_limit}
 use Rattle.model.specs.Memory.{Coded, Memory, command_word, set_in, command_by, command_in, commands_in, block_word, link_in, block_by, block_in}
 use Rattle.reclaim_model.specs.Rename.{target, with_link, targets, links_of, Every}
-use Rattle.reclaim_model.specs.Laws.Reclaimed.{every_both}
+use Rattle.reclaim_model.proofs.Laws.Reclaimed.{every_both}
 
 -- Goto, If and EndIf
 unfoldable pub names_block : ℕ → Bool

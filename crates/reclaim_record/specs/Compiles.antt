@@ -8,7 +8,7 @@ use Rattle.model.specs.Memory.{script_of}
 use Rattle.model.specs.Compile.{Call, compile_checks, fresh_blocks, room_refusal}
 use Rattle.model.specs.RecordCalls.{Born, born_at, call_in, compile_refusal_in, compiled_in, record_refusal}
 use Rattle.model.proofs.Laws.Checks.{CompilePassed, compile_passed}
-use Rattle.reclaim_model.specs.Laws.Born.{then_later}
+use Rattle.reclaim_model.proofs.Laws.Born.{then_later}
 
 module _ (h : Sheet) (k : Born) (c : Call) where
   pub passed_in : compile_refusal_in h k c ≡ 0 → CompilePassed h (record_refusal k.memory) (born_at k c.setup) (script_of k.memory) c

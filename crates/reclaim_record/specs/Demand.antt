@@ -28,10 +28,10 @@ use Rattle.model.proofs.Laws.Refused.{Proper}
 use Rattle.memory.specs.RecordLaws.{proper_record}
 use Rattle.reclaim_model.specs.Rename.{links_of}
 use Rattle.reclaim_model.specs.Changes.{BornScript, Change, compile, reclaim, changes}
-use Rattle.reclaim_model.specs.Demand.{Demand3Mixed, demand_3_mixed}
-use Rattle.reclaim_model.specs.Laws.Mixed.{birth_all, carried_all_lem}
-use Rattle.reclaim_model.specs.Laws.Others.{AsWas}
-use Rattle.reclaim_model.specs.Laws.Renames.{every_all, rename_same}
+use Rattle.reclaim_model.proofs.Demand.{Demand3Mixed, demand_3_mixed}
+use Rattle.reclaim_model.proofs.Laws.Mixed.{birth_all, carried_all_lem}
+use Rattle.reclaim_model.proofs.Laws.Others.{AsWas}
+use Rattle.reclaim_model.proofs.Laws.Renames.{every_all, rename_same}
 use Rattle.reclaim_record.specs.Calls.{change_refusal_in, changed_in, changes_in, number_after_in}
 use Rattle.reclaim_record.specs.Checks.{refused_stays, was_judged}
 use Rattle.reclaim_record.specs.Compiles.{compile_stays, later_refused, passed_in}

@@ -15,9 +15,9 @@ use Rattle.memory.specs.Transfer.{accepted_script, blocks_counted}
 use Rattle.reclaim_model.specs.Rename.{rename_block}
 use Rattle.reclaim_model.specs.Reclaim.{kept_blocks, rank, survivors}
 use Rattle.reclaim_model.specs.Changes.{kept_only}
-use Rattle.reclaim_model.specs.Laws.Reached.{reached_long}
-use Rattle.reclaim_model.specs.Laws.Survivors.{rank_most}
-use Rattle.reclaim_model.specs.Laws.Reclaimed.{commands_same, length_kept, nodes_renamed, reclaim_held, reclaim_judged, sum_map}
+use Rattle.reclaim_model.proofs.Laws.Reached.{reached_long}
+use Rattle.reclaim_model.proofs.Laws.Survivors.{rank_most}
+use Rattle.reclaim_model.proofs.Laws.Reclaimed.{commands_same, length_kept, nodes_renamed, reclaim_held, reclaim_judged, sum_map}
 use Rattle.reclaim_record.specs.Calls.{reclaim_refusal_in, lives_in, kept_only_in, reclaimed_in}
 use Rattle.reclaim_record.specs.Stands.{born_script, fresh_put}
 use Rattle.reclaim_record.specs.Checks.{was_judged}

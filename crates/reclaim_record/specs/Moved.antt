@@ -6,8 +6,8 @@ use Rattle.model.specs.RecordCalls.{Born}
 use Rattle.memory.specs.Transfer.{blocks_counted, judged_kept}
 use Rattle.reclaim_model.specs.Reclaim.{moved_word}
 use Rattle.reclaim_model.specs.Changes.{reclaim}
-use Rattle.reclaim_model.specs.Laws.Moved.{moved_at}
-use Rattle.reclaim_model.specs.Laws.Reached.{reached_long}
+use Rattle.reclaim_model.proofs.Laws.Moved.{moved_at}
+use Rattle.reclaim_model.proofs.Laws.Reached.{reached_long}
 use Rattle.reclaim_record.specs.Calls.{reclaim_refusal_in, lives_in, moved_in, number_after_in}
 use Rattle.reclaim_record.specs.Checks.{was_judged}
 

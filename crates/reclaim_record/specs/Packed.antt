@@ -20,9 +20,9 @@ use Rattle.memory.specs.RecordLaws.{block_at_lem, judged_sound}
 use Rattle.memory.specs.Transfer.{accepted_record, accepted_script, blocks_counted}
 use Rattle.reclaim_model.specs.Rename.{rename_link, rename_command, rename_block}
 use Rattle.reclaim_model.specs.Reclaim.{kept_blocks, rank, survivors}
-use Rattle.reclaim_model.specs.Laws.Reached.{mark_in, reached_long}
-use Rattle.reclaim_model.specs.Laws.Survivors.{length_left, left_at, left_from_lem}
-use Rattle.reclaim_model.specs.Laws.Reclaimed.{reclaim_held}
+use Rattle.reclaim_model.proofs.Laws.Reached.{mark_in, reached_long}
+use Rattle.reclaim_model.proofs.Laws.Survivors.{length_left, left_at, left_from_lem}
+use Rattle.reclaim_model.proofs.Laws.Reclaimed.{reclaim_held}
 use Rattle.reclaim_record.specs.Calls.{lives_in}
 
 -- the fourth word of a command of code k: a block for Goto, If and EndIf

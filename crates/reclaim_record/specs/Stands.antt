@@ -32,10 +32,10 @@ use Rattle.memory.specs.RecordLaws.{block_at_lem, judged_sound}
 use Rattle.memory.specs.Transfer.{accepted_record, accepted_script, blocks_counted, compile_transfer}
 use Rattle.reclaim_model.specs.Reclaim.{kept_blocks, survivors}
 use Rattle.reclaim_model.specs.Changes.{BornScript, birth_at, compile_refusal_born, appended_born, compiled_born, reclaim_refusal, lives, kept_only, reclaimed, Change, compile, reclaim, change_refusal, changed, number_after, changes}
-use Rattle.reclaim_model.specs.Laws.Born.{Borne, accepted_plain, passed_born}
-use Rattle.reclaim_model.specs.Laws.Reached.{reached_long}
-use Rattle.reclaim_model.specs.Laws.Survivors.{length_left, rank_most}
-use Rattle.reclaim_model.specs.Laws.Reclaimed.{length_kept, reclaim_judged}
+use Rattle.reclaim_model.proofs.Laws.Born.{Borne, accepted_plain, passed_born}
+use Rattle.reclaim_model.proofs.Laws.Reached.{reached_long}
+use Rattle.reclaim_model.proofs.Laws.Survivors.{length_left, rank_most}
+use Rattle.reclaim_model.proofs.Laws.Reclaimed.{length_kept, reclaim_judged}
 use Rattle.reclaim_record.specs.Calls.{reclaim_refusal_in, lives_in, emptied, kept_only_in, reclaimed_in, change_refusal_in, changed_in, number_after_in, changes_in}
 
 pub record Stands (k : Born) (m : BornScript) : Type 0 where

@@ -9,7 +9,7 @@ use Rattle.model.specs.Limits.{entry_limit, slot_count, user_count}
 use Rattle.model.specs.Refusal.{no_user}
 use Rattle.model.specs.Sheet as Model
 use Rattle.rights_model.specs.Rights.{Rights, Table, edit_refusal}
-use Rattle.rights_model.specs.Fields.{allowed}
+use Rattle.rights_model.proofs.Fields.{allowed}
 use Rattle.shop.specs.declared.Slot.{Slot}
 use Rattle.shop_arrays.specs.Arrays.{Arrays, arrays_in}
 use Rattle.shop_arrays.specs.Slots.{no_arrays}

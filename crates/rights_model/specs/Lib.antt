@@ -1,5 +1,1 @@
 pub mod Rights
-pub mod Fields
-pub mod Changed
-pub mod Seen
-pub mod Cases

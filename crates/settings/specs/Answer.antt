@@ -23,8 +23,8 @@ use Rattle.shop.specs.Slots.{slot_narrow}
 use Rattle.settings_model.specs.Settings as Counted
 use Rattle.settings_model.specs.Settings.{hidden_count, listed_count, rates, settings_as, settings_call, settings_checks, subject_of, subjects}
 use Rattle.settings_model.specs.Closed.{acquired_filled, bit, none_listed}
-use Rattle.settings_model.specs.Prefixes.{acquired_subjects, count_new}
-use Rattle.settings_model.specs.Call.{Counts, counts}
+use Rattle.settings_model.proofs.Prefixes.{acquired_subjects, count_new}
+use Rattle.settings_model.proofs.Call.{Counts, counts}
 use Rattle.model.specs.declared.ItemId.{ItemId}
 use Rattle.shop.specs.declared.Slot.{Slot}
 use Rattle.shop.specs.declared.SlotItem.TheVariants.{Nothing, Of}

@@ -14,7 +14,7 @@ use Rattle.shop_codes.specs.Laws.{same_code}
 use Rattle.shop_codes.specs.Subjects.{negate_narrow}
 use Rattle.settings_model.specs.Settings.{member_s, subject_of}
 use Rattle.settings_model.specs.Closed.{bit}
-use Rattle.settings_model.specs.Prefixes.{acquired_subjects, count_new, seen_is}
+use Rattle.settings_model.proofs.Prefixes.{acquired_subjects, count_new, seen_is}
 use Rattle.settings.specs.Codes.{lacks_is, lacks_code, negated_code_lem, negated_code}
 
 -- about the acquired subject, at limit 1

@@ -16,7 +16,7 @@ use Rattle.reclaim_record.specs.Stands.{LongBorn}
 use Rattle.settings_model.specs.Settings.{combos, count, listed_by, setting_of, settings_call, subjects}
 use Rattle.settings_model.specs.Combos.{each_once, same_list}
 use Rattle.settings_model.specs.Listed.{listed_item, setting_long}
-use Rattle.settings_model.specs.Call.{Told, told}
+use Rattle.settings_model.proofs.Call.{Told, told}
 use Rattle.settings.specs.declared.Settings.{Settings}
 use Rattle.settings.specs.Answer.{settings_of}
 use Rattle.capi.specs.declared.Ran.{Ran}

@@ -26,13 +26,13 @@ use Rattle.shop.specs.Codes.{sorted_narrow}
 use Rattle.shop.specs.Slots.{slot_narrow}
 use Rattle.shop_arrays.specs.Arrays.{Arrays, shop_from, slot_at}
 use Rattle.shop_arrays.specs.Slots.{slot_in_lem, slots_long}
-use Rattle.signed_model.specs.Saves.{Faithful, witness}
-use Rattle.signed_model.specs.Rule.{left_of, normal_left}
-use Rattle.signed_model.specs.Witness.{Tells}
-use Rattle.signed_model.specs.Places.{First}
+use Rattle.signed_model.proofs.Saves.{Faithful, witness}
+use Rattle.signed_model.proofs.Rule.{left_of, normal_left}
+use Rattle.signed_model.proofs.Witness.{Tells}
+use Rattle.signed_model.proofs.Places.{First}
 use Rattle.signed_model.specs.Findings as Told
 use Rattle.signed_model.specs.Findings.{faithful, pair, own, outside, check_call, check_checks, checked_as, finding, settings_for, verdict}
-use Rattle.signed_model.specs.Told.{Concerned, Right, is_apart, is_outside, shown_by, told_right}
+use Rattle.signed_model.proofs.Told.{Concerned, Right, is_apart, is_outside, shown_by, told_right}
 use Rattle.signed_check.specs.Answer.{checked_of, finding_of, no_finding, verdict_of}
 use Rattle.signed_check.specs.Shops.{slot_passed, with_shop}
 use Rattle.signed_check.specs.declared.Finding.{Finding}

@@ -30,10 +30,10 @@ use Rattle.capi.specs.declared.Ran.{Ran}
 use Rattle.capi.specs.Answers.{previewed_as, ran_as}
 use Rattle.library.specs.Delivered.{Delivered, Made, made, shop_of}
 use Rattle.faithful_model.specs.Faithful.{is_faithful}
-use Rattle.signed_model.specs.Witness.{Tells}
+use Rattle.signed_model.proofs.Witness.{Tells}
 use Rattle.signed_model.specs.Findings.{Verdict, faithful, pair, own, outside, check_call, finding, verdict}
-use Rattle.signed_model.specs.Told.{told_rule}
-use Rattle.signed_model.specs.Shops.{preview_same, shop_inside_lem, shop_ok}
+use Rattle.signed_model.proofs.Told.{told_rule}
+use Rattle.signed_model.proofs.Shops.{preview_same, shop_inside_lem, shop_ok}
 use Rattle.signed_check.specs.Answer.{checked_of, finding_of, no_finding, verdict_of}
 use Rattle.signed_check.specs.Shops.{shop_long}
 use Rattle.signed_check.specs.declared.Finding.{Finding}

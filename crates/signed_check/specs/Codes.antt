@@ -13,7 +13,7 @@ use Rattle.model.proofs.Laws.Places.{any_default}
 use Rattle.shop_codes.specs.Codes.{is_missing, of_kind, requirement_of, unshift}
 use Rattle.settings.specs.Codes.{lacks_code, negated_code}
 use Rattle.signed_model.specs.Findings.{Verdict, faithful, pair, own, outside, first_place, or_else}
-use Rattle.signed_model.specs.Places.{First, first_place_lem, place_first}
+use Rattle.signed_model.proofs.Places.{First, first_place_lem, place_first}
 
 -- c is a reason for the verdict of that number: 3 a flag outside, 1 a contradicting pair, else the acquired test
 unfoldable pub concerns_code : ℕ → ℕ → List ℕ → ℕ → Bool

@@ -34,7 +34,7 @@ use Rattle.settings.specs.Answer.{settings_of, item_none, item_some}
 use Rattle.settings.specs.declared.Settings.{Settings}
 use Rattle.signed_model.specs.Findings as Told
 use Rattle.signed_model.specs.Findings.{faithful, pair, own, outside, doubled, finding, first_place, limit_for, listed_as, settings_for, verdict, verdict_filled}
-use Rattle.signed_model.specs.Rule.{left_of, normal_left}
+use Rattle.signed_model.proofs.Rule.{left_of, normal_left}
 use Rattle.signed_check.specs.Codes.{concerns_code, left_code, pick, place_code, shown_code, verdict_code}
 use Rattle.signed_check.specs.Answer.{finding_of, verdict_of}
 use Rattle.signed_check.specs.declared.Finding.{Finding}

@@ -1,10 +1,1 @@
-pub mod Saves
-pub mod Holds
-pub mod Rule
-pub mod Witness
-pub mod Exact
-pub mod Shops
 pub mod Findings
-pub mod Places
-pub mod Told
-pub mod Cases

@@ -1,8 +1,1 @@
 pub mod Text
-pub mod Numbers
-pub mod Lines
-pub mod Inverse
-pub mod Reasons
-pub mod Fits
-pub mod Parsed
-pub mod Cases

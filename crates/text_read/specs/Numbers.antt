@@ -10,7 +10,7 @@ use Rattle.std.proofs.Math.Dec.{eqb}
 use Rattle.model.specs.Limits.{half32}
 use Rattle.model.specs.Reading.{Answer, got, refused, onward}
 use Rattle.text_model.specs.Text.{is_digit, read_digits, read_natural, negative, read_signed}
-use Rattle.text_model.specs.Numbers.{is_digit_lem}
+use Rattle.text_model.proofs.Numbers.{is_digit_lem}
 use Rattle.text_read.specs.Told.{ByteAt, here, behind, Is, Other, DigitAt, digit, no_digit, Bound, Took, Told, took, left, no_read, IsNumber, IsSigned}
 use Rattle.text_read.specs.declared.Read.{Read}
 

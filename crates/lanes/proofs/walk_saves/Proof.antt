@@ -7,7 +7,7 @@ use Rattle.memory.specs.View.{memory_of}
 use Rattle.checks.specs.Calls.{save_of}
 use Rattle.shop.specs.Shapes.{sheet_of}
 use Rattle.runner.proofs.Checks.{call_ready}
-use Rattle.lanes_model.specs.Laws.Walks.{walk_passed_in}
+use Rattle.lanes_model.proofs.Laws.Walks.{walk_passed_in}
 use Rattle.lanes.proofs.Saves.{call_safe, saves_lie, saves_long}
 use Rattle.lanes.proofs.Left.{left_one, left_walked}
 use borrow.Author.Rules.{rules}

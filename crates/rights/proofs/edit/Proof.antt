@@ -8,7 +8,7 @@ use lib.ListN.{length}
 use Rattle.model.specs.Limits.{slot_count}
 use Rattle.model.proofs.Laws.Checks.{answered}
 use Rattle.rights_model.specs.Rights.{edit_refusal}
-use Rattle.rights_model.specs.Fields.{allowed}
+use Rattle.rights_model.proofs.Fields.{allowed}
 use Rattle.shop.specs.Shapes.{no_slot, placed, sheet_of}
 use Rattle.shop.specs.declared.Shop.{Shop}
 use Rattle.shop.specs.declared.Slot.{Slot}

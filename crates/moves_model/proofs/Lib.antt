@@ -1,0 +1,5 @@
+pub mod Held
+pub mod Differs
+pub mod Again
+pub mod Shifted
+pub mod Settles

@@ -1,0 +1,16 @@
+pub mod Walked
+pub mod RenamedParse
+pub mod Reached
+pub mod Survivors
+pub mod Reclaimed
+pub mod Renames
+pub mod Moved
+pub mod Answers
+pub mod Twice
+pub mod Born
+pub mod Lower
+pub mod Carried
+pub mod Mixed
+pub mod Others
+pub mod Later
+pub mod Counted

@@ -1,0 +1,3 @@
+pub mod Laws
+pub mod Cases
+pub mod Demand

@@ -1,0 +1,4 @@
+pub mod Fields
+pub mod Changed
+pub mod Seen
+pub mod Cases
