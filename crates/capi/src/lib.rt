@@ -109,7 +109,6 @@ fn previewed_by(p: preview::Previewed) -> Previewed
 }
 
 // The script of an image. A refused read hands out nothing: the arrays are zero then. An image carries no birth marks, so these and the count of compiles are 0 either way (02, A.2).
-#[unsafe(no_mangle)]
 pub extern "C" fn lk_read(
     bytes: &[u8],
     ws: &mut NodeWords,
@@ -129,7 +128,6 @@ pub extern "C" fn lk_read(
 }
 
 // The image of a script into a slice. Refused, the slice stays as it was.
-#[unsafe(no_mangle)]
 pub extern "C" fn lk_write(
     ws: &NodeWords,
     val: &Values,
@@ -151,7 +149,6 @@ pub extern "C" fn lk_write(
 }
 
 // Runs the blocks from start on, with the variables in vars. Refused by 1 to 12 it enters no block and writes nothing.
-#[unsafe(no_mangle)]
 pub extern "C" fn lk_run(
     attached: &[u8],
     atcs: u16,
@@ -200,7 +197,6 @@ pub extern "C" fn lk_run(
 }
 
 // Compiles the shop that the arrays stand for and links it at block setup, for the disc where loader is 0, else for the demo. The blocks that it appends bear the new count of compiles. Refused, nothing is written and the counts are those handed in.
-#[unsafe(no_mangle)]
 pub extern "C" fn lk_compile(
     attached: &[u8],
     atcs: u16,
@@ -250,7 +246,6 @@ pub extern "C" fn lk_compile(
 
 // Takes back the blocks that no root reaches by next, else and command targets: the others keep their order and get the numbers from 0 on,
 // links and birth marks follow them, and moved tells for each old block its new number and 1, or 0. The count of compiles is kept. Refused, nothing is written and the counts are those handed in.
-#[unsafe(no_mangle)]
 pub extern "C" fn lk_reclaim(
     ws: &mut NodeWords,
     val: &mut Values,
@@ -274,7 +269,6 @@ pub extern "C" fn lk_reclaim(
 
 // The arrays of a shop from any number of slots, each with a row of codes. As many slots are given as there are items; what another slice
 // lacks of them is 0. Slots past the twentieth are dropped unchecked, missing ones are empty.
-#[unsafe(no_mangle)]
 pub extern "C" fn lk_with_slots(
     items: &[i32],
     limits: &[i16],
@@ -293,7 +287,6 @@ pub extern "C" fn lk_with_slots(
 }
 
 // The shop that starts at block setup, into the arrays; refused, those of an empty shop.
-#[unsafe(no_mangle)]
 pub extern "C" fn lk_parse(
     attached: &[u8],
     atcs: u16,
@@ -334,7 +327,6 @@ pub extern "C" fn lk_parse(
 }
 
 // What the shop that the arrays stand for means under a save.
-#[unsafe(no_mangle)]
 pub extern "C" fn lk_preview(
     attached: &[u8],
     atcs: u16,

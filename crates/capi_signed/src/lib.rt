@@ -13,7 +13,6 @@ use shop::{Codes, SLOTS};
 use signed_check::{Checked, check_shop};
 
 // What is told of each slot; refused, every number is 0.
-#[unsafe(no_mangle)]
 pub extern "C" fn lk_check(
     attached: &[u8],
     atcs: u16,

@@ -79,7 +79,6 @@ fn few_each(lens: &[u8]) -> bool
 // ---- the calls
 
 // The shop of a text into its arrays. Refused, they are as they were.
-#[unsafe(no_mangle)]
 pub extern "C" fn lk_read_shop(
     text: &[u8],
     items: &mut [i32; SLOTS],
@@ -102,7 +101,6 @@ pub extern "C" fn lk_read_shop(
 }
 
 // The text of a shop from the start of the array on, and how long it is: 0, and nothing written, where a slot has more entries than may be given.
-#[unsafe(no_mangle)]
 pub extern "C" fn lk_print_shop(
     items: &[i32; SLOTS],
     limits: &[i16; SLOTS],

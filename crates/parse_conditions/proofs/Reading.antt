@@ -40,7 +40,7 @@ carried : (ws : List ℕ) (vs : List ℤ) (k : Known) (b i b' i' : ℕ) (g g' : 
 carried ws vs k b i b' i' g g' r ks ls ks' kd' cs' ls' s f x = record {
   added = λ z. let a = x.added z in
       record { place = a.place; grown = a.grown; long = a.long; up = a.up; few = a.few; same = a.same; entries = λ h n q. rw (f h n) (a.entries h n q) };
-  no_room_lem = λ z h n q. rw (f h n) (x.no_room z h n q);
+  no_room_lem = λ z h n q. rw (f h n) (x.no_room_lem z h n q);
 }
 
 nothing_added : (ws : List ℕ) (vs : List ℤ) (k : Known) (b i : ℕ) (g : Finds) (r : ℕ) (ks ls ks' kd' cs' : List ℕ) → Place ks' kd' cs' ls r → Grown ks (keys_of r) ks' (keys_of r)
@@ -74,7 +74,7 @@ module _ (ws : List ℕ) (vs : List ℤ) (k : Known) (b i : ℕ) (neg : Bool) (r
       pub join_full : mid ≡ full → ReadCondition ws vs k b i (λ h e. gathered h e neg) r ks ls ks1 kd1 cs1 ls1 full
       join_full z = record {
         added = λ w. absurd (w refl);
-        no_room_lem = λ w h n y u v. x.no_room z h n y (omega (arith, counted h n)) (omega (arith, counted h n));
+        no_room_lem = λ w h n y u v. x.no_room_lem z h n y (omega (arith, counted h n)) (omega (arith, counted h n));
       }
 
       module _ (ks2 kd2 cs2 ls2 : List ℕ) (s : ℕ) (o : mid ≡ full → ⊥) (y : ReadCondition ws vs k i q (all neg) mid ks1 ls1 ks2 kd2 cs2 ls2 s) where
@@ -99,7 +99,7 @@ module _ (ws : List ℕ) (vs : List ℤ) (k : Known) (b i : ℕ) (neg : Bool) (r
           no_room_lem = λ z h n t u v.
               let c = counted h n in
               let m = listing_length ks1 (keys_of mid) ls1 (used_of r) (gathered h (tree_below (nodes_in ws vs n) i l) neg) (used_of mid) (first.entries h n t) in
-              y.no_room z h n t (omega (arith, first.long)) (omega (arith, first.few, first.grown.long));
+              y.no_room_lem z h n t (omega (arith, first.long)) (omega (arith, first.few, first.grown.long));
         }
 
     pub read_not : toggles d ≡ true → (l : ℕ) (ks' kd' cs' ls' : List ℕ) (s : ℕ) → l ≡ get_or ws (3 * i + 1) 0

@@ -7,8 +7,7 @@ use Rattle.capi_rights.proofs.lk_edit.Tie as tie
 
 returns : tie.Need-returns
 returns c =
-    let s = c.before.before.before.before.before.before.before in
-    rw (c.before.before.before.before.before.sheet-by.ensures, to_z-of_z {w = w32} {z = s.args.item} s.ranges.item, to_z-of_z {w = w16} {z = s.args.limit} s.ranges.limit) at c.edit-arrays.ensures
+    rw (c.sheet_by-sheet.ensures, to_z-of_z {w = w32} {z = c.args.item} c.ranges.item, to_z-of_z {w = w16} {z = c.args.limit} c.ranges.limit) at c.edit_arrays.ensures
 
-pub lk-edit-spec : {M : Type 1} → statement M
-lk-edit-spec = tie.close (tie.spec (λ c κs. search rules) (λ c κs. search rules) returns)
+pub lk_edit_spec : {M : Type 1} → statement M
+lk_edit_spec = tie.close (tie.spec (λ c κs. search rules) (λ c κs. search rules) returns)

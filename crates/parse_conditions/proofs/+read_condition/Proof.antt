@@ -42,9 +42,8 @@ read-condition-claims t = (kind-of-reads.Asked, kind-of-reads.Learnt, is-join-re
 
 read-condition-returns : (t : ℕ) → read-condition-lts.Need-returns-then-b-i (read-condition-claims t) (read-condition-at t) read-condition.Post
 read-condition-returns t c =
-    let start = c.before.before.before.before.before in
-    read_out start.args.ws.now start.args.val.now start.args.known start.args.b start.args.i start.args.neg start.args.r _ _ _ _
-    start.requires.1.1 c.if-b-i.true
+    read_out c.args.ws.now c.args.val.now c.args.known c.args.b c.args.i c.args.neg c.args.r _ _ _ _
+    c.requires.1.1 c.if-b-i.true
 
 read-condition-read-condition-requires : (t : ℕ) → read-condition-lts.Need-read_condition-mid-requires (read-condition-claims t) (read-condition-at t) read-condition.Post
 read-condition-read-condition-requires t c κs = (
@@ -69,15 +68,8 @@ read-condition-same-length-4 t c = c.list-1.given
 
 read-condition-returns-2 : (t : ℕ) → read-condition-lts.Need-returns-then-mid (read-condition-claims t) (read-condition-at t) read-condition.Post
 read-condition-returns-2 t c =
-    let x9 = c.before.before.before.before.before.before.before.before.before in
-    let x14 = x9.before.before.before.before.before in
-    let x16 = x14.before.before in
-    let x17 = x16.before in
-    let x18 = x17.before in
-    let x20 = x18.before.before in
-    let start = x20.before.before.before.before.before.before in
-    join_full start.args.ws.now start.args.val.now start.args.known start.args.b start.args.i start.args.neg start.args.r _ _
-    x20.if-b-i.false _ x18.kind_of-k.ensures (sym x17.is_join.ensures ∙ x16.if-is_join.true) _ _ x14.index_of-l.ensures refl _ _ _ _ _ x9.read_condition-mid.ensures
+    join_full c.args.ws.now c.args.val.now c.args.known c.args.b c.args.i c.args.neg c.args.r _ _
+    c.if-b-i.false _ c.kind_of-k.ensures (sym c.is_join.ensures ∙ c.if-is_join.true) _ _ c.index_of-l.ensures refl _ _ _ _ _ c.read_condition-mid.ensures
     c.if-mid.true
 
 read-condition-read-condition-requires-2 :
@@ -92,15 +84,11 @@ read-condition-read-condition-requires-2 t c κs = (
 
 read-condition-same-length-5 : (t : ℕ) → read-condition-lts.Need-shape_of-keys-then-is_join (read-condition-claims t) (read-condition-at t) read-condition.Post
 read-condition-same-length-5 t c =
-    let x7 = c.before.before.before.before.before.before.before in
-    let start = x7.before.before.before.before.before.before.before.before.before.before.before.before.before.before.before.before in
-    x7.keys-then-is_join-1.given ∙ start.keys-1.given
+    c.keys-then-is_join-1.given ∙ c.keys-1.given
 
 read-condition-same-length-6 : (t : ℕ) → read-condition-lts.Need-shape_of-kids-then-is_join (read-condition-claims t) (read-condition-at t) read-condition.Post
 read-condition-same-length-6 t c =
-    let x5 = c.before.before.before.before.before in
-    let start = x5.before.before.before.before.before.before.before.before.before.before.before.before.before.before.before.before in
-    x5.kids-then-is_join-1.given ∙ start.kids-1.given
+    c.kids-then-is_join-1.given ∙ c.kids-1.given
 
 read-condition-same-length-7 : (t : ℕ) → read-condition-lts.Need-shape_of-companions-then-is_join (read-condition-claims t) (read-condition-at t) read-condition.Post
 read-condition-same-length-7 t c = c.companions-then-is_join-1.given ∙ c.companions-1.given
@@ -110,19 +98,9 @@ read-condition-same-length-8 t c = c.list-then-is_join-1.given ∙ c.list-1.give
 
 read-condition-returns-3 : (t : ℕ) → read-condition-lts.Need-returns-then-is_join (read-condition-claims t) (read-condition-at t) read-condition.Post
 read-condition-returns-3 t c =
-    let x8 = c.before.before.before.before.before.before.before.before in
-    let x13 = x8.before.before.before.before.before in
-    let x15 = x13.before.before in
-    let x24 = x15.before.before.before.before.before.before.before.before.before in
-    let x29 = x24.before.before.before.before.before in
-    let x31 = x29.before.before in
-    let x32 = x31.before in
-    let x33 = x32.before in
-    let x35 = x33.before.before in
-    let start = x35.before.before.before.before.before.before in
-    read_join start.args.ws.now start.args.val.now start.args.known start.args.b start.args.i start.args.neg start.args.r _ _
-    x35.if-b-i.false _ x33.kind_of-k.ensures (sym x32.is_join.ensures ∙ x31.if-is_join.true) _ _ x29.index_of-l.ensures x13.index_of-q.ensures _ _ _ _ _
-    x24.read_condition-mid.ensures _ _ _ _ _ x15.if-mid.false x8.read_condition.ensures
+    read_join c.args.ws.now c.args.val.now c.args.known c.args.b c.args.i c.args.neg c.args.r _ _
+    c.if-b-i.false _ c.kind_of-k.ensures (sym c.is_join.ensures ∙ c.if-is_join.true) _ _ c.index_of-l.ensures c.index_of-q.ensures _ _ _ _ _
+    c.read_condition-mid.ensures _ _ _ _ _ c.if-mid.false c.read_condition.ensures
 
 read-condition-read-condition-requires-3 :
     (t : ℕ) → read-condition-lts.Need-read_condition-requires-then-is_not (read-condition-claims t) (read-condition-at t) read-condition.Post
@@ -148,15 +126,8 @@ read-condition-same-length-12 t c = c.list-then-is_not-1.given
 
 read-condition-returns-4 : (t : ℕ) → read-condition-lts.Need-returns-then-is_not (read-condition-claims t) (read-condition-at t) read-condition.Post
 read-condition-returns-4 t c =
-    let x8 = c.before.before.before.before.before.before.before.before in
-    let x13 = x8.before.before.before.before.before in
-    let x15 = x13.before.before in
-    let x16 = x15.before in
-    let x19 = x16.before.before.before in
-    let x21 = x19.before.before in
-    let start = x21.before.before.before.before.before.before in
-    read_not start.args.ws.now start.args.val.now start.args.known start.args.b start.args.i start.args.neg start.args.r _ _
-    x21.if-b-i.false _ x19.kind_of-k.ensures (sym x16.is_not.ensures ∙ x15.if-is_not.true) _ _ _ _ _ _ x13.index_of-l-then-is_not.ensures x8.read_condition-then-is_not.ensures
+    read_not c.args.ws.now c.args.val.now c.args.known c.args.b c.args.i c.args.neg c.args.r _ _
+    c.if-b-i.false _ c.kind_of-k.ensures (sym c.is_not.ensures ∙ c.if-is_not.true) _ _ _ _ _ _ c.index_of-l-then-is_not.ensures c.read_condition-then-is_not.ensures
 
 read-condition-same-length-13 : (t : ℕ) → read-condition-lts.Need-shape_of-keys (read-condition-claims t) (read-condition-at t) read-condition.Post
 read-condition-same-length-13 t c = c.keys-2-1.given
@@ -172,17 +143,9 @@ read-condition-same-length-16 t c = c.list-2-1.given
 
 read-condition-returns-5 : (t : ℕ) → read-condition-lts.Need-returns (read-condition-claims t) (read-condition-at t) read-condition.Post
 read-condition-returns-5 t c =
-    let x8 = c.before.before.before.before.before.before.before.before in
-    let x13 = x8.before.before.before.before.before in
-    let x14 = x13.before in
-    let x15 = x14.before in
-    let x16 = x15.before in
-    let x17 = x16.before in
-    let x19 = x17.before.before in
-    let start = x19.before.before.before.before.before.before in
-    read_single start.args.ws.now start.args.val.now start.args.known start.args.b start.args.i start.args.neg start.args.r _ _
-    x19.if-b-i.false _ x17.kind_of-k.ensures (sym x16.is_join.ensures ∙ x15.if-is_join.false) (sym x14.is_not.ensures ∙ x13.if-is_not.false) _ _ _ _ _
-    x8.read_leaf.ensures
+    read_single c.args.ws.now c.args.val.now c.args.known c.args.b c.args.i c.args.neg c.args.r _ _
+    c.if-b-i.false _ c.kind_of-k.ensures (sym c.is_join.ensures ∙ c.if-is_join.false) (sym c.is_not.ensures ∙ c.if-is_not.false) _ _ _ _ _
+    c.read_leaf.ensures
 
 pub +read_condition_spec : {M : Type 1} → statement M
 +read_condition_spec = close μ-read-condition λ t. read-condition-lts.spec

@@ -7,32 +7,23 @@ use Rattle.parse_conditions.proofs.read_leaf.Tie as tie
 
 returns : tie.Need-returns-then-w-eq0
 returns c =
-    let x8 = c.before.before.before.before.before.before.before.before in
-    let start = x8.before.before.before.before.before.before.before.before in
-    leaf_none start.args.ws.now start.args.val.now start.args.known start.args.b start.args.i start.args.neg start.args.r _ _ _ _ _ _ _ _
-    start.requires.1 x8.read_entry-w.ensures c.if-w-eq0.true
+    leaf_none c.args.ws.now c.args.val.now c.args.known c.args.b c.args.i c.args.neg c.args.r _ _ _ _ _ _ _ _
+    c.requires.1 c.read_entry-w.ensures c.if-w-eq0.true
 
 returns-2 : tie.Need-returns-then-w
 returns-2 c =
-    let x10 = c.before.before.before.before.before.before.before.before.before.before in
-    let start = x10.before.before.before.before.before.before.before.before in
-    leaf_keys start.args.ws.now start.args.val.now start.args.known start.args.b start.args.i start.args.neg start.args.r _ _ _ _ _ _ _ _
-    start.requires.1 x10.read_entry-w.ensures c.if-w.true
+    leaf_keys c.args.ws.now c.args.val.now c.args.known c.args.b c.args.i c.args.neg c.args.r _ _ _ _ _ _ _ _
+    c.requires.1 c.read_entry-w.ensures c.if-w.true
 
 returns-3 : tie.Need-returns-then-list-at
 returns-3 c =
-    let x11 = c.before.before.before.before.before.before.before.before.before.before.before in
-    let start = x11.before.before.before.before.before.before.before.before in
-    leaf_list start.args.ws.now start.args.val.now start.args.known start.args.b start.args.i start.args.neg start.args.r _ _ _ _ _ _ _ _
-    start.requires.1 x11.read_entry-w.ensures c.if-w-eq0.false c.if-w.false _ refl c.if-list-at.true
+    leaf_list c.args.ws.now c.args.val.now c.args.known c.args.b c.args.i c.args.neg c.args.r _ _ _ _ _ _ _ _
+    c.requires.1 c.read_entry-w.ensures c.if-w-eq0.false c.if-w.false _ refl c.if-list-at.true
 
 returns-4 : tie.Need-returns
 returns-4 c =
-    let x4 = c.before.before.before.before in
-    let x12 = x4.before.before.before.before.before.before.before.before in
-    let start = x12.before.before.before.before.before.before.before.before in
-    leaf_one start.args.ws.now start.args.val.now start.args.known start.args.b start.args.i start.args.neg start.args.r _ _ _ _ _ _ _ _
-    start.requires.1 x12.read_entry-w.ensures x4.if-w-eq0.false c.if-w.false _ refl _ c.if-list-at.false refl
+    leaf_one c.args.ws.now c.args.val.now c.args.known c.args.b c.args.i c.args.neg c.args.r _ _ _ _ _ _ _ _
+    c.requires.1 c.read_entry-w.ensures c.if-w-eq0.false c.if-w.false _ refl _ c.if-list-at.false refl
 
 pub read_leaf_spec : {M : Type 1} → statement M
 read_leaf_spec =

@@ -29,12 +29,12 @@ returns c = let s = c.before.before.before.before in c.refused.ensures ∙ refus
 returns-2 : tie.Need-returns-then-not-check_arrays
 returns-2 c =
     let s = c.before.before.before.before.before.before in
-    c.refused-then-not-check_arrays.ensures ∙ refused_shop (sheet s) (shop s) (answered (sheet_ok (sheet s)) c.check_sheet.ensures c.if-not-check_sheet.false) (answered (shopOk s) (c.check_arrays.ensures s.args.limits.now) c.if-not-check_arrays.true)
+    c.refused-then-not-check_arrays.ensures ∙ refused_shop (sheet s) (shop s) (answered (sheet_ok (sheet s)) c.check_sheet.ensures c.if-not-check_sheet.false) (answered (shopOk s) (c.check_arrays.ensures c.args.limits.now) c.if-not-check_arrays.true)
 
 told-all-requires : tie.Need-told_all-requires
 told-all-requires c κs =
     let s = c.before.before.before.before.before in
-    (answered (sheet_ok (sheet s)) c.check_sheet.ensures c.if-not-check_sheet.false, answered (shopOk s) (c.check_arrays.ensures s.args.limits.now) c.if-not-check_arrays.false)
+    (answered (sheet_ok (sheet s)) c.check_sheet.ensures c.if-not-check_sheet.false, answered (shopOk s) (c.check_arrays.ensures c.args.limits.now) c.if-not-check_arrays.false)
 
 pub check_shop_spec : {M : Type 1} → statement M
 check_shop_spec =

@@ -10,16 +10,15 @@ use Rattle.signed_check.proofs.concerns.Statement.{statement}
 use Rattle.signed_check.proofs.concerns.Tie as tie
 
 returns : tie.Need-returns-then-verdict-eq-OUTSIDE
-returns c = let s = c.before.before in c.is_outside.ensures ∙ concerns_outside s.args.own (take s.args.n s.args.row.now) s.args.c s.args.verdict c.if-verdict-eq-OUTSIDE.true
+returns c = c.is_outside.ensures ∙ concerns_outside c.args.own (take c.args.n c.args.row.now) c.args.c c.args.verdict c.if-verdict-eq-OUTSIDE.true
 
 returns-2 : tie.Need-returns-then-verdict-eq-PAIR
 returns-2 c =
-    let s = c.before.before.before.before in
-    let cs = take s.args.n s.args.row.now in
-    ap not (c.lacks.ensures ∙ ap (λ (x : ℕ). lacks_code x cs) c.negated.ensures) ∙ concerns_pair s.args.own cs s.args.c s.args.verdict c.if-verdict-eq-OUTSIDE.false c.if-verdict-eq-PAIR.true
+    let cs = take c.args.n c.args.row.now in
+    ap not (c.lacks.ensures ∙ ap (λ (x : ℕ). lacks_code x cs) c.negated.ensures) ∙ concerns_pair c.args.own cs c.args.c c.args.verdict c.if-verdict-eq-OUTSIDE.false c.if-verdict-eq-PAIR.true
 
 returns-3 : tie.Need-returns
-returns-3 c = let s = c.before.before in concerns_own s.args.own (take s.args.n s.args.row.now) s.args.c s.args.verdict c.if-verdict-eq-OUTSIDE.false c.if-verdict-eq-PAIR.false
+returns-3 c = concerns_own c.args.own (take c.args.n c.args.row.now) c.args.c c.args.verdict c.if-verdict-eq-OUTSIDE.false c.if-verdict-eq-PAIR.false
 
 pub concerns_spec : {M : Type 1} → statement M
 concerns_spec =

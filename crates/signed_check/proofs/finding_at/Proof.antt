@@ -27,19 +27,19 @@ sort-row-requires : tie.Need-sort_row-n-requires
 unfolding slot_at
 sort-row-requires c κs =
     let s = c.before.before.before in
-    (s.requires.0, slot_few (sheet s) s.requires.1 (slot s) s.requires.2, refl)
+    (c.requires.0, slot_few (sheet s) c.requires.1 (slot s) c.requires.2, refl)
 
 without-item-requires : tie.Need-without_item-requires
 without-item-requires c κs =
     let s = c.before.before.before.before.before in
-    let e = c.sort_row-n.ensures s.args.items.now s.args.limits.now (slot_exact (sheet s) s.requires.1 (slot s) s.requires.2) in
+    let e = c.sort_row-n.ensures c.args.items.now c.args.limits.now (slot_exact (sheet s) c.requires.1 (slot s) c.requires.2) in
     (c.in-Nothing.is, set_long (slot s) _ _ e ∙ ap (λ (x : Slot). length (sorted (slot_of x).requirements)) {x = slot s} (sym {b = slot s} c.slot_at-slot.ensures))
 
 with-item-requires : tie.Need-with_item-requires
 with-item-requires c κs =
     let s = c.before.before.before.before.before.before in
-    let e = c.sort_row-n.ensures s.args.items.now s.args.limits.now (slot_exact (sheet s) s.requires.1 (slot s) s.requires.2) in
-    (s.requires.1, ap (λ (x : Slot). slot_ok (sheet s) (slot_of x)) {y = slot s} c.slot_at-slot.ensures ∙ s.requires.2, c.in-Of.is, e ∙ ap sorted_reqs {x = slot s} (sym {b = slot s} c.slot_at-slot.ensures))
+    let e = c.sort_row-n.ensures c.args.items.now c.args.limits.now (slot_exact (sheet s) c.requires.1 (slot s) c.requires.2) in
+    (c.requires.1, ap (λ (x : Slot). slot_ok (sheet s) (slot_of x)) {y = slot s} c.slot_at-slot.ensures ∙ c.requires.2, c.in-Of.is, e ∙ ap sorted_reqs {x = slot s} (sym {b = slot s} c.slot_at-slot.ensures))
 
 returns : tie.Need-returns-in-Nothing
 returns c = let s = c.before.before.before.before.before.before in c.without_item.ensures (sheet s) ∙ ap (λ (x : Slot). finding_of (finding (sheet s) (slot_of x))) {y = slot s} c.slot_at-slot.ensures

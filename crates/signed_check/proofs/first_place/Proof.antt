@@ -35,23 +35,23 @@ loop-holds c = passed_start _ _
 returns : tie.Need-returns-then-concerns invariant-loop decreases-loop
 unfolding place_code
 returns c =
-    let s = c.before.before.before.before.before.before in
+    let s = c.before.before.before.before.before.before.before in
     let l = c.loop-i in
-    let e = get_or-take s.args.n s.args.row.now l.i 0 c.loop-i-test.true in
-    passed_found (reason s) (codes s) s.args.n l.i l.invariant (omega (arith, size c.before.before.before.before.before.before, c.loop-i-test.true)) (ap (reason s) e ∙ answered (reason s (get_or s.args.row.now l.i 0)) c.concerns.ensures c.if-concerns.true)
+    let e = get_or-take c.args.n c.args.row.now l.i 0 c.loop-i-test.true in
+    passed_found (reason s) (codes s) c.args.n l.i l.invariant (omega (arith, size c.before.before.before.before.before.before, c.loop-i-test.true)) (ap (reason s) e ∙ answered (reason s (get_or c.args.row.now l.i 0)) c.concerns.ensures c.if-concerns.true)
 
 loop-again : tie.Need-loop-i-preserved invariant-loop decreases-loop
 loop-again c =
-    let s = c.before.before.before.before.before.before in
+    let s = c.before.before.before.before.before.before.before in
     let l = c.loop-i in
-    let e = get_or-take s.args.n s.args.row.now l.i 0 c.loop-i-test.true in
-    passed_more (reason s) (codes s) l.i l.invariant (omega (arith, size c.before.before.before.before.before.before, c.loop-i-test.true)) (ap (reason s) e ∙ answered (reason s (get_or s.args.row.now l.i 0)) c.concerns.ensures c.if-concerns.false)
+    let e = get_or-take c.args.n c.args.row.now l.i 0 c.loop-i-test.true in
+    passed_more (reason s) (codes s) l.i l.invariant (omega (arith, size c.before.before.before.before.before.before, c.loop-i-test.true)) (ap (reason s) e ∙ answered (reason s (get_or c.args.row.now l.i 0)) c.concerns.ensures c.if-concerns.false)
 
 returns-2 : tie.Need-returns invariant-loop decreases-loop
 unfolding place_code
 returns-2 c =
     let s = c.before.before.before in
-    passed_none (reason s) (codes s) s.args.n c.loop-i.i c.loop-i.invariant (omega (arith, size c.before.before, c.loop-i-test.false))
+    passed_none (reason s) (codes s) c.args.n c.loop-i.i c.loop-i.invariant (omega (arith, size c.before.before, c.loop-i-test.false))
 
 pub first_place_spec : {M : Type 1} → statement M
 first_place_spec =

@@ -21,23 +21,22 @@ size : (c : tie.After-capacity invariant-loop decreases-loop) → length (take c
 size c = length-take-le c.args.n c.args.row.now (omega (arith, c.capacity.ensures.0, c.requires.0))
 
 loop-holds : tie.Need-loop-i-init invariant-loop decreases-loop
-loop-holds c = let s = c.before in picked_none (left_code s.args.one s.args.own (take s.args.n s.args.row.now)) (take s.args.n s.args.row.now) _ s.requires.1
+loop-holds c = picked_none (left_code c.args.one c.args.own (take c.args.n c.args.row.now)) (take c.args.n c.args.row.now) _ c.requires.1
 
 add-left-requires : tie.Need-add_left-m-requires invariant-loop decreases-loop
-add-left-requires c κs = let s = c.before.before.before.before.before in (s.requires.0, omega (arith, s.requires.0, c.loop-i.invariant.few, c.loop-i-test.true))
+add-left-requires c κs = (c.requires.0, omega (arith, c.requires.0, c.loop-i.invariant.few, c.loop-i-test.true))
 
 loop-again : tie.Need-loop-i-preserved invariant-loop decreases-loop
 loop-again c =
-    let s = c.before.before.before.before.before.before in
     let l = c.loop-i in
-    let e = get_or-take s.args.n s.args.row.now l.i 0 c.loop-i-test.true in
-    picked_more (left_code s.args.one s.args.own (take s.args.n s.args.row.now)) (take s.args.n s.args.row.now) l.out l.m l.i l.invariant (omega (arith, size c.before.before.before.before.before.before, c.loop-i-test.true)) (omega (arith, size c.before.before.before.before.before.before, s.requires.0)) _ _ (rw e c.add_left-m.ensures.0) (rw e c.add_left-m.ensures.1)
+    let e = get_or-take c.args.n c.args.row.now l.i 0 c.loop-i-test.true in
+    picked_more (left_code c.args.one c.args.own (take c.args.n c.args.row.now)) (take c.args.n c.args.row.now) l.out l.m l.i l.invariant (omega (arith, size c.before.before.before.before.before.before, c.loop-i-test.true)) (omega (arith, size c.before.before.before.before.before.before, c.requires.0)) _ _ (rw e c.add_left-m.ensures.0) (rw e c.add_left-m.ensures.1)
 
 cast-result : tie.Need-overflow_cast-result invariant-loop decreases-loop
-cast-result c = let s = c.before.before.before in omega (arith, s.requires.0, c.loop-i.invariant.few, c.loop-i.invariant.low, size c.before.before)
+cast-result c = omega (arith, c.requires.0, c.loop-i.invariant.few, c.loop-i.invariant.low, size c.before.before)
 
 returns : tie.Need-returns invariant-loop decreases-loop
-returns c = let s = c.before.before.before in picked_all (left_code s.args.one s.args.own (take s.args.n s.args.row.now)) (take s.args.n s.args.row.now) c.loop-i.out c.loop-i.m c.loop-i.i c.loop-i.invariant (omega (arith, size c.before.before, c.loop-i-test.false))
+returns c = picked_all (left_code c.args.one c.args.own (take c.args.n c.args.row.now)) (take c.args.n c.args.row.now) c.loop-i.out c.loop-i.m c.loop-i.i c.loop-i.invariant (omega (arith, size c.before.before, c.loop-i-test.false))
 
 pub haves_left_spec : {M : Type 1} → statement M
 haves_left_spec =

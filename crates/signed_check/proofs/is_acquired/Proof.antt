@@ -1,13 +1,12 @@
 -- `is_acquired` meets its contract. Assumes nothing.
-use borrow.Author.Tests.{not-true, not-false}
 use Rattle.signed_check.proofs.is_acquired.Statement.{statement}
 use Rattle.signed_check.proofs.is_acquired.Tie as tie
 
 returns : tie.Need-returns-then-not-one
-returns c = rw (not-true c.args.one c.if-not-one.true)
+returns c = rw c.if-not-one.true
 
 returns-2 : tie.Need-returns
-returns-2 c = rw (not-false c.args.one c.if-not-one.false)
+returns-2 c = rw c.if-not-one.false
 
 pub is_acquired_spec : {M : Type 1} → statement M
 is_acquired_spec = tie.close (tie.spec

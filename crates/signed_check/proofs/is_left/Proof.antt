@@ -9,17 +9,16 @@ use Rattle.signed_check.proofs.is_left.Statement.{statement}
 use Rattle.signed_check.proofs.is_left.Tie as tie
 
 returns : tie.Need-returns-then-is_missing
-returns c = let s = c.before.before in left_missing s.args.one s.args.own s.args.c (take s.args.n s.args.row.now) (sym c.is_missing.ensures ∙ c.if-is_missing.true)
+returns c = left_missing c.args.one c.args.own c.args.c (take c.args.n c.args.row.now) (sym c.is_missing.ensures ∙ c.if-is_missing.true)
 
 returns-2 : tie.Need-returns-then-is_acquired
-returns-2 c = let s = c.before.before.before.before in left_own s.args.one s.args.own s.args.c (take s.args.n s.args.row.now) (sym c.is_missing.ensures ∙ c.if-is_missing.false) (sym c.is_acquired.ensures ∙ c.if-is_acquired.true)
+returns-2 c = left_own c.args.one c.args.own c.args.c (take c.args.n c.args.row.now) (sym c.is_missing.ensures ∙ c.if-is_missing.false) (sym c.is_acquired.ensures ∙ c.if-is_acquired.true)
 
 returns-3 : tie.Need-returns
 returns-3 c =
-    let s = c.before.before.before.before.before.before in
-    let cs = take s.args.n s.args.row.now in
+    let cs = take c.args.n c.args.row.now in
     c.lacks.ensures ∙ ap (λ (x : ℕ). lacks_code x cs) c.negated.ensures
-    ∙ left_last s.args.one s.args.own s.args.c cs (sym c.is_missing.ensures ∙ c.if-is_missing.false) (sym c.is_acquired.ensures ∙ c.if-is_acquired.false)
+    ∙ left_last c.args.one c.args.own c.args.c cs (sym c.is_missing.ensures ∙ c.if-is_missing.false) (sym c.is_acquired.ensures ∙ c.if-is_acquired.false)
 
 pub is_left_spec : {M : Type 1} → statement M
 is_left_spec =

@@ -17,20 +17,20 @@ returns : tie.Need-returns-then-verdict-eq-FAITHFUL
 unfolding reqs_of
 returns c =
     let s = c.before in
-    let e : [] ≡ shown_code s.args.verdict (left s) = rw (eq-eqb s.args.verdict 0 c.if-verdict-eq-FAITHFUL.true) in
-    ap (λ (l : List ℕ). reqs_in l 0) s.requires.1 ∙ ap reqs_of e
+    let e : [] ≡ shown_code c.args.verdict (left s) = rw (eq-eqb c.args.verdict 0 c.if-verdict-eq-FAITHFUL.true) in
+    ap (λ (l : List ℕ). reqs_in l 0) c.requires.1 ∙ ap reqs_of e
 
 returns-2 : tie.Need-returns-then-verdict-eq-OUTSIDE
 unfolding reqs_of
 returns-2 c =
     let s = c.before.before in
-    let e : [] ≡ shown_code s.args.verdict (left s) = rw (ne_eqb s.args.verdict 0 c.if-verdict-eq-FAITHFUL.false, eq-eqb s.args.verdict 3 c.if-verdict-eq-OUTSIDE.true) in
-    ap (λ (l : List ℕ). reqs_in l 0) s.requires.1 ∙ ap reqs_of e
+    let e : [] ≡ shown_code c.args.verdict (left s) = rw (ne_eqb c.args.verdict 0 c.if-verdict-eq-FAITHFUL.false, eq-eqb c.args.verdict 3 c.if-verdict-eq-OUTSIDE.true) in
+    ap (λ (l : List ℕ). reqs_in l 0) c.requires.1 ∙ ap reqs_of e
 
 returns-3 : tie.Need-returns
 returns-3 c =
     let s = c.before.before.before.before in
-    let e : left s ≡ shown_code s.args.verdict (left s) = rw (ne_eqb s.args.verdict 0 c.if-verdict-eq-FAITHFUL.false, ne_eqb s.args.verdict 3 c.if-verdict-eq-OUTSIDE.false) in
+    let e : left s ≡ shown_code c.args.verdict (left s) = rw (ne_eqb c.args.verdict 0 c.if-verdict-eq-FAITHFUL.false, ne_eqb c.args.verdict 3 c.if-verdict-eq-OUTSIDE.false) in
     ◌∙◌ {b = reqs_of (left s)} c.haves_left.ensures (ap reqs_of e)
 
 pub settings_for_spec : {M : Type 1} → statement M

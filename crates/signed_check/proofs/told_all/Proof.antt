@@ -27,7 +27,7 @@ loop-holds : tie.Need-loop-i-init invariant-loop decreases-loop
 loop-holds c = filled_none _ _ c.refused-out.ensures
 
 finding-at-requires : tie.Need-finding_at-f-requires invariant-loop decreases-loop
-finding-at-requires c κs = let s = c.before.before.before.before in (c.loop-i-test.true, s.requires.0, slot_passed (sheet s) (shop s) s.requires.1 c.loop-i.i c.loop-i-test.true)
+finding-at-requires c κs = let s = c.before.before.before.before in (c.loop-i-test.true, c.requires.0, slot_passed (sheet s) (shop s) c.requires.1 c.loop-i.i c.loop-i-test.true)
 
 loop-again : tie.Need-loop-i-preserved invariant-loop decreases-loop
 loop-again c = let s = c.before.before.before.before.before in filled_more (told_at (sheet s) (shop s)) c.loop-i.out c.loop-i.i c.loop-i.invariant c.loop-i-test.true _ c.finding_at-f.ensures
@@ -36,7 +36,7 @@ returns : tie.Need-returns invariant-loop decreases-loop
 returns c =
     let s = c.before.before.before.before in
     let i : c.loop-i.i ≡ slot_count = omega (arith, c.loop-i.invariant.low, c.loop-i-test.false) in
-    told_shop (sheet s) (shop s) s.requires.0 s.requires.1 c.loop-i.out (rw i at c.loop-i.invariant)
+    told_shop (sheet s) (shop s) c.requires.0 c.requires.1 c.loop-i.out (rw i at c.loop-i.invariant)
 
 pub told_all_spec : {M : Type 1} → statement M
 told_all_spec =

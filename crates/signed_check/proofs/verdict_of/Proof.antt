@@ -14,23 +14,21 @@ size : (c : tie.After-capacity) → length (take c.args.n c.args.row.now) ≡ c.
 size c = length-take-le c.args.n c.args.row.now (omega (arith, c.capacity.ensures.0, c.requires))
 
 returns : tie.Need-returns-then-outside-n
-returns c = let s = c.before.before.before in ap verdict_of (verdict_outside s.args.one s.args.own (take s.args.n s.args.row.now) s.args.n (size c.before.before) _ c.first_place-outside.ensures c.if-outside-n.true)
+returns c = ap verdict_of (verdict_outside c.args.one c.args.own (take c.args.n c.args.row.now) c.args.n (size c.before.before) _ c.first_place-outside.ensures c.if-outside-n.true)
 
 returns-2 : tie.Need-returns-then-pair-n
-returns-2 c = let s = c.before.before.before.before.before in ap verdict_of (verdict_pair s.args.one s.args.own (take s.args.n s.args.row.now) s.args.n (size c.before.before.before.before) _ c.first_place-outside.ensures c.if-outside-n.false _ c.first_place-pair.ensures c.if-pair-n.true)
+returns-2 c = ap verdict_of (verdict_pair c.args.one c.args.own (take c.args.n c.args.row.now) c.args.n (size c.before.before.before.before) _ c.first_place-outside.ensures c.if-outside-n.false _ c.first_place-pair.ensures c.if-pair-n.true)
 
 returns-3 : tie.Need-returns-then-at-n
 returns-3 c =
-    let s = c.before.before.before.before.before.before.before.before in
-    ap verdict_of (verdict_own s.args.one s.args.own (take s.args.n s.args.row.now) s.args.n (size c.before.before.before.before.before.before.before) _ c.first_place-outside.ensures c.if-outside-n.false _ c.first_place-pair.ensures c.if-pair-n.false c.if-one.true _ c.first_place-at.ensures c.if-at-n.true)
+    ap verdict_of (verdict_own c.args.one c.args.own (take c.args.n c.args.row.now) c.args.n (size c.before.before.before.before.before.before.before) _ c.first_place-outside.ensures c.if-outside-n.false _ c.first_place-pair.ensures c.if-pair-n.false c.if-one.true _ c.first_place-at.ensures c.if-at-n.true)
 
 returns-4 : tie.Need-returns-else-at-n
 returns-4 c =
-    let s = c.before.before.before.before.before.before.before.before in
-    ap verdict_of (verdict_own_none s.args.one s.args.own (take s.args.n s.args.row.now) s.args.n (size c.before.before.before.before.before.before.before) _ c.first_place-outside.ensures c.if-outside-n.false _ c.first_place-pair.ensures c.if-pair-n.false c.if-one.true _ c.first_place-at.ensures c.if-at-n.false)
+    ap verdict_of (verdict_own_none c.args.one c.args.own (take c.args.n c.args.row.now) c.args.n (size c.before.before.before.before.before.before.before) _ c.first_place-outside.ensures c.if-outside-n.false _ c.first_place-pair.ensures c.if-pair-n.false c.if-one.true _ c.first_place-at.ensures c.if-at-n.false)
 
 returns-5 : tie.Need-returns-else-one
-returns-5 c = let s = c.before.before.before.before.before.before in ap verdict_of (verdict_any s.args.one s.args.own (take s.args.n s.args.row.now) s.args.n (size c.before.before.before.before.before) _ c.first_place-outside.ensures c.if-outside-n.false _ c.first_place-pair.ensures c.if-pair-n.false c.if-one.false)
+returns-5 c = ap verdict_of (verdict_any c.args.one c.args.own (take c.args.n c.args.row.now) c.args.n (size c.before.before.before.before.before) _ c.first_place-outside.ensures c.if-outside-n.false _ c.first_place-pair.ensures c.if-pair-n.false c.if-one.false)
 
 pub verdict_of_spec : {M : Type 1} → statement M
 verdict_of_spec =

@@ -30,10 +30,10 @@ few : (s : tie.Start) → s.args.n ≤ s.args.slot.len
 few s = sorted_few s.args.slot s.args.n (set_long s.args.slot s.args.row.now s.args.n s.requires.3)
 
 verdict-of-requires : tie.Need-verdict_of-told-requires
-verdict-of-requires c κs = let s = c.before.before.before.before.before.before in slot_few (sheet s) s.requires.0 s.args.slot s.requires.1
+verdict-of-requires c κs = let s = c.before.before.before.before.before.before in slot_few (sheet s) c.requires.0 c.args.slot c.requires.1
 
 settings-for-requires : tie.Need-settings_for-m-requires
-settings-for-requires c κs = let s = c.before.before.before.before.before.before.before.before in (omega (arith, few s, slot_few (sheet s) s.requires.0 s.args.slot s.requires.1), refl)
+settings-for-requires c κs = let s = c.before.before.before.before.before.before.before.before in (omega (arith, few s, slot_few (sheet s) c.requires.0 c.args.slot c.requires.1), refl)
 
 sub-t17 : tie.Need-overflow_sub-result
 sub-t17 c = let s = c.before.before.before.before.before.before.before.before.before.before.before in omega (arith, few s)
@@ -41,8 +41,8 @@ sub-t17 c = let s = c.before.before.before.before.before.before.before.before.be
 returns : tie.Need-returns
 returns c =
     let s = c.before.before.before.before.before.before.before.before.before.before.before.before in
-    let l = rw (to_z-of_z {w = w16} {z = s.args.slot.limit} (record { sfits = c.struct_told-1.given.1.0.1 })) at c.limit_of-limit.ensures in
-    filled_told (sheet s) s.requires.0 s.args.slot s.requires.1 s.args.w s.requires.2 _ (ap (λ (k : ℕ). leb k 1) {x = limit s} (sym {b = limit s} l) ∙ one_test c.limit_of-limit.result) _ (c.own_code-own.ensures s.args.sheet) (long s) s.args.row.now s.args.n s.requires.3
+    let l = rw (to_z-of_z {w = w16} {z = c.args.slot.limit} (record { sfits = c.struct_told-1.given.1.0.1 })) at c.limit_of-limit.ensures in
+    filled_told (sheet s) c.requires.0 c.args.slot c.requires.1 c.args.w c.requires.2 _ (ap (λ (k : ℕ). leb k 1) {x = limit s} (sym {b = limit s} l) ∙ one_test c.limit_of-limit.result) _ (c.own_code-own.ensures c.args.sheet) (long s) c.args.row.now c.args.n c.requires.3
     _ c.verdict_of-told.ensures _ _ c.settings_for-m.ensures _ c.count_settings-counted.ensures _ c.listed_as.ensures _ l
 
 pub with_item_spec : {M : Type 1} → statement M

@@ -5,10 +5,10 @@ use Rattle.signed_check.proofs.without_item.Statement.{statement}
 use Rattle.signed_check.proofs.without_item.Tie as tie
 
 sub-t3 : tie.Need-overflow_sub-result
-sub-t3 c = let s = c.before in omega (arith, sorted_few s.args.slot s.args.n s.requires.1)
+sub-t3 c = omega (arith, sorted_few c.args.slot c.args.n c.requires.1)
 
 returns : tie.Need-returns
-returns c = let s = c.before in none_told s.args.slot s.args.n s.requires.0 s.requires.1
+returns c = none_told c.args.slot c.args.n c.requires.0 c.requires.1
 
 pub without_item_spec : {M : Type 1} → statement M
 without_item_spec = tie.close (tie.spec

@@ -1,0 +1,42 @@
+// One walk for many saves, as C calls them.
+ghost use Rattle.std.specs.Prelude.{◌≡◌};
+ghost use Rattle.memory.specs.View.{memory_of};
+ghost use Rattle.shop.specs.Shapes.{sheet_of};
+ghost use Rattle.checks.specs.Calls.{save_of};
+ghost use Rattle.lanes_model.specs.Flat.{walk_in, left_by};
+ghost use Rattle.capi_values.specs.Values.{sheet_by, counts_by};
+ghost use Rattle.capi_lanes.specs.Answers.{left_as};
+
+use lanes_expr::LANES;
+use memory::{BlockWords, CommandWords, NodeWords, Values};
+use capi_lanes::Walked;
+
+// Runs the blocks from setup on for that many saves, whose parts lie one behind another, with a budget of 4,096 each. Every save's refusal and count go to its place in two arrays, whose places past the last save are left alone. Refused, nothing is written.
+#[unsafe(no_mangle)]
+pub extern "C" fn lk_run_all(
+    attached: &[u8],
+    atcs: u16,
+    timer5: u16,
+    timer10: u16,
+    timer15: u16,
+    ws: &NodeWords,
+    val: &Values,
+    cw: &CommandWords,
+    bw: &BlockWords,
+    nodes: u16,
+    commands: u16,
+    blocks: u16,
+    setup: u32,
+    saves: u32,
+    items: &[i16],
+    held: &[u8],
+    flags: &[u8],
+    times: &[i16],
+    vars: &mut [i32],
+    refusals: &mut [u8; LANES],
+    entered: &mut [u32; LANES],
+) -> Walked
+    ensures { left_as result refusals.new entered.new vars.new ≡ left_by (walk_in (sheet_of attached.now (sheet_by atcs timer5 timer10 timer15)) (memory_of ws.now val.now cw.now bw.now (counts_by nodes commands blocks)) setup saves (save_of items.now held.now flags.now times.now vars.old)) refusals.old entered.old vars.old }
+{
+    capi_lanes::lk_run_all(attached, atcs, timer5, timer10, timer15, ws, val, cw, bw, nodes, commands, blocks, setup, saves, items, held, flags, times, vars, refusals, entered)
+}
