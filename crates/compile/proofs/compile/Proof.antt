@@ -4,7 +4,10 @@ use Rattle.compile.proofs.compile.Statement.{statement}
 use Rattle.compile.proofs.compile.Tie as tie
 
 returns : tie.Need-returns
-returns c = rw c.before.before.before.before.before.before.before.before.before.before.arrays-of.ensures at c.compile-arrays.ensures
+returns c = rw c.arrays_of.ensures at c.compile_arrays.ensures
 
-pub compile-spec : {M : Type 1} → statement M
-compile-spec = tie.close (tie.spec (λ c κs. search rules) (λ c κs. search rules) returns)
+pub compile_spec : {M : Type 1} → statement M
+compile_spec = tie.close (tie.spec
+    (λ c κs. search rules)
+    (λ c κs. search rules)
+    returns)

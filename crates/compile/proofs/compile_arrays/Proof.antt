@@ -11,7 +11,7 @@ use Rattle.model.specs.Shop.{slot_ok}
 use Rattle.model.specs.Compile.{Call}
 use Rattle.model.specs.Memory.{Memory, script_of}
 use Rattle.model.specs.RecordCalls.{Born, born_at, call_in, compile_refusal_in}
-use Rattle.model.proofs.Laws.Checks.{answered, is_true, is_false}
+use Rattle.model.proofs.Laws.Checks.{answered}
 use Rattle.memory.specs.Transfer.{blocks_counted}
 use Rattle.memory.specs.View.{memory_of, born_of}
 use Rattle.shop.specs.declared.Shop.{Shop}
@@ -57,78 +57,78 @@ refused : (s : tie.Start) (n : ℕ) → n ≡ refusal s → (n ≡ 0 → ⊥) �
 refused s n e d = compiled_refused (sheet s) (bornIn s) s.args.loader s.args.setup.0 (given s) (size s) n e d
 
 -- what is known behind each check
-first-passed : (c : tie.Else1) → call c.before.before.before.before.before.before.before ≡ 0
-first-passed c = answered (call c.before.before.before.before.before.before.before) c.before.check-call.ensures c.if1.false
+first-passed : (c : tie.Else-first-ne0) → call c.before.before.before ≡ 0
+first-passed c = answered (call c.before.before.before) c.check_call-first.ensures c.if-first-ne0.false
 
-born-passed : (c : tie.Else2) → birth c.before.before.before.before.before.before.before.before.before.before ≡ 0
-born-passed c = answered (birth c.before.before.before.before.before.before.before.before.before.before) c.before.birth-of.ensures c.if2.false
+born-passed : (c : tie.Else-birth_of-ne0) → birth c.before.before.before.before.before ≡ 0
+born-passed c = answered (birth c.before.before.before.before.before) c.birth_of.ensures c.if-birth_of-ne0.false
 
-shop-passed : (c : tie.Else3) → slots c.before.before.before.before.before.before.before.before.before.before.before.before ≡ true
-shop-passed c = let s = c.before.before.before.before.before.before.before.before.before.before.before.before in is_true (slots s) (c.before.check-arrays.ensures s.args.limits.now) c.if3.false
+shop-passed : (c : tie.Else-not-check_arrays) → slots c.before.before.before.before.before.before.before ≡ true
+shop-passed c = let s = c.before.before.before.before.before.before.before in answered (slots s) (c.check_arrays.ensures s.args.limits.now) c.if-not-check_arrays.false
 
-room-answers : (c : tie.After-check-room) → c.check-room.result ≡ refusal c.before.before.before.before.before.before.before.before.before.before.before.before.before
+room-answers : (c : tie.After-check_room-full) → c.check_room-full.result ≡ refusal c.before.before.before.before.before.before.before.before
 room-answers c =
     let d = c.before in
-    let s = d.before.before.before.before.before.before.before.before.before.before.before.before in
+    let s = d.before.before.before.before.before.before.before in
     let m = (bornIn s).memory in
     room_decides (sheet s) (bornIn s) s.args.loader s.args.setup.0 (given s) (size s) (first-passed d.before.before.before.before.before) (born-passed d.before.before) (shop-passed d) _
-    (c.check-room.ensures (script_of m) (blocks_counted m) (commands_kept_lem m) (nodes_kept m))
+    (c.check_room-full.ensures (script_of m) (blocks_counted m) (commands_kept_lem m) (nodes_kept m))
 
-allowed : (c : tie.Else4) → let s = c.before.before.before.before.before.before.before.before.before.before.before.before.before.before in
+allowed : (c : tie.Else-full-ne0) → let s = c.before.before.before.before.before.before.before.before.before in
     Granted (sheet s) (bornIn s) s.args.loader s.args.setup.0 (given s) (size s)
-allowed c = let s = c.before.before.before.before.before.before.before.before.before.before.before.before.before.before in granted (sheet s) (bornIn s) s.args.loader s.args.setup.0 (given s) (size s) (sym (room-answers c.before) ∙ c.if4.false)
+allowed c = let s = c.before.before.before.before.before.before.before.before.before in granted (sheet s) (bornIn s) s.args.loader s.args.setup.0 (given s) (size s) (sym (room-answers c.before) ∙ c.if-full-ne0.false)
 
-returns : tie.Need-returns
+returns : tie.Need-returns-then-first-ne0
 returns c =
-    let s = c.before.before.before.before.before.before.before.before in
-    rw c.answer.ensures (refused s _ (refused_call (sheet s) (bornIn s) s.args.loader s.args.setup.0 (given s) (size s) _ c.before.before.check-call.ensures c.before.if1.true) c.before.if1.true)
+    let s = c.before.before.before.before in
+    rw c.answer.ensures (refused s _ (refused_call (sheet s) (bornIn s) s.args.loader s.args.setup.0 (given s) (size s) _ c.check_call-first.ensures c.if-first-ne0.true) c.if-first-ne0.true)
 
-returns-2 : tie.Need-returns-2
+returns-2 : tie.Need-returns-then-birth_of-ne0
 returns-2 c =
-    let s = c.before.before.before.before.before.before.before.before.before.before.before in
-    rw c.answer2.ensures (refused s 17 (refused_born (sheet s) (bornIn s) s.args.loader s.args.setup.0 (given s) (size s) (first-passed c.before.before.before.before) (λ z. c.before.if2.true (c.before.before.birth-of.ensures ∙ z))) (λ z. omega arith))
+    let s = c.before.before.before.before.before.before in
+    rw c.answer-then-birth_of-ne0.ensures (refused s 17 (refused_born (sheet s) (bornIn s) s.args.loader s.args.setup.0 (given s) (size s) (first-passed c.before.before.before) (λ z. c.if-birth_of-ne0.true (c.birth_of.ensures ∙ z))) (λ z. omega arith))
 
-returns-3 : tie.Need-returns-3
+returns-3 : tie.Need-returns-then-not-check_arrays
 returns-3 c =
-    let s = c.before.before.before.before.before.before.before.before.before.before.before.before.before in
-    rw c.answer3.ensures
-    (refused s 8 (refused_shop (sheet s) (bornIn s) s.args.loader s.args.setup.0 (given s) (size s) (first-passed c.before.before.before.before.before.before) (born-passed c.before.before.before) (is_false (slots s) (c.before.before.check-arrays.ensures s.args.limits.now) c.before.if3.true)) (λ z. omega arith))
+    let s = c.before.before.before.before.before.before.before.before in
+    rw c.answer-then-not-check_arrays.ensures
+    (refused s 8 (refused_shop (sheet s) (bornIn s) s.args.loader s.args.setup.0 (given s) (size s) (first-passed c.before.before.before.before.before) (born-passed c.before.before.before) (answered (slots s) (c.check_arrays.ensures s.args.limits.now) c.if-not-check_arrays.true)) (λ z. omega arith))
 
-check-room-requires : tie.Need-check-room-requires
-check-room-requires c κs = let s = c.before.before.before.before.before.before.before.before.before.before.before.before in exact_slots (sheet s) (bornIn s) s.args.loader s.args.setup.0 (given s) (size s) (first-passed c.before.before.before.before.before) (shop-passed c)
+check-room-requires : tie.Need-check_room-full-requires
+check-room-requires c κs = let s = c.before.before.before.before.before.before.before in exact_slots (sheet s) (bornIn s) s.args.loader s.args.setup.0 (given s) (size s) (first-passed c.before.before.before.before) (shop-passed c)
 
-returns-4 : tie.Need-returns-4
-returns-4 c = rw c.answer4.ensures (refused c.before.before.before.before.before.before.before.before.before.before.before.before.before.before.before _ (room-answers c.before.before) c.before.if4.true)
+returns-4 : tie.Need-returns-then-full-ne0
+returns-4 c = rw c.answer-then-full-ne0.ensures (refused c.before.before.before.before.before.before.before.before.before.before _ (room-answers c.before.before) c.if-full-ne0.true)
 
-compile-shop-requires : tie.Need-compile-shop-requires
+compile-shop-requires : tie.Need-compile_shop-after-requires
 compile-shop-requires c κs = let g = allowed c.before.before.before.before in (g.room, g.exact)
 
-cast-set-block : tie.Need-overflow-cast-set-block
+cast-set-block : tie.Need-overflow_cast-setup
 cast-set-block c = let g = allowed c.before.before.before.before.before.before.before in omega (arith, g.inside, g.room.blocks)
 
-set-block-requires : tie.Need-set-block-requires
+set-block-requires : tie.Need-set_block-requires
 set-block-requires c κs = let g = allowed c.before.before.before.before.before.before.before in omega (arith, g.inside, g.room.blocks)
 
-mark-births-requires : tie.Need-mark-births-requires
+mark-births-requires : tie.Need-mark_births-requires
 mark-births-requires c κs =
     let d = c.before.before.before.before.before in
     let g = allowed d.before.before.before.before.before in
-    (omega (arith, d.compile-shop.ensures.counted), omega (arith, g.room.blocks, d.compile-shop.ensures.counted))
+    (omega (arith, d.compile_shop-after.ensures.counted), omega (arith, g.room.blocks, d.compile_shop-after.ensures.counted))
 
 -- the record with the shop's blocks at its end
-abbrev put : tie.After-compile-shop → Memory
-put d = let l = d.compile-shop.new in memory_of l.1.1.0 l.1.1.1.0 l.1.1.1.1.0 l.1.1.1.1.1.0 d.compile-shop.result
+abbrev put : tie.After-compile_shop-after → Memory
+put d = let l = d.compile_shop-after.new in memory_of l.1.1.0 l.1.1.1.0 l.1.1.1.1.0 l.1.1.1.1.1.0 d.compile_shop-after.result
 
-returns-5 : tie.Need-returns-5
+returns-5 : tie.Need-returns
 returns-5 c =
     let d = c.before.before.before.before.before.before.before in
     let a = d.before.before.before.before.before in
-    let s = a.before.before.before.before.before.before.before.before.before.before.before.before.before.before in
-    rw (c.answer5.ensures, c.before.mark-births.ensures, c.before.before.before.one-compile.ensures, c.before.before.before.before.set-block.ensures)
-    (compiled_accepted (sheet s) (bornIn s) s.args.loader s.args.setup.0 (given s) (size s) a.before.check-room.result (room-answers a.before) a.if4.false (put d) d.compile-shop.ensures)
+    let s = a.before.before.before.before.before.before.before.before.before in
+    rw (c.answer-2.ensures, c.mark_births.ensures, c.one_compile-mark.ensures, c.set_block.ensures)
+    (compiled_accepted (sheet s) (bornIn s) s.args.loader s.args.setup.0 (given s) (size s) a.check_room-full.result (room-answers a.before) a.if-full-ne0.false (put d) d.compile_shop-after.ensures)
 
-pub compile-arrays-spec : {M : Type 1} → statement M
-compile-arrays-spec =
+pub compile_arrays_spec : {M : Type 1} → statement M
+compile_arrays_spec =
     tie.close
     (tie.spec
     (λ c κs. search rules)

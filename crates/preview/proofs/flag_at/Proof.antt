@@ -12,13 +12,13 @@ use Rattle.preview.proofs.flag_at.Tie as tie
 use Rattle.model.proofs.Laws.Signed.{not_negative}
 
 returns : tie.Need-returns-then-number-lt0
-returns c = let s = c.before.before in sym (ap (λ (z : ℤ). not (is_zero z)) (none_at s.args.flags.now s.args.number (rw (to_z-of_z s.ranges.number) at c.if-number-lt0.true)))
+returns c = sym (ap (λ (z : ℤ). not (is_zero z)) (none_at c.args.flags.now c.args.number (rw (to_z-of_z c.ranges.number) at c.if-number-lt0.true)))
 
 cast-bit-at : tie.Need-overflow_cast-number
-cast-bit-at c = let s = c.before.before in rw (to_z-of_z s.ranges.number) (not_negative s.args.number (rw (to_z-of_z s.ranges.number) at c.if-number-lt0.false), Fits-nat_abs {w = w32} tt s.ranges.number)
+cast-bit-at c = rw (to_z-of_z c.ranges.number) (not_negative c.args.number (rw (to_z-of_z c.ranges.number) at c.if-number-lt0.false), Fits-nat_abs {w = w32} tt c.ranges.number)
 
 returns-2 : tie.Need-returns
-returns-2 c = let s = c.before.before.before in (rw (to_z-of_z s.ranges.number) at c.bit_at.ensures) ∙ sym (ap (λ (z : ℤ). not (is_zero z)) (one_at s.args.flags.now s.args.number (rw (to_z-of_z s.ranges.number) at c.if-number-lt0.false)))
+returns-2 c = (rw (to_z-of_z c.ranges.number) at c.bit_at.ensures) ∙ sym (ap (λ (z : ℤ). not (is_zero z)) (one_at c.args.flags.now c.args.number (rw (to_z-of_z c.ranges.number) at c.if-number-lt0.false)))
 
 pub flag_at_spec : {M : Type 1} → statement M
 flag_at_spec = tie.close (tie.spec

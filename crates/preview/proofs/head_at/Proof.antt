@@ -12,8 +12,7 @@ use Rattle.preview.proofs.head_at.Tie as tie
 returns : tie.Need-returns
 unfolding slot_at
 returns c = λ cs.
-    let s = c.before.before.before in
-    rw (to_z-of_z {w = w16} {z = get_or s.args.limits.now s.args.i (pos 0)} (record { sfits = c.result-1.given }), c.item_at-item.ensures) refl
+    rw (to_z-of_z {w = w16} {z = get_or c.args.limits.now c.args.i (pos 0)} (record { sfits = c.result-1.given }), c.item_at-item.ensures) refl
 
 pub head_at_spec : {M : Type 1} → statement M
 head_at_spec = tie.close (tie.spec

@@ -12,16 +12,14 @@ use Rattle.preview.proofs.is_owned.Tie as tie
 returns : tie.Need-returns-in-Nothing
 unfolding holds
 returns c = λ h f t v.
-    let s = c.before.before.before.before.before.before in
     ap not c.equals_at.ensures
-    ∙ owned_by (save_of s.args.items.now s.args.atcs.now f t v) s.args.attached.now h s.args.item.0 _ (sym (ap atc_is c.in-Nothing.is) ∙ c.atc_for-atc.ensures)
+    ∙ owned_by (save_of c.args.items.now c.args.atcs.now f t v) c.args.attached.now h c.args.item.0 _ (sym (ap atc_is c.in-Nothing.is) ∙ c.atc_for-atc.ensures)
 
 returns-2 : tie.Need-returns-in-Of
 unfolding holds
 returns-2 c = λ h f t v.
-    let s = c.before.before.before.before.before.before in
     c.bit_at.ensures
-    ∙ owned_by (save_of s.args.items.now s.args.atcs.now f t v) s.args.attached.now h s.args.item.0 _ (sym (ap atc_is c.in-Of.is) ∙ c.atc_for-atc.ensures)
+    ∙ owned_by (save_of c.args.items.now c.args.atcs.now f t v) c.args.attached.now h c.args.item.0 _ (sym (ap atc_is c.in-Of.is) ∙ c.atc_for-atc.ensures)
 
 pub is_owned_spec : {M : Type 1} → statement M
 is_owned_spec =

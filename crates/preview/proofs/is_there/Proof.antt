@@ -12,13 +12,13 @@ use Rattle.preview.proofs.is_there.Statement.{statement}
 use Rattle.preview.proofs.is_there.Tie as tie
 
 returns : tie.Need-returns-in-Item
-returns c = λ t v. ap not c.equals_at.ensures ∙ (let s = c.before.before.before.before.before in there_by (save_of s.args.items.now s.args.atcs.now s.args.flags.now t v) s.args.code _ _ c.subject_of-about.ensures (ap subject_is c.in-Item.is))
+returns c = λ t v. ap not c.equals_at.ensures ∙ (there_by (save_of c.args.items.now c.args.atcs.now c.args.flags.now t v) c.args.code _ _ c.subject_of-about.ensures (ap subject_is c.in-Item.is))
 
 returns-2 : tie.Need-returns-in-Atc
-returns-2 c = λ t v. c.bit_at.ensures ∙ (let s = c.before.before.before.before.before in there_by (save_of s.args.items.now s.args.atcs.now s.args.flags.now t v) s.args.code _ _ c.subject_of-about.ensures (ap subject_is c.in-Atc.is))
+returns-2 c = λ t v. c.bit_at.ensures ∙ (there_by (save_of c.args.items.now c.args.atcs.now c.args.flags.now t v) c.args.code _ _ c.subject_of-about.ensures (ap subject_is c.in-Atc.is))
 
 returns-3 : tie.Need-returns-in-Flag
-returns-3 c = λ t v. (rw (to_z-of_z {w = w32} (record { sfits = subject_low c.args.code _ (sym (ap subject_is c.in-Flag.is) ∙ c.subject_of-about.ensures) })) at c.flag_at.ensures) ∙ (let s = c.before.before.before.before.before in there_by (save_of s.args.items.now s.args.atcs.now s.args.flags.now t v) s.args.code _ _ c.subject_of-about.ensures (ap subject_is c.in-Flag.is))
+returns-3 c = λ t v. (rw (to_z-of_z {w = w32} (record { sfits = subject_low c.args.code _ (sym (ap subject_is c.in-Flag.is) ∙ c.subject_of-about.ensures) })) at c.flag_at.ensures) ∙ (there_by (save_of c.args.items.now c.args.atcs.now c.args.flags.now t v) c.args.code _ _ c.subject_of-about.ensures (ap subject_is c.in-Flag.is))
 
 pub is_there_spec : {M : Type 1} → statement M
 is_there_spec =

@@ -12,10 +12,9 @@ use Rattle.preview.proofs.limit_meaning.Tie as tie
 
 returns : tie.Need-returns-then-r
 returns c = λ bs f t v.
-    let s = c.before.before.before.before.before in
     let e = rw (to_z-of_z {w = w16} (record { sfits = c.short_at.type_inv })) at c.remaining.ensures in
-    let d = to_z-of_z {w = w32} (record { sfits = c.remaining.type_inv }) ∙ e ∙ ap (λ (z : ℤ). clamp (pos s.args.limit -ℤ z)) c.short_at.ensures in
-    rw (c.if-r.true, to_z_pos w32 {n = s.args.item.0} (omega arith)) (ap (kept s.args.item.0) d)
+    let d = to_z-of_z {w = w32} (record { sfits = c.remaining.type_inv }) ∙ e ∙ ap (λ (z : ℤ). clamp (pos c.args.limit -ℤ z)) c.short_at.ensures in
+    rw (c.if-r.true, to_z_pos w32 {n = c.args.item.0} (omega arith)) (ap (kept c.args.item.0) d)
 
 returns-2 : tie.Need-returns
 returns-2 c = λ bs f t v. rw c.if-r.false c.hidden.ensures

@@ -13,7 +13,7 @@ use Rattle.shop_arrays.specs.Arrays.{arrays_in, shop_from}
 use Rattle.shop_arrays.specs.Slots.{slots_long}
 use Rattle.checks.specs.Calls.{save_of}
 use Rattle.preview.specs.Shown.{previewed_of}
-use Rattle.preview.proofs.Checks.{answered}
+use Rattle.preview.proofs.Checks.{answered as call_answered}
 use borrow.Author.Rules.{rules}
 use Rattle.preview.proofs.preview_arrays.Statement.{statement}
 use Rattle.preview.proofs.preview_arrays.Tie as tie
@@ -39,7 +39,7 @@ returns : tie.Need-returns-then-not-check_sheet
 unfolding previewed_of
 returns c =
     let s = c.before.before.before.before.before.before in
-    answered (sheet s) (save s) (shop s) (size s) _ false _ _ _
+    call_answered (sheet s) (save s) (shop s) (size s) _ false _ _ _
     (answered (sheet_ok (sheet s)) c.check_sheet.ensures c.if-not-check_sheet.true)
     refl refl refl c.blank.ensures
 
@@ -47,7 +47,7 @@ returns-2 : tie.Need-returns-then-not-check_arrays
 unfolding previewed_of
 returns-2 c =
     let s = c.before.before.before.before.before.before.before.before in
-    answered (sheet s) (save s) (shop s) (size s) _ true false _ _
+    call_answered (sheet s) (save s) (shop s) (size s) _ true false _ _
     (answered (sheet_ok (sheet s)) c.check_sheet.ensures c.if-not-check_sheet.false)
     (answered (slots-ok s) (c.check_arrays.ensures s.args.limits.now) c.if-not-check_arrays.true)
     refl refl c.blank-then-not-check_arrays.ensures
@@ -56,7 +56,7 @@ returns-3 : tie.Need-returns-then-not-check_save
 unfolding previewed_of
 returns-3 c =
     let s = c.before.before.before.before.before.before.before.before.before.before in
-    answered (sheet s) (save s) (shop s) (size s) _ true true false _
+    call_answered (sheet s) (save s) (shop s) (size s) _ true true false _
     (answered (sheet_ok (sheet s)) c.check_sheet.ensures c.if-not-check_sheet.false)
     (answered (slots-ok s) (c.check_arrays.ensures s.args.limits.now) c.if-not-check_arrays.false)
     (answered (save_ok (sheet s) (save s)) c.check_save.ensures c.if-not-check_save.true)
@@ -65,7 +65,7 @@ returns-3 c =
 returns-4 : tie.Need-returns
 returns-4 c =
     let s = c.before.before.before.before.before.before.before.before.before.before in
-    answered (sheet s) (save s) (shop s) (size s) _ true true true _
+    call_answered (sheet s) (save s) (shop s) (size s) _ true true true _
     (answered (sheet_ok (sheet s)) c.check_sheet.ensures c.if-not-check_sheet.false)
     (answered (slots-ok s) (c.check_arrays.ensures s.args.limits.now) c.if-not-check_arrays.false)
     (answered (save_ok (sheet s) (save s)) c.check_save.ensures c.if-not-check_save.false)

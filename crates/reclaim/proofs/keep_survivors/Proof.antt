@@ -14,31 +14,31 @@ use Rattle.reclaim.proofs.keep_survivors.Statement.{statement}
 use Rattle.reclaim.proofs.keep_survivors.Tie as tie
 
 -- the record after the call
-abbrev kept : tie.After-through-image → Memory
-kept c = memory_of c.through-image.new.0 c.through-image.new.1.0 c.through-image.new.1.1.0 c.through-image.new.1.1.1.0 c.through-image.result
+abbrev kept : tie.After-through_image → Memory
+kept c = memory_of c.through_image.new.0 c.through_image.new.1.0 c.through_image.new.1.1.0 c.through_image.new.1.1.1.0 c.through_image.result
 
-reach-roots-requires : tie.Need-reach-roots-requires
+reach-roots-requires : tie.Need-reach_roots-requires
 reach-roots-requires c κs =
-    let s = c.before.before.before.before.before.before.before in
+    let s = c.before.before.before.before.before in
     (words_safe s.args.ws.now s.args.val.now _ _ s.args.counts s.requires.0, roots_inside s.args.counts.blocks s.args.roots.now s.requires.1, refl)
 
-pack-marked-requires : tie.Need-pack-marked-requires
+pack-marked-requires : tie.Need-pack_marked-total-requires
 pack-marked-requires c κs =
-    let s = c.before.before.before.before.before.before.before.before.before.before.before.before.before.before in
+    let s = c.before.before.before.before.before.before.before.before.before.before.before.before in
     kept_low s.args.ws.now s.args.val.now s.args.cw.now s.args.bw.now s.args.counts s.requires.0
 
-through-image-requires : tie.Need-through-image-requires
+through-image-requires : tie.Need-through_image-requires
 through-image-requires c κs =
-    let s = c.before.before.before.before.before.before.before.before.before.before.before.before.before.before.before.before.before.before.before.before.before.before in
-    (packed_fine s.args.ws.now s.args.val.now s.args.cw.now s.args.bw.now s.args.counts s.requires.0 _ _ _ c.before.before.before.before.before.before.before.before.before.before.before.before.before.before.reach-roots.ensures _ _ _ _ _ c.before.before.before.before.before.before.before.pack-marked.ensures, omega (arith, length-replicate {A = ℕ} (most_bytes block_limit command_limit node_limit) 0))
+    let s = c.before.before.before.before.before.before.before.before.before.before.before.before.before.before.before.before.before.before.before.before in
+    (packed_fine s.args.ws.now s.args.val.now s.args.cw.now s.args.bw.now s.args.counts s.requires.0 _ _ _ c.reach_roots.ensures _ _ _ _ _ c.pack_marked-total.ensures, omega (arith, length-replicate {A = ℕ} (most_bytes block_limit command_limit node_limit) 0))
 
 returns : tie.Need-returns
 returns c =
-    let s = c.before.before.before.before.before.before.before.before.before.before.before.before.before.before.before.before.before.before.before.before.before.before.before.before in
-    kept_only_lem s.args.ws.now s.args.val.now s.args.cw.now s.args.bw.now s.args.counts s.requires.0 _ _ _ c.before.before.before.before.before.before.before.before.before.before.before.before.before.before.before.before.reach-roots.ensures _ _ _ _ _ c.before.before.before.before.before.before.before.before.before.pack-marked.ensures (kept c.before) c.before.through-image.ensures
+    let s = c.before.before.before.before.before.before.before.before.before.before.before.before.before.before.before.before.before.before.before.before.before.before in
+    kept_only_lem s.args.ws.now s.args.val.now s.args.cw.now s.args.bw.now s.args.counts s.requires.0 _ _ _ c.reach_roots.ensures _ _ _ _ _ c.pack_marked-total.ensures (kept c.before) c.through_image.ensures
 
-pub keep-survivors-spec : {M : Type 1} → statement M
-keep-survivors-spec =
+pub keep_survivors_spec : {M : Type 1} → statement M
+keep_survivors_spec =
     tie.close
     (tie.spec
     reach-roots-requires

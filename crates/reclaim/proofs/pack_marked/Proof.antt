@@ -4,24 +4,24 @@ use borrow.Author.Rules.{rules}
 use Rattle.reclaim.proofs.pack_marked.Statement.{statement}
 use Rattle.reclaim.proofs.pack_marked.Tie as tie
 
-tell-moved-requires : tie.Need-tell-moved-requires
+tell-moved-requires : tie.Need-tell_moved-requires
 tell-moved-requires c κs =
-    let s = c.before.before.before.before.before.before.before.before in
-    (s.requires.0, tell_asks _ s.args.counts _ _ _ s.requires.0 s.requires.1 c.before.before.before.before.known.ensures _ c.before.before.number.ensures.0)
+    let s = c.before.before.before.before in
+    (s.requires.0, tell_asks _ s.args.counts _ _ _ s.requires.0 s.requires.1 c.known-all.ensures _ c.number-total.ensures.0)
 
 pack-requires : tie.Need-pack-requires
 pack-requires c κs =
-    let s = c.before.before.before.before.before.before.before.before.before.before.before.before.before.before.before.before in
-    let a = pack_asks _ s.args.counts _ _ _ s.requires.0 s.requires.1 c.before.before.before.before.before.before.before.before.before.before.before.before.known.ensures _ _ c.before.before.before.before.before.before.before.before.before.before.number.ensures.0 c.before.before.before.before.before.before.before.before.before.before.number.ensures.1 in
+    let s = c.before.before.before.before.before.before.before.before.before.before in
+    let a = pack_asks _ s.args.counts _ _ _ s.requires.0 s.requires.1 c.known-all.ensures _ _ c.number-total.ensures.0 c.number-total.ensures.1 in
     (s.requires.0, a.0, a.1)
 
 returns : tie.Need-returns
 returns c =
-    let s = c.before.before.before.before.before.before.before.before.before.before.before.before.before.before.before.before.before in
-    packed_by _ s.args.counts _ _ _ s.requires.0 s.requires.1 c.before.before.before.before.before.before.before.before.before.before.before.before.before.known.ensures _ _ _ _ _ _ _ c.before.before.before.before.before.before.before.before.before.before.before.number.ensures.0 c.before.before.before.before.before.before.before.before.before.before.before.number.ensures.1 c.before.before.before.follow.ensures c.pack.ensures c.before.before.before.before.before.before.pack-births.ensures c.before.before.before.before.before.before.before.before.tell-moved.ensures
+    let s = c.before.before.before.before.before.before.before.before.before.before.before in
+    packed_by _ s.args.counts _ _ _ s.requires.0 s.requires.1 c.known-all.ensures _ _ _ _ _ _ _ c.number-total.ensures.0 c.number-total.ensures.1 c.follow.ensures c.pack.ensures c.pack_births.ensures c.tell_moved.ensures
 
-pub pack-marked-spec : {M : Type 1} → statement M
-pack-marked-spec =
+pub pack_marked_spec : {M : Type 1} → statement M
+pack_marked_spec =
     tie.close
     (tie.spec
     (λ c κs. search rules)

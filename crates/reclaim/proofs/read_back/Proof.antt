@@ -4,11 +4,16 @@ use borrow.Author.Rules.{rules}
 use Rattle.reclaim.proofs.read_back.Statement.{statement}
 use Rattle.reclaim.proofs.read_back.Tie as tie
 
-returns : tie.Need-returns
-returns c = λ bs e. read_is _ _ _ _ _ _ _ c.before.before.before.read-script.ensures bs _ e _ c.before.r.given.1
+returns : tie.Need-returns-in-Read
+returns c = λ bs e. read_is _ _ _ _ _ _ _ c.read_script-r.ensures bs _ e _ c.in-Read.is
 
-returns-2 : tie.Need-returns-2
-returns-2 c = λ bs e. absurd (read_never _ _ _ _ _ _ _ c.before.before.read-script.ensures bs _ e _ c.enum_told.given.1)
+returns-2 : tie.Need-returns-in-No
+returns-2 c = λ bs e. absurd (read_never _ _ _ _ _ _ _ c.read_script-r.ensures bs _ e _ c.in-No.is)
 
-pub read-back-spec : {M : Type 1} → statement M
-read-back-spec = tie.close (tie.spec (λ c κs. search rules) (λ c. search rules) (λ c. search rules) returns returns-2)
+pub read_back_spec : {M : Type 1} → statement M
+read_back_spec = tie.close (tie.spec
+    (λ c κs. search rules)
+    (λ c. search rules)
+    (λ c. search rules)
+    returns
+    returns-2)

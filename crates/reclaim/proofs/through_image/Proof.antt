@@ -6,17 +6,17 @@ use borrow.Author.Rules.{rules}
 use Rattle.reclaim.proofs.through_image.Statement.{statement}
 use Rattle.reclaim.proofs.through_image.Tie as tie
 
-slice-reshare-prefix-read-back : tie.Need-slice-reshare-prefix-read-back
-slice-reshare-prefix-read-back c = bytes_fit _ c.before.before.before.before.before.before.before.requires.0 _ c.before.before.before.before.before.before.before.requires.1 _ _ _ c.before.before.write-script.ensures
+slice-reshare-prefix-read-back : tie.Need-slice_bounds-read_back-end
+slice-reshare-prefix-read-back c = bytes_fit _ c.requires.0 _ c.requires.1 _ _ _ c.write_script-w.ensures
 
-slice-aggregate-read-back : tie.Need-slice-aggregate-read-back
-slice-aggregate-read-back c = sym (length-take-le _ _ (bytes_fit _ c.before.before.before.before.before.before.before.before.requires.0 _ c.before.before.before.before.before.before.before.before.requires.1 _ _ _ c.before.before.before.write-script.ensures))
+slice-aggregate-read-back : tie.Need-slice_bounds-read_back-end-2
+slice-aggregate-read-back c = sym (length-take-le _ _ (bytes_fit _ c.requires.0 _ c.requires.1 _ _ _ c.write_script-w.ensures))
 
 returns : tie.Need-returns
-returns c = c.read_back.ensures _ (bytes_read _ c.before.before.before.before.before.before.before.before.before.before.before.before.before.requires.0 _ c.before.before.before.before.before.before.before.before.before.before.before.before.before.requires.1 _ _ _ c.before.before.before.before.before.before.before.before.write-script.ensures)
+returns c = c.read_back.ensures _ (bytes_read _ c.requires.0 _ c.requires.1 _ _ _ c.write_script-w.ensures)
 
-pub through-image-spec : {M : Type 1} → statement M
-through-image-spec =
+pub through_image_spec : {M : Type 1} → statement M
+through_image_spec =
     tie.close
     (tie.spec
     (λ c κs. search rules)
