@@ -1,4 +1,3 @@
-
 -- `births::birth_of` meets its contract: past the array's end there is no mark. Assumes nothing.
 use mathlib.Core.Path.{sym}
 use lib.ListN.{get_or-eq_default}

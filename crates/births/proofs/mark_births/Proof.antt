@@ -1,4 +1,3 @@
-
 -- `births::mark_births` meets its contract: the invariant says which marks are still to be written. Assumes nothing.
 use mathlib.Core.Path.{◌≡◌, refl, sym, ◌∙◌}
 use Prim.Native.Nat.{◌-◌, ◌≤◌}

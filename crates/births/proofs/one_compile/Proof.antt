@@ -1,4 +1,3 @@
-
 -- `births::one_compile` meets its contract. Assumes nothing.
 use borrow.Author.Rules.{rules}
 use Rattle.births.specs.Births.{compile_more, compile_stays}

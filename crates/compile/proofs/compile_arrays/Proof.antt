@@ -71,7 +71,7 @@ room-answers c =
     let d = c.before in
     let s = d.before.before.before.before.before.before.before in
     let m = (bornIn s).memory in
-    room_decides (sheet s) (bornIn s) s.args.loader s.args.setup.0 (given s) (size s) (first-passed d.before.before.before.before.before) (born-passed d.before.before) (shop-passed d) _
+    room_decides (sheet s) (bornIn s) s.args.loader s.args.setup.0 (given s) (size s) (first-passed d.before.before.before.before) (born-passed d.before.before) (shop-passed d) _
     (c.check_room-full.ensures (script_of m) (blocks_counted m) (commands_kept_lem m) (nodes_kept m))
 
 allowed : (c : tie.Else-full-ne0) → let s = c.before.before.before.before.before.before.before.before.before in
@@ -111,21 +111,19 @@ set-block-requires c κs = let g = allowed c.before.before.before.before.before.
 
 mark-births-requires : tie.Need-mark_births-requires
 mark-births-requires c κs =
-    let d = c.before.before.before.before.before in
-    let g = allowed d.before.before.before.before.before in
-    (omega (arith, d.compile_shop-after.ensures.counted), omega (arith, g.room.blocks, d.compile_shop-after.ensures.counted))
+    let g = allowed c.before.before.before.before.before.before.before.before.before.before in
+    (omega (arith, c.compile_shop-after.ensures.counted), omega (arith, g.room.blocks, c.compile_shop-after.ensures.counted))
 
 -- the record with the shop's blocks at its end
 abbrev put : tie.After-compile_shop-after → Memory
-put d = let l = d.compile_shop-after.new in memory_of l.1.1.0 l.1.1.1.0 l.1.1.1.1.0 l.1.1.1.1.1.0 d.compile_shop-after.result
+put d = let l = d.compile_shop-after.new in memory_of l.ws l.val l.cw l.bw d.compile_shop-after.result
 
 returns-5 : tie.Need-returns
 returns-5 c =
     let d = c.before.before.before.before.before.before.before in
-    let a = d.before.before.before.before.before in
-    let s = a.before.before.before.before.before.before.before.before.before in
+    let s = d.before.before.before.before.before.before.before.before.before.before.before.before.before.before in
     rw (c.answer-2.ensures, c.mark_births.ensures, c.one_compile-mark.ensures, c.set_block.ensures)
-    (compiled_accepted (sheet s) (bornIn s) s.args.loader s.args.setup.0 (given s) (size s) a.check_room-full.result (room-answers a.before) a.if-full-ne0.false (put d) d.compile_shop-after.ensures)
+    (compiled_accepted (sheet s) (bornIn s) s.args.loader s.args.setup.0 (given s) (size s) d.check_room-full.result (room-answers d.before.before.before.before.before.before) d.if-full-ne0.false (put d) d.compile_shop-after.ensures)
 
 pub compile_arrays_spec : {M : Type 1} → statement M
 compile_arrays_spec =

@@ -1,4 +1,3 @@
-
 -- `evaluate_below` meets its contract: by the kind found at the node. The measure is b, the node whose operand is read. Assumes nothing.
 use mathlib.Core.Path.{◌≡◌, ap, ◌∙◌}
 use native.Mathlib.Omega.{arith}

@@ -1,4 +1,3 @@
-
 -- `expr::apply_one` meets its contract: each arm is its operator. Assumes nothing.
 use mathlib.Core.Path.{◌≡◌, sym, ap, ◌∙◌}
 use mathlib.Core.List.{List}

@@ -1,4 +1,3 @@
-
 -- `evaluate` meets its contract: an Imm is worth its number, all else what `evaluate_below` packs. Assumes nothing.
 use mathlib.Core.Path.{◌≡◌, ap, ◌∙◌}
 use Prim.Native.Nat.{ℕ, ◌<◌}

@@ -1,4 +1,3 @@
-
 -- `expr::is_readable` meets its contract: a flag is looked at, the rest may be read. Assumes nothing.
 use mathlib.Core.Path.{◌≡◌, sym, ap, ◌∙◌}
 use mathlib.Core.Bool.{Bool}

@@ -1,4 +1,3 @@
-
 -- `expr::join_one` meets its contract: a refusal goes on, a value is applied. Assumes nothing.
 use mathlib.Core.Path.{◌≡◌, refl, sym, ap, ◌∙◌}
 use mathlib.Core.List.{List}

@@ -1,4 +1,3 @@
-
 -- `expr::join_two` meets its contract: the operands are joined left first. Assumes nothing.
 use mathlib.Core.Path.{sym, ap, ap₂, ◌∙◌}
 use mir.Syntax.{w32}

@@ -1,4 +1,3 @@
-
 -- `expr::number_at` meets its contract: the place read is the one that the number names. Assumes nothing.
 use mathlib.Core.Path.{◌∙◌}
 use mir.Syntax.{w32}

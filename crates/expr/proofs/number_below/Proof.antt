@@ -1,4 +1,3 @@
-
 -- `expr::number_below` meets its contract: by the kind found at the node. Assumes nothing.
 use mir.Syntax.{w32}
 use mir.Facts.{to_z-of_z}

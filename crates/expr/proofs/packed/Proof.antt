@@ -1,4 +1,3 @@
-
 -- `packed` meets its contract: by what the value is. Assumes nothing.
 use native.Mathlib.Omega.{arith}
 use mir.Syntax.{w32}

@@ -1,4 +1,3 @@
-
 -- `packed_number` meets its contract: an Imm's number is packed, and where there is none the first refusal stands for it. Assumes nothing.
 use mir.Syntax.{w32}
 use mir.Facts.{to_z-of_z}

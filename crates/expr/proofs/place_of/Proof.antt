@@ -1,4 +1,3 @@
-
 -- `expr::place_of` meets its contract: a number that is not negative is its own place. Assumes nothing.
 use mir.Syntax.{w32}
 use mir.Facts.{to_z-of_z, Fits-nat_abs}

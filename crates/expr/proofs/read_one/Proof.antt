@@ -1,4 +1,3 @@
-
 -- `expr::read_one` meets its contract: what may be read is applied, else 23. Assumes nothing.
 use mathlib.Core.Path.{◌≡◌, sym, ap, ◌∙◌}
 use mathlib.Core.Bool.{Bool, true, false, cond}

@@ -1,4 +1,3 @@
-
 -- `expr::signed_of` meets its contract: a byte is below 2 ^ 31. Assumes nothing.
 use Prim.Native.Nat.{◌<◌}
 use native.Mathlib.Omega.{arith}

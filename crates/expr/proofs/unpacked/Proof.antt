@@ -1,4 +1,3 @@
-
 -- `unpacked` meets its contract: by whether the number is above the bits of every value. Assumes nothing.
 use mathlib.Core.Path.{sym, ap, ◌∙◌}
 use native.Mathlib.Omega.{arith}

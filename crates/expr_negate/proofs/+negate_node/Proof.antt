@@ -1,4 +1,3 @@
-
 -- `expr_negate::negate_node` meets its contract: by the code found at the node. The measure is the node's number. Assumes nothing.
 use mathlib.Core.Path.{refl}
 use native.Mathlib.Omega.{arith}

@@ -1,4 +1,3 @@
-
 -- `expr_negate::flipped` meets its contract, by the tests as they come. Assumes nothing.
 use native.Mathlib.Omega.{arith}
 use borrow.Author.Tests.{lt-ltb, le-ltb, eq-eqb, ne_eqb}

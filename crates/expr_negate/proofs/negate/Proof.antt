@@ -1,4 +1,3 @@
-
 -- `expr_negate::negate` meets its contract: a Not on top of what passes for a sum, and anything else flipped where it stands. Assumes nothing.
 use Prim.Native.Nat.{◌-◌}
 use mathlib.Core.Path.{ap, sym, ◌∙◌}

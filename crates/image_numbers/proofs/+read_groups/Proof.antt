@@ -1,4 +1,3 @@
-
 -- read_groups keeps its promise; the steps are laws of specs/NumberLaws.antt.
 use Prim.Native.Nat.{◌≤◌, ◌-◌}
 use native.Mathlib.Omega.{arith}

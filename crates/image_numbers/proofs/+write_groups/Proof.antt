@@ -1,4 +1,3 @@
-
 -- `image_numbers::write_groups` meets its contract: the number of groups that may still come falls. Assumes nothing.
 use mathlib.Core.Path.{◌≡◌, ◌∙◌}
 use lib.ListN.{length-set}

@@ -1,4 +1,3 @@
-
 -- `image_numbers::folded` meets its contract, by the number's sign. Assumes nothing.
 use Rattle.image_numbers.specs.Signed.{Flipped, flipped, Plain, plain}
 use native.Mathlib.Omega.{arith}

@@ -1,4 +1,3 @@
-
 -- read_number keeps its promise; the steps are laws of specs/NumberLaws.antt.
 use Rattle.image_numbers.specs.NumberLaws.{told_under, told_over, told_none_under}
 use borrow.Author.Rules.{rules}

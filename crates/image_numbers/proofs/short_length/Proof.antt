@@ -1,4 +1,3 @@
-
 -- `image_numbers::short_length` meets its contract. Assumes nothing.
 use native.Mathlib.Omega.{arith}
 use Rattle.image_numbers.specs.Lengths.{short_word}

@@ -1,4 +1,3 @@
-
 -- signed keeps its promise; the steps are laws of specs/Signed.antt.
 use Rattle.image_numbers.specs.Signed.{signed_even, signed_fits, signed_odd}
 use borrow.Author.Rules.{rules}

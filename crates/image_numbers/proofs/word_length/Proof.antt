@@ -1,4 +1,3 @@
-
 -- `image_numbers::word_length` meets its contract: a group more for each bound passed. Assumes nothing.
 use Rattle.image_numbers.specs.Lengths.{word_1, word_2, word_3, word_4, word_5}
 use Rattle.image_numbers.proofs.word_length.Statement.{statement}

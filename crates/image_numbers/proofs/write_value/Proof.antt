@@ -1,4 +1,3 @@
-
 -- `image_numbers::write_value` meets its contract. Assumes nothing.
 use mathlib.Core.Path.{◌≡◌, ap, sym}
 use mir.Facts.{to_z-of_z}

@@ -1,4 +1,3 @@
-
 -- `image_numbers::write_word` meets its contract, where five groups are enough. Assumes nothing.
 use Rattle.model.specs.Reading.{word}
 use Rattle.image_numbers.specs.Words.{room_last, stored_last}

@@ -1,4 +1,3 @@
-
 -- read_expr keeps its promise; the steps are laws of specs/ExprLaws.antt.
 use Rattle.model.specs.Limits.{depth_limit}
 use Rattle.image_read.specs.ExprLaws.{headed, roomy, done, grown, told_no, told_other, told_imm16, told_imm32, told_one, told_two_no, told_two}

@@ -1,4 +1,3 @@
-
 -- push_one keeps its promise; the steps are laws of specs/ExprLaws.antt.
 use native.Mathlib.Omega.{arith}
 use Rattle.image_read.specs.ExprLaws.{room_of, above_one, above_one_no}

@@ -1,4 +1,3 @@
-
 -- push_two keeps its promise; the steps are laws of specs/ExprLaws.antt.
 use native.Mathlib.Omega.{arith}
 use Rattle.image_read.specs.ExprLaws.{room_of, above_two, above_two_no}

@@ -1,4 +1,3 @@
-
 -- read_all keeps its promise; the steps are laws of specs/Whole.antt.
 use Rattle.model.specs.Memory.{memory_in}
 use Rattle.image_read.specs.Whole.{image_bad, image_place, image_full, image_no, image_left, image_done}

@@ -1,4 +1,3 @@
-
 -- read_block keeps its promise; the steps are laws of specs/BlockLaws.antt.
 use Rattle.image_read.specs.BlockLaws.{kind_bad, placeholder_done, data_done, code_told}
 use borrow.Author.Rules.{rules}

@@ -1,4 +1,3 @@
-
 -- read_block_no keeps its promise; the steps are laws of specs/CommandLaws.antt.
 use Rattle.image_read.specs.CommandLaws.{block_in_lem, block_out, block_bad}
 use borrow.Author.Rules.{rules}

@@ -1,4 +1,3 @@
-
 -- read_blocks keeps its promise; the steps are laws of specs/BlockLoop.antt.
 use lib.ListN.{drop}
 use Rattle.model.specs.Image.{read_blocks}

@@ -1,4 +1,3 @@
-
 -- read_code keeps its promise; the steps are laws of specs/BlockLaws.antt.
 use Rattle.image_read.specs.BlockLaws.{declared, code_count_no, code_commands_no, code_links_no, code_done}
 use native.Mathlib.Omega.{arith}

@@ -1,4 +1,3 @@
-
 -- read_command keeps its promise; the steps are laws of specs/CommandLaws.antt.
 use Rattle.image_read.specs.CommandLaws.{command_bad, return_done, other_done, goto_told, endif_told, if_told, set_told}
 use borrow.Author.Rules.{rules}

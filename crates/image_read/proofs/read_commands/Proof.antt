@@ -1,4 +1,3 @@
-
 -- read_commands keeps its promise; the steps are laws of specs/CommandLoop.antt.
 use lib.ListN.{drop}
 use Rattle.model.specs.Image.{read_commands}

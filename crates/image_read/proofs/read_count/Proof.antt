@@ -1,4 +1,3 @@
-
 -- read_count keeps its promise; the steps are laws of specs/BlockLaws.antt.
 use Rattle.image_read.specs.BlockLaws.{count_bad, count_low, count_full, count_done}
 use native.Mathlib.Omega.{arith}

@@ -1,4 +1,3 @@
-
 -- read_head keeps its promise; the steps are laws of specs/ExprLaws.antt.
 use Rattle.image_read.specs.ExprLaws.{head_bad, head_low, head_full, head_deep, head_done}
 use native.Mathlib.Omega.{arith}

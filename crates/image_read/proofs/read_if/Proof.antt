@@ -1,4 +1,3 @@
-
 -- read_if keeps its promise; the steps are laws of specs/CommandLaws.antt.
 use Rattle.image_read.specs.CommandLaws.{is_term, no_term, if_no, if_no_2, if_done}
 use native.Mathlib.Omega.{arith}

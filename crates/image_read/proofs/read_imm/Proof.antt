@@ -1,4 +1,3 @@
-
 -- read_imm keeps its promise; the steps are laws of specs/ExprLaws.antt.
 use mir.Facts.{to_z-of_z}
 use mir.Syntax.{w32}

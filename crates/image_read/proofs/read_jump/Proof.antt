@@ -1,4 +1,3 @@
-
 -- read_jump keeps its promise; the steps are laws of specs/CommandLaws.antt.
 use Rattle.image_read.specs.CommandLaws.{jump_done, jump_no}
 use borrow.Author.Rules.{rules}

@@ -1,4 +1,3 @@
-
 -- read_link keeps its promise; the steps are laws of specs/BlockLaws.antt.
 use Rattle.image_read.specs.BlockLaws.{link_in_lem, link_out, link_bad}
 use borrow.Author.Rules.{rules}

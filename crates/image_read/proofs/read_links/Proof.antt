@@ -1,4 +1,3 @@
-
 -- read_links keeps its promise; the steps are laws of specs/BlockLaws.antt.
 use Rattle.image_read.specs.BlockLaws.{links_no, links_no_2, links_done}
 use borrow.Author.Rules.{rules}

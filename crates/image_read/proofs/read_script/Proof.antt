@@ -1,4 +1,3 @@
-
 -- read_script keeps its promise; the steps are laws of specs/Whole.antt.
 use Rattle.image_read.specs.Whole.{outcome_read, outcome_no}
 use borrow.Author.Rules.{rules}

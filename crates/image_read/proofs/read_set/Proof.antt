@@ -1,4 +1,3 @@
-
 -- read_set keeps its promise; the steps are laws of specs/CommandLaws.antt.
 use Rattle.image_read.specs.CommandLaws.{is_term, no_term, set_bad, set_no, set_no_2, set_other_lem, set_variable_lem}
 use native.Mathlib.Omega.{arith}

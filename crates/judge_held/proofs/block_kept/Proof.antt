@@ -1,4 +1,3 @@
-
 -- `held::block_kept` meets its contract: by its kind, and by the run of its first command if that is kept. Assumes nothing.
 use Rattle.judge_held.specs.Runs.{kept_not_code, kept_run, kept_past}
 use native.Mathlib.Omega.{arith}

@@ -1,4 +1,3 @@
-
 -- `held::blocks_kept` meets its contract. The invariant says that the blocks so far hold nothing past the counts; the measure is how many are left. Assumes nothing.
 use Rattle.judge_held.specs.Runs.{Passed, passed_none, passed_more, passed_stop, passed_all}
 use Prim.Native.Nat.{◌-◌}

@@ -1,4 +1,3 @@
-
 -- `held::held_kept` meets its contract: the blocks, by the runs that were noted. Assumes nothing.
 use borrow.Author.Rules.{rules}
 use Rattle.judge_held.proofs.held_kept.Statement.{statement}

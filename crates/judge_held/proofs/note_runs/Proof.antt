@@ -1,4 +1,3 @@
-
 -- `held::note_runs` meets its contract: from i on the runs are noted. The measure is i. Assumes nothing.
 use Rattle.judge_held.specs.Runs.{Run, Runs, run_last, runs_none, runs_more}
 use Prim.Native.Nat.{ℕ, suc, ◌-◌, ◌≤◌}

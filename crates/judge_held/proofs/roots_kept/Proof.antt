@@ -1,4 +1,3 @@
-
 -- `held::roots_kept` meets its contract: by its code. Assumes nothing.
 use Rattle.judge_held.specs.Runs.{roots_set, roots_if, roots_none}
 use Rattle.model.specs.Memory.{coded_in}

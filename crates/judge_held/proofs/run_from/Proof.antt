@@ -1,4 +1,3 @@
-
 -- `held::run_from` meets its contract: one more than the next run, or none. Assumes nothing.
 use Rattle.judge_held.specs.Runs.{run_more, run_stop}
 use borrow.Author.Rules.{rules}

@@ -1,4 +1,3 @@
-
 -- `held::set_kept` meets its contract: by its target. Assumes nothing.
 use Rattle.judge_held.specs.Runs.{set_both, set_target, set_value}
 use Rattle.model.specs.Memory.{coded_in}

@@ -1,4 +1,3 @@
-
 -- `judge::judge_block` meets its contract, by the block's kind. Assumes nothing.
 use Rattle.model.specs.Image.{limits}
 use Rattle.model.specs.Memory.{memory_in}

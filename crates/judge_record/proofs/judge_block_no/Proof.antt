@@ -1,4 +1,3 @@
-
 -- `judge::judge_block_no` meets its contract. Assumes nothing.
 use Rattle.judge_record.specs.Links.{block_there, block_absent}
 use borrow.Author.Rules.{rules}

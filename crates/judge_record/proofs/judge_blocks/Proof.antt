@@ -1,4 +1,3 @@
-
 -- `judge::judge_blocks` meets its contract. The invariant says which blocks were seen; the measure is how many are left. Assumes nothing.
 use Rattle.model.specs.Memory.{memory_in}
 use Rattle.memory.specs.View.{memory_of}

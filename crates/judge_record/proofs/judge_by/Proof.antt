@@ -1,4 +1,3 @@
-
 -- `judge::judge_by` meets its contract: the kept counts, the walk, and where it refuses what is held past the kept counts. Assumes nothing.
 use Rattle.judge_record.specs.Whole.{limits_over, walked_fine, walked_no, held_past}
 use Rattle.model.specs.Memory.{memory_in}

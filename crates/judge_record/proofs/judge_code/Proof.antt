@@ -1,4 +1,3 @@
-
 -- `judge::judge_code` meets its contract: count, commands, next and else in turn. Assumes nothing.
 use Rattle.model.specs.Image.{limits}
 use Rattle.model.specs.Memory.{memory_in}

@@ -1,4 +1,3 @@
-
 -- `judge::judge_commands` meets its contract. The invariant says which commands were seen; the measure is how many are left. Assumes nothing.
 use Rattle.model.specs.Image.{limits}
 use Rattle.model.specs.Memory.{coded_in}

@@ -1,4 +1,3 @@
-
 -- `judge::judge_if` meets its contract. Assumes nothing.
 use Rattle.model.specs.Image.{limits}
 use Rattle.model.specs.Memory.{coded_in}

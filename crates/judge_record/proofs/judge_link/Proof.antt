@@ -1,4 +1,3 @@
-
 -- `judge::judge_link` meets its contract. Assumes nothing.
 use Rattle.judge_record.specs.Links.{link_there, link_absent}
 use borrow.Author.Rules.{rules}

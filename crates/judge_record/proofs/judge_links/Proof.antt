@@ -1,4 +1,3 @@
-
 -- `judge::judge_links` meets its contract. Assumes nothing.
 use Rattle.judge_terms.specs.Pieces.{good_of}
 use Rattle.judge_record.specs.Blocks.{links_told, links_no}

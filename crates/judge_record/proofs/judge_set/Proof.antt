@@ -1,4 +1,3 @@
-
 -- `judge::judge_set` meets its contract, by the target's code. Assumes nothing.
 use Rattle.model.specs.Image.{limits}
 use Rattle.model.specs.Memory.{coded_in}

@@ -1,4 +1,3 @@
-
 -- `judge::judge_tail` meets its contract, by the command's code. Assumes nothing.
 use Rattle.model.specs.Image.{limits}
 use Rattle.model.specs.Memory.{coded_in}

@@ -1,4 +1,3 @@
-
 -- `judge::within_limits` meets its contract. Assumes nothing.
 use Rattle.judge_record.specs.Whole.{limits_blocks, limits_commands, limits_nodes}
 use Rattle.judge_record.proofs.within_limits.Statement.{statement}

@@ -1,4 +1,3 @@
-
 -- `terms::judge_expr` meets its contract: each return is one law of specs/Nodes.antt, and the number that a node has to be below falls. Assumes nothing.
 use native.Mathlib.Omega.{arith}
 use mir.Syntax.{w32}

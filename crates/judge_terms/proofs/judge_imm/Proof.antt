@@ -1,4 +1,3 @@
-
 -- `terms::judge_imm` meets its contract. Assumes nothing.
 use mir.Facts.{to_z-of_z}
 use native.Mathlib.Omega.{arith}

@@ -1,4 +1,3 @@
-
 -- `terms::judge_term` meets its contract: the walk from depth 0. Assumes nothing.
 use Rattle.judge_terms.specs.Nodes.{term_told}
 use Rattle.model.specs.Memory.{nodes_in}

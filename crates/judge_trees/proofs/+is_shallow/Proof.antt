@@ -1,4 +1,3 @@
-
 -- `trees::is_shallow` meets its contract: each return is one law of specs/Levels.antt, and the levels that are left fall. Assumes nothing.
 use native.Mathlib.Omega.{arith}
 use borrow.Author.Rules.{rules}

@@ -1,4 +1,3 @@
-
 -- `trees::above_two` meets its contract, by its two tests. Assumes nothing.
 use native.Mathlib.Omega.{arith}
 use borrow.Author.Rules.{rules}

@@ -1,4 +1,3 @@
-
 -- `trees::high_size` meets its contract, by the code. Assumes nothing.
 use mathlib.Core.Path.{refl}
 use mir.Facts.{to_z-of_z}

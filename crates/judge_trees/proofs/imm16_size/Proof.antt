@@ -1,4 +1,3 @@
-
 -- `trees::imm16_size` meets its contract, by its two tests. Assumes nothing.
 use mir.Facts.{to_z-of_z}
 use Rattle.judge_trees.specs.Codes.{number_16}

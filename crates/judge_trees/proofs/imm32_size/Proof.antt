@@ -1,4 +1,3 @@
-
 -- `trees::imm32_size` meets its contract: any number of 32 bits is below the limit. Assumes nothing.
 use Rattle.judge_trees.specs.Codes.{number_32}
 use Rattle.judge_trees.proofs.imm32_size.Statement.{statement}

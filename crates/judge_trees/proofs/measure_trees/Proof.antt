@@ -1,4 +1,3 @@
-
 -- `trees::measure_trees` meets its contract: the trees below i are told, and what is left falls. Assumes nothing.
 use Rattle.judge_trees.specs.Grown.{Growing, growing_start, growing_before, growing_more, growing_done}
 use Rattle.judge_trees.specs.Trees.{never}

@@ -1,4 +1,3 @@
-
 -- `trees::size_of` meets its contract: each return is one law of specs/Codes.antt. Assumes nothing.
 use mir.Facts.{to_z-of_z}
 use mir.Syntax.{w32}

@@ -21,58 +21,58 @@ save a = save_in a.args.w.items a.args.w.atcs (reads a.args.items.now a.args.atc
 abbrev coded : tie.Start → ℕ → ℕ → Coded
 coded a d e = coded_in a.args.ws.now a.args.val.now a.args.cw.now d e
 
-returns : tie.Need-returns
+returns : tie.Need-returns-then-block-ne0
 returns c =
-    let a = c.before.before.before.before.before.before.before.before.before.before in
-    λ d e. does_as _ _ (is_set_other (coded a d e) a.args.c c.before.before.match.keys3 c.before.if1.true) (does_out c.both3.ensures (out_does (λ t v cs. refl)))
+    let a = c.before.before.before.before.before.before.before.before.before.before.before in
+    λ d e. does_as _ _ (is_set_other (coded a d e) a.args.c c.in-2.is c.if-block-ne0.true) (does_out c.both-then-block-ne0.ensures (out_does (λ t v cs. refl)))
 
-set-variable-requires : tie.Need-set-variable-requires
-set-variable-requires c κs = (c.before.before.before.before.before.before.before.before.before.before.before.before.requires.0.target c.before.before.before.before.match.keys3 c.before.before.before.if1.false, c.before.before.before.before.before.before.before.before.before.before.before.before.requires.0.value c.before.before.before.before.match.keys3, c.before.before.before.before.before.before.before.before.before.before.before.before.requires.1, c.before.before.before.before.before.before.before.before.before.before.before.before.requires.2)
+set-variable-requires : tie.Need-set_variable-requires
+set-variable-requires c κs = (c.requires.0.target c.in-2.is c.if-block-ne0.false, c.requires.0.value c.in-2.is, c.requires.1, c.requires.2)
 
-add-b : tie.Need-overflow-add-b
-add-b c = omega (arith, c.before.before.before.before.before.before.before.before.requires.0.condition c.match.keys4)
+add-b : tie.Need-overflow_add-b
+add-b c = omega (arith, c.requires.0.condition c.in-3.is)
 
-evaluate-lanes-requires : tie.Need-evaluate-lanes-requires
-evaluate-lanes-requires c κs = (omega (arith, c.before.before.before.before.before.before.before.before.before.before.before.requires.0.condition c.before.before.before.match.keys4), c.before.before.before.before.before.before.before.before.before.before.before.requires.1)
+evaluate-lanes-requires : tie.Need-evaluate_lanes-requires
+evaluate-lanes-requires c κs = (omega (arith, c.requires.0.condition c.in-3.is), c.requires.1)
 
-returns-2 : tie.Need-returns-2
+returns-2 : tie.Need-returns-in-0
 returns-2 c =
-    let a = c.before.before.before.before.before.before.before.before.before in
-    λ d e. does_as _ _ (is_return (coded a d e) a.args.c c.before.match.keys1) (does_out c.both.ensures (out_does (λ t v cs. refl)))
+    let a = c.before.before.before.before.before.before.before.before.before.before in
+    λ d e. does_as _ _ (is_return (coded a d e) a.args.c c.in-0.is) (does_out c.both.ensures (out_does (λ t v cs. refl)))
 
-returns-3 : tie.Need-returns-3
+returns-3 : tie.Need-returns-in-1
 returns-3 c =
-    let a = c.before.before.before.before.before.before.before.before.before in
-    λ d e. does_as _ _ (is_goto (coded a d e) a.args.c (record { 0 = command_word (coded a d e) a.args.c 3 }) refl c.before.match.keys2) (does_out c.both2.ensures (out_does (λ t v cs. goto_way c.before.before.word_of.result (command_word (coded a d e) a.args.c 3) v c.before.before.word_of.ensures)))
+    let a = c.before.before.before.before.before.before.before.before.before.before in
+    λ d e. does_as _ _ (is_goto (coded a d e) a.args.c (record { 0 = command_word (coded a d e) a.args.c 3 }) refl c.in-1.is) (does_out c.both-in-1.ensures (out_does (λ t v cs. goto_way c.word_of-target.result (command_word (coded a d e) a.args.c 3) v c.word_of-target.ensures)))
 
 -- v': the variables, the values and the refusals that the call left
-returns-4 : tie.Need-returns-4
+returns-4 : tie.Need-returns-else-block-ne0
 returns-4 c =
-    let a = c.before.before.before.before.before.before.before.before.before.before.before.before.before.before in
-    let v = c.before.set-variable in
+    let a = c.before.before.before.before.before.before.before.before.before.before.before.before.before.before.before in
+    let v = c.set_variable in
     let v' = v.new.1.1.1.1.1.1.1.1.1.1 in
-    λ d e. does_as {save = save a} {ls = a.args.ls.now} {s = a.args.w.lanes} {vs = a.args.vs.now} {rs = a.args.rs.now} {vs' = v'.0} {xs' = v'.1.0} {rs' = v'.1.1.0} _ _ (is_set (coded a d e) a.args.c c.before.before.before.before.before.before.match.keys3 c.before.before.before.before.before.if1.false) (v.ensures d (link_in a.args.link))
+    λ d e. does_as {save = save a} {ls = a.args.ls.now} {s = a.args.w.lanes} {vs = a.args.vs.now} {rs = a.args.rs.now} {vs' = v'.0} {xs' = v'.1.0} {rs' = v'.1.1.0} _ _ (is_set (coded a d e) a.args.c c.in-2.is c.if-block-ne0.false) (v.ensures d (link_in a.args.link))
 
-returns-5 : tie.Need-returns-5
+returns-5 : tie.Need-returns-in-3
 returns-5 c =
     let a = c.before.before.before.before.before.before.before.before.before.before.before.before.before in
     λ d e.
     let k = coded a d e in
-    let w = c.before.before.before.before.before.before.word_of in
-    does_as _ _ (is_if k a.args.c (record { 0 = command_word k a.args.c 3 }) refl c.before.before.before.before.before.match.keys4) (does_out (c.fork.ensures ∙ ap (forked a.args.link) w.ensures) (if_does a.args.link (rw (below_root (nodes_in a.args.ws.now a.args.val.now d) (command_word k a.args.c 1)) at (c.before.evaluate-lanes.ensures d))))
+    let w = c.word_of-target in
+    does_as _ _ (is_if k a.args.c (record { 0 = command_word k a.args.c 3 }) refl c.in-3.is) (does_out (c.fork.ensures ∙ ap (forked a.args.link) w.ensures) (if_does a.args.link (rw (below_root (nodes_in a.args.ws.now a.args.val.now d) (command_word k a.args.c 1)) at (c.evaluate_lanes.ensures d))))
 
-returns-6 : tie.Need-returns-6
+returns-6 : tie.Need-returns-in-4
 returns-6 c =
-    let a = c.before.before.before.before.before.before.before.before.before in
-    λ d e. does_as _ _ (is_end (coded a d e) a.args.c (record { 0 = command_word (coded a d e) a.args.c 3 }) refl c.before.match.keys5) (does_out c.both4.ensures (out_does (λ t v cs. goto_way c.before.before.word_of.result (command_word (coded a d e) a.args.c 3) v c.before.before.word_of.ensures)))
+    let a = c.before.before.before.before.before.before.before.before.before.before in
+    λ d e. does_as _ _ (is_end (coded a d e) a.args.c (record { 0 = command_word (coded a d e) a.args.c 3 }) refl c.in-4.is) (does_out c.both-in-4.ensures (out_does (λ t v cs. goto_way c.word_of-target.result (command_word (coded a d e) a.args.c 3) v c.word_of-target.ensures)))
 
-returns-7 : tie.Need-returns-7
+returns-7 : tie.Need-returns-in_default
 returns-7 c =
-    let a = c.before.before.before.before.before.before.before.before.before in
-    λ d e. does_as _ _ (is_other (coded a d e) a.args.c (omega (arith, c.before.match.rest))) (does_out c.both5.ensures (out_does (λ t v cs. refl)))
+    let a = c.before.before.before.before.before.before.before.before.before.before in
+    λ d e. does_as _ _ (is_other (coded a d e) a.args.c (omega (arith, c.in_default.in_default-own.rest))) (does_out c.both-in_default.ensures (out_does (λ t v cs. refl)))
 
-pub command-spec : {M : Type 1} → statement M
-command-spec =
+pub command_spec : {M : Type 1} → statement M
+command_spec =
     tie.close
     (tie.spec
     (λ c. search rules)

@@ -3,11 +3,13 @@ use Rattle.lanes_block.specs.Laws.{followed_none, followed_some}
 use Rattle.lanes_block.proofs.follow_link.Statement.{statement}
 use Rattle.lanes_block.proofs.follow_link.Tie as tie
 
-returns : tie.Need-returns
-returns c = followed_none c.before.args.link c.if1.true
+returns : tie.Need-returns-then-link-eq0
+returns c = followed_none c.args.link c.if-link-eq0.true
 
-returns-2 : tie.Need-returns-2
-returns-2 c = followed_some c.before.args.link c.if1.false
+returns-2 : tie.Need-returns
+returns-2 c = followed_some c.args.link c.if-link-eq0.false
 
-pub follow-link-spec : {M : Type 1} → statement M
-follow-link-spec = tie.close (tie.spec returns returns-2)
+pub follow_link_spec : {M : Type 1} → statement M
+follow_link_spec = tie.close (tie.spec
+    returns
+    returns-2)

@@ -4,7 +4,9 @@ use Rattle.lanes_block.proofs.fork.Statement.{statement}
 use Rattle.lanes_block.proofs.fork.Tie as tie
 
 returns : tie.Need-returns
-returns c = rw c.follow-link.ensures
+returns c = rw c.follow_link.ensures
 
-pub fork-spec : {M : Type 1} → statement M
-fork-spec = tie.close (tie.spec (λ c κs. search rules) returns)
+pub fork_spec : {M : Type 1} → statement M
+fork_spec = tie.close (tie.spec
+    (λ c κs. search rules)
+    returns)

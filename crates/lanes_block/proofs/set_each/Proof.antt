@@ -6,22 +6,22 @@ use borrow.Author.Rules.{rules}
 use Rattle.lanes_block.proofs.set_each.Statement.{statement}
 use Rattle.lanes_block.proofs.set_each.Tie as tie
 
-store-lanes-requires : tie.Need-store-lanes-requires
-store-lanes-requires c κs = (c.before.before.before.before.before.before.before.before.before.before.before.before.before.before.requires.3, λ j h. (c.before.before.before.before.before.before.before.before.before.before.before.before.before.before.requires.2.lie j h).variables)
+store-lanes-requires : tie.Need-store_lanes-requires
+store-lanes-requires c κs = (c.requires.3, λ j h. (c.requires.2.lie j h).variables)
 
 -- t': the values and the refusals that the call left
 returns : tie.Need-returns
 returns c =
-    let a = c.before.before.before.before.before.before.before.before.before.before.before.before.before.before.before.before in
-    let t = c.before.before.before.before.before.before.before.before.before.before.evaluate-lanes in
+    let a = c.before.before.before.before.before.before.before.before.before.before.before.before in
+    let t = c.evaluate_lanes in
     let t' = t.new.1.1.1.1.1.1.1.1.1.1.1 in
-    let v = c.before.before.before.before.before.before.evaluate-lanes2 in
+    let v = c.evaluate_lanes-2 in
     λ d nx.
     let ns = nodes_in a.args.ws.now a.args.val.now d in
-    set_does {rs₁ = t'.1.0} (valued_worth {xs = t'.0} (rw (below_root ns a.args.t) at (t.ensures d))) (valued_worth {rs = t'.1.0} {xs = v.new.1.1.1.1.1.1.1.1.1.1.1.0} (rw (below_root ns a.args.v) at (v.ensures d))) c.before.store-lanes.ensures
+    set_does {rs₁ = t'.1.0} (valued_worth {xs = t'.0} (rw (below_root ns a.args.t) at (t.ensures d))) (valued_worth {rs = t'.1.0} {xs = v.new.1.1.1.1.1.1.1.1.1.1.1.0} (rw (below_root ns a.args.v) at (v.ensures d))) c.store_lanes.ensures
 
-pub set-each-spec : {M : Type 1} → statement M
-set-each-spec =
+pub set_each_spec : {M : Type 1} → statement M
+set_each_spec =
     tie.close
     (tie.spec
     (λ c. search rules)

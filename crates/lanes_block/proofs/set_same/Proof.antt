@@ -11,26 +11,26 @@ use borrow.Author.Rules.{rules}
 use Rattle.lanes_block.proofs.set_same.Statement.{statement}
 use Rattle.lanes_block.proofs.set_same.Tie as tie
 
-store-number-requires : tie.Need-store-number-requires
-store-number-requires c κs = (c.before.before.before.before.before.before.before.before.requires.2, λ j h. (c.before.before.before.before.before.before.before.before.requires.1.lie j h).variables)
+store-number-requires : tie.Need-store_number-requires
+store-number-requires c κs = (c.requires.2, λ j h. (c.requires.1.lie j h).variables)
 
-store-same-requires : tie.Need-store-same-requires
-store-same-requires c κs = (c.before.before.before.before.before.before.before.before.before.before.before.before.requires.2, λ j h. (c.before.before.before.before.before.before.before.before.before.before.before.before.requires.1.lie j h).variables)
+store-same-requires : tie.Need-store_same-requires
+store-same-requires c κs = (c.requires.2, λ j h. (c.requires.1.lie j h).variables)
 
-returns : tie.Need-returns
+returns : tie.Need-returns-in-Is
 returns c =
-    let a = c.before.before.before.before.before.before.before.before.before.before in
+    let a = c.before.before.before.before.before.before.before in
     λ d nx t p.
     let ns = nodes_in a.args.ws.now a.args.val.now d in
-    set_does (always_worth (to_z-of_z a.ranges.k) p) (always_worth refl (imm_always (tree ns a.args.v) _ (imm_found (tree ns a.args.v) (to_z-of_z {w = w32} (record { sfits = c.before.before.before.before.known-told.given.0.1 })) c.before.before.before.before.before.q.given.1 (rw (below_root ns a.args.v) at (c.before.before.before.before.before.before.before.number-below.ensures d))))) c.before.store-number.ensures
+    set_does (always_worth (to_z-of_z a.ranges.k) p) (always_worth refl (imm_always (tree ns a.args.v) _ (imm_found (tree ns a.args.v) (to_z-of_z {w = w32} (record { sfits = c.in-Is.known_told-1-own.given.0.1 })) c.in-Is.is (rw (below_root ns a.args.v) at (c.number_below-q.ensures d))))) c.store_number.ensures
 
-returns-2 : tie.Need-returns-2
+returns-2 : tie.Need-returns-in-Nothing
 returns-2 c =
-    let a = c.before.before.before.before.before.before.before.before.before.before.before.before.before.before in
-    λ d nx t p. set_does (always_worth (to_z-of_z a.ranges.k) p) (valued_worth {xs = c.before.before.before.before.before.evaluate-lanes.new.1.1.1.1.1.1.1.1.1.1.1.0} (rw (below_root (nodes_in a.args.ws.now a.args.val.now d) a.args.v) at (c.before.before.before.before.before.evaluate-lanes.ensures d))) c.before.store_same.ensures
+    let a = c.before.before.before.before.before.before.before.before.before.before in
+    λ d nx t p. set_does (always_worth (to_z-of_z a.ranges.k) p) (valued_worth {xs = c.evaluate_lanes.new.1.1.1.1.1.1.1.1.1.1.1.0} (rw (below_root (nodes_in a.args.ws.now a.args.val.now d) a.args.v) at (c.evaluate_lanes.ensures d))) c.store_same.ensures
 
-pub set-same-spec : {M : Type 1} → statement M
-set-same-spec =
+pub set_same_spec : {M : Type 1} → statement M
+set_same_spec =
     tie.close
     (tie.spec
     (λ c. search rules)

@@ -10,15 +10,15 @@ use borrow.Author.Rules.{rules}
 use Rattle.lanes_block.proofs.set_variable.Statement.{statement}
 use Rattle.lanes_block.proofs.set_variable.Tie as tie
 
-returns : tie.Need-returns
+returns : tie.Need-returns-in-Is
 returns c =
-    let a = c.before.before.before.before.before.before.before.before.before.before.before in
+    let a = c.before.before.before.before.before.before.before.before.before in
     λ d nx.
     let ns = nodes_in a.args.ws.now a.args.val.now d in
-    c.before.set_same.ensures d nx (tree ns a.args.t) (imm_always (tree ns a.args.t) (to_z w32 (of_z w32 c.before.before.before.before.before.before.q.given.0.0)) (imm_found (tree ns a.args.t) (to_z-of_z {w = w32} (record { sfits = c.before.before.before.before.before.known-told.given.0.1 })) c.before.before.before.before.before.before.q.given.1 (rw (below_root ns a.args.t) at (c.before.before.before.before.before.before.before.before.number-below.ensures d))))
+    c.set_same.ensures d nx (tree ns a.args.t) (imm_always (tree ns a.args.t) (to_z w32 (of_z w32 c.in-Is.k)) (imm_found (tree ns a.args.t) (to_z-of_z {w = w32} (record { sfits = c.in-Is.known_told-1-own.given.0.1 })) c.in-Is.is (rw (below_root ns a.args.t) at (c.number_below-q.ensures d))))
 
-pub set-variable-spec : {M : Type 1} → statement M
-set-variable-spec =
+pub set_variable_spec : {M : Type 1} → statement M
+set_variable_spec =
     tie.close
     (tie.spec
     (λ c. search rules)

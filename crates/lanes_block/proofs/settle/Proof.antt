@@ -12,75 +12,75 @@ use borrow.Author.Rules.{rules}
 use Rattle.lanes_block.proofs.settle.Statement.{statement}
 use Rattle.lanes_block.proofs.settle.Tie as tie
 
-abbrev invariant-loop : tie.invariant-loop
+abbrev invariant-loop : tie.invariant-loop-j
 invariant-loop lanes s out stops exit at₀ answers₀ entered₀ -all j₀ at answers entered j = (j ≤ s) × Settled lanes exit out stops j at₀ answers₀ entered₀ at answers entered
 
-abbrev decreases-loop : tie.decreases-loop
+abbrev decreases-loop : tie.decreases-loop-j
 decreases-loop lanes s out stops exit at₀ answers₀ entered₀ -all j₀ at answers entered j = s - j
 
-loop-holds : tie.Need-loop-init invariant-loop decreases-loop
+loop-holds : tie.Need-loop-j-init invariant-loop decreases-loop
 loop-holds c = (omega arith, settled_none _ _ _ _ _ _ _)
 
-element-copy-out-lane-of : tie.Need-element-copy-out-lane-of invariant-loop decreases-loop
-element-copy-out-lane-of c = omega (arith, c.before.before.before.before.before.before.requires.0.few)
+element-copy-out-lane-of : tie.Need-bounds-lanes-j invariant-loop decreases-loop
+element-copy-out-lane-of c = omega (arith, c.requires.0.few)
 
-mul-choose : tie.Need-overflow-mul-choose invariant-loop decreases-loop
-mul-choose c = omega (arith, c.before.before.before.before.before.before.before.before.requires.0.few)
+mul-choose : tie.Need-offset_bounds-out-j invariant-loop decreases-loop
+mul-choose c = omega (arith, c.requires.0.few)
 
-element-copy-out-choose : tie.Need-element-copy-out-choose invariant-loop decreases-loop
-element-copy-out-choose c = omega (arith, c.before.before.before.before.before.before.before.before.requires.0.few)
+element-copy-out-choose : tie.Need-bounds-out-j invariant-loop decreases-loop
+element-copy-out-choose c = omega (arith, c.requires.0.few)
 
-element-copy-out-choose-2 : tie.Need-element-copy-out-choose-2 invariant-loop decreases-loop
-element-copy-out-choose-2 c = omega (arith, c.before.before.before.before.before.before.before.before.before.requires.0.few)
+element-copy-out-choose-2 : tie.Need-bounds-stops-j invariant-loop decreases-loop
+element-copy-out-choose-2 c = omega (arith, c.requires.0.few)
 
-mul_at : tie.Need-overflow-mul-at invariant-loop decreases-loop
-mul_at c = omega (arith, c.before.before.before.lane_of.ensures, c.before.before.before.before.before.before.before.before.before.before.before.requires.0.low c.before.before.before.before.before.before.loop.j c.before.before.before.before.before.loop-test.true)
+mul_at : tie.Need-offset_bounds-at-lane invariant-loop decreases-loop
+mul_at c = omega (arith, c.lane_of-lane.ensures, c.requires.0.low c.loop-j.j c.loop-j-test.true)
 
-element-write-at : tie.Need-element-write-at invariant-loop decreases-loop
-element-write-at c = omega (arith, c.before.before.before.lane_of.ensures, c.before.before.before.before.before.before.before.before.before.before.before.requires.0.low c.before.before.before.before.before.before.loop.j c.before.before.before.before.before.loop-test.true)
+element-write-at : tie.Need-bounds-at-lane invariant-loop decreases-loop
+element-write-at c = omega (arith, c.lane_of-lane.ensures, c.requires.0.low c.loop-j.j c.loop-j-test.true)
 
-element-write-answers : tie.Need-element-write-answers invariant-loop decreases-loop
-element-write-answers c = omega (arith, c.before.before.before.lane_of.ensures, c.before.before.before.before.before.before.before.before.before.before.before.requires.0.low c.before.before.before.before.before.before.loop.j c.before.before.before.before.before.loop-test.true)
+element-write-answers : tie.Need-bounds-answers-lane invariant-loop decreases-loop
+element-write-answers c = omega (arith, c.lane_of-lane.ensures, c.requires.0.low c.loop-j.j c.loop-j-test.true)
 
-mul-entered : tie.Need-overflow-mul-entered invariant-loop decreases-loop
-mul-entered c = omega (arith, c.before.before.before.lane_of.ensures, c.before.before.before.before.before.before.before.before.before.before.before.requires.0.low c.before.before.before.before.before.before.loop.j c.before.before.before.before.before.loop-test.true)
+mul-entered : tie.Need-offset_bounds-entered-lane invariant-loop decreases-loop
+mul-entered c = omega (arith, c.lane_of-lane.ensures, c.requires.0.low c.loop-j.j c.loop-j-test.true)
 
-element-copy-out-entered : tie.Need-element-copy-out-entered invariant-loop decreases-loop
-element-copy-out-entered c = omega (arith, c.before.before.before.lane_of.ensures, c.before.before.before.before.before.before.before.before.before.before.before.requires.0.low c.before.before.before.before.before.before.loop.j c.before.before.before.before.before.loop-test.true)
+element-copy-out-entered : tie.Need-bounds-entered-lane invariant-loop decreases-loop
+element-copy-out-entered c = omega (arith, c.lane_of-lane.ensures, c.requires.0.low c.loop-j.j c.loop-j-test.true)
 
-add-entered : tie.Need-overflow-add-entered invariant-loop decreases-loop
+add-entered : tie.Need-overflow_add-entered invariant-loop decreases-loop
 add-entered c =
     let l = c.before.before.before.before.before.before.before in
     let a = l.before.before.before.before.before in
     omega (
       arith,
       count_room a.args.lanes.now a.args.exit a.args.out.now a.args.stops.now
-          a.args.at.now a.args.answers.now a.args.entered.now a.args.s l.loop.j l.loop.at l.loop.answers l.loop.entered
-          a.requires.0 c.before.before.before.before.before.before.loop-test.true l.loop.invariant.1 a.requires.1 c.before.before.before.before.lane_of.result c.before.before.before.before.lane_of.ensures,
+          a.args.at.now a.args.answers.now a.args.entered.now a.args.s l.loop-j.j l.loop-j.at l.loop-j.answers l.loop-j.entered
+          a.requires.0 c.loop-j-test.true l.loop-j.invariant.1 a.requires.1 c.lane_of-lane.result c.lane_of-lane.ensures,
     )
 
-mul-entered-2 : tie.Need-overflow-mul-entered-2 invariant-loop decreases-loop
-mul-entered-2 c = omega (arith, c.before.before.before.before.lane_of.ensures, c.before.before.before.before.before.before.before.before.before.before.before.before.requires.0.low c.before.before.before.before.before.before.before.loop.j c.before.before.before.before.before.before.loop-test.true)
+mul-entered-2 : tie.Need-offset_bounds-entered-lane-in-loop-j invariant-loop decreases-loop
+mul-entered-2 c = omega (arith, c.lane_of-lane.ensures, c.requires.0.low c.loop-j.j c.loop-j-test.true)
 
-element-write-entered : tie.Need-element-write-entered invariant-loop decreases-loop
-element-write-entered c = omega (arith, c.before.before.before.before.lane_of.ensures, c.before.before.before.before.before.before.before.before.before.before.before.before.requires.0.low c.before.before.before.before.before.before.before.loop.j c.before.before.before.before.before.before.loop-test.true)
+element-write-entered : tie.Need-bounds-entered-lane-in-loop-j invariant-loop decreases-loop
+element-write-entered c = omega (arith, c.lane_of-lane.ensures, c.requires.0.low c.loop-j.j c.loop-j-test.true)
 
-loop-again : tie.Need-loop-preserved invariant-loop decreases-loop
+loop-again : tie.Need-loop-j-preserved invariant-loop decreases-loop
 loop-again c =
     let l = c.before.before.before.before.before.before.before in
     let a = l.before.before.before.before.before in
-    let f : SFits w32 (get_or a.args.out.now l.loop.j (pos 0)) = record { sfits = c.before.before.before.choose-arg.given } in (
+    let f : SFits w32 (get_or a.args.out.now l.loop-j.j (pos 0)) = record { sfits = c.choose-arg-1.given } in (
       omega arith,
       settled_more a.args.lanes.now a.args.exit a.args.out.now a.args.stops.now a.args.at.now a.args.answers.now a.args.entered.now a.args.s
-          l.loop.j l.loop.at l.loop.answers l.loop.entered a.requires.0 c.before.before.before.before.before.before.loop-test.true l.loop.invariant.1
-          l.before.known.ensures.0 l.before.known.ensures.1 l.before.known.ensures.2 c.before.before.before.before.lane_of.result c.before.before.before.before.lane_of.ensures c.before.choose.result (rw (to_z-of_z f) at c.before.choose.ensures),
+          l.loop-j.j l.loop-j.at l.loop-j.answers l.loop-j.entered a.requires.0 c.loop-j-test.true l.loop-j.invariant.1
+          l.known-all.ensures.0 l.known-all.ensures.1 l.known-all.ensures.2 c.lane_of-lane.result c.lane_of-lane.ensures c.choose-way.result (rw (to_z-of_z f) at c.choose-way.ensures),
     )
 
 returns : tie.Need-returns invariant-loop decreases-loop
-returns c = let a = c.before.before.before.before.before.before in settled_all a.args.lanes.now a.args.exit a.args.out.now a.args.stops.now a.args.at.now a.args.answers.now a.args.entered.now a.args.s c.before.loop.j c.before.loop.at c.before.loop.answers c.before.loop.entered c.before.loop.invariant.1 c.before.loop.invariant.0 c.loop-test.false
+returns c = let a = c.before.before.before in settled_all a.args.lanes.now a.args.exit a.args.out.now a.args.stops.now a.args.at.now a.args.answers.now a.args.entered.now a.args.s c.loop-j.j c.loop-j.at c.loop-j.answers c.loop-j.entered c.loop-j.invariant.1 c.loop-j.invariant.0 c.loop-j-test.false
 
-pub settle-spec : {M : Type 1} → statement M
-settle-spec =
+pub settle_spec : {M : Type 1} → statement M
+settle_spec =
     tie.close
     (tie.spec
     invariant-loop

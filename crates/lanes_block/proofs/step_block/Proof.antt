@@ -19,29 +19,29 @@ save a = save_in a.args.w.items a.args.w.atcs (reads a.args.items.now a.args.atc
 abbrev memory : tie.Start → Memory
 memory a = memory_of a.args.ws.now a.args.val.now a.args.cw.now a.args.bw.now a.args.counts
 
-returns : tie.Need-returns
+returns : tie.Need-returns-then-b-counts
 returns c =
     let a = c.before.before.before.before.before in
-    leaves_out c.both.ensures (stop_leaves (λ t v. sym (step_none (memory a) t a.args.b v c.before.if1.true)))
+    leaves_out c.both.ensures (stop_leaves (λ t v. sym (step_none (memory a) t a.args.b v c.if-b-counts.true)))
 
-returns-2 : tie.Need-returns-2
+returns-2 : tie.Need-returns-then-kind-ne1
 returns-2 c =
-    let a = c.before.before.before.before.before.before.before in
-    leaves_out c.both2.ensures (stop_leaves (λ t v. sym (step_not_code (memory a) t a.args.b v c.before.before.before.if1.false c.before.if2.true)))
+    let a = c.before.before.before.before.before.before.before.before in
+    leaves_out c.both-then-kind-ne1.ensures (stop_leaves (λ t v. sym (step_not_code (memory a) t a.args.b v c.if-b-counts.false c.if-kind-ne1.true)))
 
-execute-block-requires : tie.Need-execute-block-requires
-execute-block-requires c κs = (c.before.before.before.before.before.before.before.before.before.before.before.before.requires.0.commands c.before.before.before.before.before.before.before.before.before.before.before.before.args.b c.before.before.before.before.before.before.before.before.if1.false c.before.before.before.before.before.before.if2.false, c.before.before.before.before.before.before.before.before.before.before.before.before.requires.1, c.before.before.before.before.before.before.before.before.before.before.before.before.requires.2)
+execute-block-requires : tie.Need-execute_block-requires
+execute-block-requires c κs = (c.requires.0.commands c.args.b c.if-b-counts.false c.if-kind-ne1.false, c.requires.1, c.requires.2)
 
 -- x': the variables, the values and the refusals that the call left
-returns-3 : tie.Need-returns-3
+returns-3 : tie.Need-returns
 returns-3 c =
-    let a = c.before.before.before.before.before.before.before.before.before.before.before.before.before.before in
-    let x = c.before.execute-block in
+    let a = c.before.before.before.before.before.before.before.before.before.before.before.before.before.before.before in
+    let x = c.execute_block in
     let x' = x.new.1.1.1.1.1.1.1.1.1.1 in
-    leaves_as {save = save a} {ls = a.args.ls.now} {s = a.args.w.lanes} {vs = a.args.vs.now} {rs = a.args.rs.now} {vs' = x'.0} {xs' = x'.1.0} {rs' = x'.1.1.0} (λ t v. sym (step_code (memory a) t a.args.b v c.before.before.before.before.before.before.before.before.before.before.if1.false c.before.before.before.before.before.before.before.before.if2.false refl)) (x.ensures a.args.counts.nodes a.args.counts.commands)
+    leaves_as {save = save a} {ls = a.args.ls.now} {s = a.args.w.lanes} {vs = a.args.vs.now} {rs = a.args.rs.now} {vs' = x'.0} {xs' = x'.1.0} {rs' = x'.1.1.0} (λ t v. sym (step_code (memory a) t a.args.b v c.if-b-counts.false c.if-kind-ne1.false refl)) (x.ensures a.args.counts.nodes a.args.counts.commands)
 
-pub step-block-spec : {M : Type 1} → statement M
-step-block-spec =
+pub step_block_spec : {M : Type 1} → statement M
+step_block_spec =
     tie.close
     (tie.spec
     (λ c. search rules)

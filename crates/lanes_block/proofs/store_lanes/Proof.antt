@@ -12,33 +12,33 @@ use borrow.Author.Rules.{rules}
 use Rattle.lanes_block.proofs.store_lanes.Statement.{statement}
 use Rattle.lanes_block.proofs.store_lanes.Tie as tie
 
-abbrev invariant-loop : tie.invariant-loop
+abbrev invariant-loop : tie.invariant-loop-j
 invariant-loop lanes s targets values stops vars₀ j₀ vars j = (j ≤ s) × StoredAll lanes (λ j. get_or targets j (pos 0)) (λ j. get_or values j (pos 0)) stops vars₀ j vars
 
-abbrev decreases-loop : tie.decreases-loop
+abbrev decreases-loop : tie.decreases-loop-j
 decreases-loop lanes s targets values stops vars₀ j₀ vars j = s - j
 
-loop-holds : tie.Need-loop-init invariant-loop decreases-loop
+loop-holds : tie.Need-loop-j-init invariant-loop decreases-loop
 loop-holds c = (omega arith, stored_none _ _ _ _ _)
 
-store-lane-requires : tie.Need-store-lane-requires invariant-loop decreases-loop
-store-lane-requires c κs = omega (arith, c.before.before.before.before.before.before.before.requires.1 c.before.before.before.before.before.before.loop.j c.before.before.before.before.before.loop-test.true, c.before.before.before.before.before.before.loop.invariant.1.kept.long)
+store-lane-requires : tie.Need-store_lane-requires invariant-loop decreases-loop
+store-lane-requires c κs = omega (arith, c.requires.1 c.loop-j.j c.loop-j-test.true, c.loop-j.invariant.1.kept.long)
 
-loop-again : tie.Need-loop-preserved invariant-loop decreases-loop
+loop-again : tie.Need-loop-j-preserved invariant-loop decreases-loop
 loop-again c =
     let a = c.before.before.before.before.before.before.before.before.before in
-    let f : SFits w32 (get_or a.args.targets.now c.before.before.before.before.before.before.before.before.loop.j (pos 0)) = record { sfits = c.before.before.before.before.store-lane-arg3.given } in
-    let g : SFits w32 (get_or a.args.values.now c.before.before.before.before.before.before.before.before.loop.j (pos 0)) = record { sfits = c.before.before.before.store-lane-arg4.given } in
-    (omega arith, stored_more a.args.lanes.now (λ j. get_or a.args.targets.now j (pos 0)) (λ j. get_or a.args.values.now j (pos 0)) a.args.stops.now a.args.vars.now a.args.s c.before.before.before.before.before.before.before.before.loop.j c.before.before.before.before.before.before.before.before.loop.vars _ a.requires.0 c.before.before.before.before.before.before.before.loop-test.true c.before.before.before.before.before.before.before.before.loop.invariant.1 (rw (to_z-of_z f, to_z-of_z g) at c.before.store-lane.ensures))
+    let f : SFits w32 (get_or a.args.targets.now c.loop-j.j (pos 0)) = record { sfits = c.store_lane-arg-in-loop-j-2-1.given } in
+    let g : SFits w32 (get_or a.args.values.now c.loop-j.j (pos 0)) = record { sfits = c.store_lane-arg-in-loop-j-3-1.given } in
+    (omega arith, stored_more a.args.lanes.now (λ j. get_or a.args.targets.now j (pos 0)) (λ j. get_or a.args.values.now j (pos 0)) a.args.stops.now a.args.vars.now a.args.s c.loop-j.j c.loop-j.vars _ a.requires.0 c.loop-j-test.true c.loop-j.invariant.1 (rw (to_z-of_z f, to_z-of_z g) at c.store_lane.ensures))
 
-same_length : tie.Need-same-length invariant-loop decreases-loop
-same_length c = c.before.loop.invariant.1.kept.long
+same_length : tie.Need-shape_of-vars invariant-loop decreases-loop
+same_length c = c.loop-j.invariant.1.kept.long
 
 returns : tie.Need-returns invariant-loop decreases-loop
-returns c = let a = c.before.before in stored_all a.args.lanes.now (λ j. get_or a.args.targets.now j (pos 0)) (λ j. get_or a.args.values.now j (pos 0)) a.args.stops.now a.args.vars.now a.args.s c.before.loop.j c.before.loop.vars c.before.loop.invariant.1 c.before.loop.invariant.0 c.loop-test.false
+returns c = let a = c.before.before in stored_all a.args.lanes.now (λ j. get_or a.args.targets.now j (pos 0)) (λ j. get_or a.args.values.now j (pos 0)) a.args.stops.now a.args.vars.now a.args.s c.loop-j.j c.loop-j.vars c.loop-j.invariant.1 c.loop-j.invariant.0 c.loop-j-test.false
 
-pub store-lanes-spec : {M : Type 1} → statement M
-store-lanes-spec =
+pub store_lanes_spec : {M : Type 1} → statement M
+store_lanes_spec =
     tie.close
     (tie.spec
     invariant-loop

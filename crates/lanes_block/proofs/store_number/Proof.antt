@@ -10,32 +10,32 @@ use borrow.Author.Rules.{rules}
 use Rattle.lanes_block.proofs.store_number.Statement.{statement}
 use Rattle.lanes_block.proofs.store_number.Tie as tie
 
-abbrev invariant-loop : tie.invariant-loop
+abbrev invariant-loop : tie.invariant-loop-j
 invariant-loop lanes s k x stops vars₀ j₀ vars j = (j ≤ s) × StoredAll lanes (λ _. to_z w32 k) (λ _. to_z w32 x) stops vars₀ j vars
 
-abbrev decreases-loop : tie.decreases-loop
+abbrev decreases-loop : tie.decreases-loop-j
 decreases-loop lanes s k x stops vars₀ j₀ vars j = s - j
 
-loop-holds : tie.Need-loop-init invariant-loop decreases-loop
+loop-holds : tie.Need-loop-j-init invariant-loop decreases-loop
 loop-holds c = (omega arith, stored_none _ _ _ _ _)
 
-store-lane-requires : tie.Need-store-lane-requires invariant-loop decreases-loop
-store-lane-requires c κs = omega (arith, c.before.before.before.before.before.requires.1 c.before.before.before.before.loop.j c.before.before.before.loop-test.true, c.before.before.before.before.loop.invariant.1.kept.long)
+store-lane-requires : tie.Need-store_lane-requires invariant-loop decreases-loop
+store-lane-requires c κs = omega (arith, c.requires.1 c.loop-j.j c.loop-j-test.true, c.loop-j.invariant.1.kept.long)
 
-loop-again : tie.Need-loop-preserved invariant-loop decreases-loop
+loop-again : tie.Need-loop-j-preserved invariant-loop decreases-loop
 loop-again c =
     let l = c.before.before.before.before.before.before in
     let a = l.before in
-    (omega arith, stored_more a.args.lanes.now _ _ a.args.stops.now a.args.vars.now a.args.s l.loop.j l.loop.vars _ a.requires.0 c.before.before.before.before.before.loop-test.true l.loop.invariant.1 c.before.store-lane.ensures)
+    (omega arith, stored_more a.args.lanes.now _ _ a.args.stops.now a.args.vars.now a.args.s l.loop-j.j l.loop-j.vars _ a.requires.0 c.loop-j-test.true l.loop-j.invariant.1 c.store_lane.ensures)
 
-same_length : tie.Need-same-length invariant-loop decreases-loop
-same_length c = c.before.loop.invariant.1.kept.long
+same_length : tie.Need-shape_of-vars invariant-loop decreases-loop
+same_length c = c.loop-j.invariant.1.kept.long
 
 returns : tie.Need-returns invariant-loop decreases-loop
-returns c = let a = c.before.before in stored_as (stored_all a.args.lanes.now _ _ a.args.stops.now a.args.vars.now a.args.s c.before.loop.j c.before.loop.vars c.before.loop.invariant.1 c.before.loop.invariant.0 c.loop-test.false) (λ _. to_z-of_z a.ranges.k) (λ _. to_z-of_z a.ranges.x)
+returns c = let a = c.before.before in stored_as (stored_all a.args.lanes.now _ _ a.args.stops.now a.args.vars.now a.args.s c.loop-j.j c.loop-j.vars c.loop-j.invariant.1 c.loop-j.invariant.0 c.loop-j-test.false) (λ _. to_z-of_z a.ranges.k) (λ _. to_z-of_z a.ranges.x)
 
-pub store-number-spec : {M : Type 1} → statement M
-store-number-spec =
+pub store_number_spec : {M : Type 1} → statement M
+store_number_spec =
     tie.close
     (tie.spec
     invariant-loop

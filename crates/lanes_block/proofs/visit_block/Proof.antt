@@ -7,7 +7,11 @@ use Rattle.lanes_block.proofs.visit_block.Statement.{statement}
 use Rattle.lanes_block.proofs.visit_block.Tie as tie
 
 returns : tie.Need-returns
-returns c = visited (λ j h. all_one {A = ℕ} 0 64 j) c.before.before.before.before.before.before.before.step_Block.ensures c.settle.ensures
+returns c = visited (λ j h. all_one {A = ℕ} 0 64 j) c.step_block-exit.ensures c.settle.ensures
 
-pub visit-block-spec : {M : Type 1} → statement M
-visit-block-spec = tie.close (tie.spec (λ c κs. search rules) (λ c κs. search rules) (λ c. search rules) returns)
+pub visit_block_spec : {M : Type 1} → statement M
+visit_block_spec = tie.close (tie.spec
+    (λ c κs. search rules)
+    (λ c κs. search rules)
+    (λ c. search rules)
+    returns)

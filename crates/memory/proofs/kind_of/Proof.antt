@@ -1,4 +1,3 @@
-
 use mathlib.Core.Path.{◌≡◌, sym, ap}
 use native.Mathlib.Omega.{arith}
 use Rattle.model.specs.Image.{kind_of, kinds}

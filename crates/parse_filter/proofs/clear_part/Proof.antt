@@ -37,15 +37,14 @@ loop-less : tie.Need-loop-j-smaller invariant-loop decreases-loop
 loop-less c = omega (arith, c.loop-j-test.true)
 
 loop-again : tie.Need-loop-j-preserved invariant-loop decreases-loop
-loop-again c =
-    (
-      (omega (arith, c.loop-j.invariant.0.0), omega (arith, c.loop-j-test.true)),
-      (
-        rw (c.index_of.ensures, c.signed_entry.ensures)
-            (cleared_on c.args.companions.now c.args.list.now c.args.seen.now c.args.from c.args.to c.args.neg c.loop-j.j c.requires c.loop-j.invariant.0.0 c.loop-j-test.true c.loop-j.seen c.loop-j.invariant.1.1 c.loop-j.invariant.1.0),
-        simp length-set c.loop-j.invariant.1.1,
-      ),
-    )
+loop-again c = (
+  (omega (arith, c.loop-j.invariant.0.0), omega (arith, c.loop-j-test.true)),
+  (
+    rw (c.index_of.ensures, c.signed_entry.ensures)
+        (cleared_on c.args.companions.now c.args.list.now c.args.seen.now c.args.from c.args.to c.args.neg c.loop-j.j c.requires c.loop-j.invariant.0.0 c.loop-j-test.true c.loop-j.seen c.loop-j.invariant.1.1 c.loop-j.invariant.1.0),
+    simp length-set c.loop-j.invariant.1.1,
+  ),
+)
 
 same_length : tie.Need-shape_of-seen invariant-loop decreases-loop
 same_length c = c.loop-j.invariant.1.1

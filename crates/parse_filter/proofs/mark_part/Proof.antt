@@ -29,26 +29,24 @@ signed-entry-requires c κs =
     c.requires.0.other c.loop-j.j c.loop-j.invariant.0.0 c.loop-j-test.true
 
 mark-entry-requires : tie.Need-mark_entry-a-requires invariant-loop decreases-loop
-mark-entry-requires c κs =
-    (
-      rw (c.signed_entry.ensures, c.loop-j.invariant.1.1.0)
-          (signed_place c.args.companions.now c.args.list.now (length c.args.seen.now) c.args.from c.args.to c.args.neg c.loop-j.j c.requires.0 c.loop-j.invariant.0.0 c.loop-j-test.true),
-      rw c.loop-j.invariant.1.1.1
-          (marked_room c.args.companions.now c.args.list.now c.args.seen.now c.args.alive.now c.args.from c.args.to c.args.neg c.args.before c.loop-j.j c.requires.0 c.loop-j.invariant.0.0 c.loop-j-test.true c.requires.1 c.loop-j.seen c.loop-j.alive c.loop-j.a c.loop-j.invariant.1.0),
-    )
+mark-entry-requires c κs = (
+  rw (c.signed_entry.ensures, c.loop-j.invariant.1.1.0)
+      (signed_place c.args.companions.now c.args.list.now (length c.args.seen.now) c.args.from c.args.to c.args.neg c.loop-j.j c.requires.0 c.loop-j.invariant.0.0 c.loop-j-test.true),
+  rw c.loop-j.invariant.1.1.1
+      (marked_room c.args.companions.now c.args.list.now c.args.seen.now c.args.alive.now c.args.from c.args.to c.args.neg c.args.before c.loop-j.j c.requires.0 c.loop-j.invariant.0.0 c.loop-j-test.true c.requires.1 c.loop-j.seen c.loop-j.alive c.loop-j.a c.loop-j.invariant.1.0),
+)
 
 loop-less : tie.Need-loop-j-smaller invariant-loop decreases-loop
 loop-less c = omega (arith, c.loop-j-test.true)
 
 loop-again : tie.Need-loop-j-preserved invariant-loop decreases-loop
-loop-again c =
-    (
-      (omega (arith, c.loop-j.invariant.0.0), omega (arith, c.loop-j-test.true)),
-      (
-        marked_on c.args.companions.now c.args.list.now c.args.seen.now c.args.alive.now c.args.from c.args.to c.args.neg c.args.before c.loop-j.j c.requires.0 c.loop-j.invariant.0.0 c.loop-j-test.true c.loop-j.seen c.loop-j.alive c.loop-j.a c.loop-j.invariant.1.0 c.signed_entry.result c.signed_entry.ensures _ _ _ c.mark_entry-a.ensures,
-        (c.seen-1.given ∙ c.loop-j.invariant.1.1.0, c.alive-1.given ∙ c.loop-j.invariant.1.1.1),
-      ),
-    )
+loop-again c = (
+  (omega (arith, c.loop-j.invariant.0.0), omega (arith, c.loop-j-test.true)),
+  (
+    marked_on c.args.companions.now c.args.list.now c.args.seen.now c.args.alive.now c.args.from c.args.to c.args.neg c.args.before c.loop-j.j c.requires.0 c.loop-j.invariant.0.0 c.loop-j-test.true c.loop-j.seen c.loop-j.alive c.loop-j.a c.loop-j.invariant.1.0 c.signed_entry.result c.signed_entry.ensures _ _ _ c.mark_entry-a.ensures,
+    (c.seen-1.given ∙ c.loop-j.invariant.1.1.0, c.alive-1.given ∙ c.loop-j.invariant.1.1.1),
+  ),
+)
 
 same_length : tie.Need-shape_of-seen invariant-loop decreases-loop
 same_length c = c.loop-j.invariant.1.1.0

@@ -11,33 +11,26 @@ returns c = ((λ seen alive f hold low. left_unread _ _ _ _ _ _ f hold c.require
 
 join-requires : tie.Need-join-j-requires
 join-requires c κs =
-    let c1 = c.before.before.before.before.before in
-    let c2 = c1.before in
-    let a = c2.requires in
-    ((a.0.0, ((c2.reads_on.ensures.yes c1.if-not-reads_on.false).1.0, a.0.1.0)), a.1)
+    let a = c.requires in
+    ((a.0.0, ((c.reads_on.ensures.yes c.if-not-reads_on.false).1.0, a.0.1.0)), a.1)
 
 mul-t16 : tie.Need-overflow_mul-result
 mul-t16 c = omega (arith, c.requires.0.1.0)
 
-add-t31 : tie.Need-overflow-add-t31
-add-t31 c = omega (arith, c.before.before.before.before.before.before.before.before.before.before.before.before.before.before.before.before.before.before.before.before.before.before.before.before.before.before.requires.0.1.0)
+add-t31 : tie.Need-overflow_add-result
+add-t31 c = omega (arith, c.requires.0.1.0)
 
-mul-t33 : tie.Need-overflow-mul-t33
-mul-t33 c = omega (arith, c.before.before.before.before.before.before.before.before.before.before.before.before.before.before.before.before.before.before.before.before.before.before.before.before.before.before.before.requires.0.1.0)
+mul-t33 : tie.Need-overflow_mul-result-2
+mul-t33 c = omega (arith, c.requires.0.1.0)
 
-add-t34 : tie.Need-overflow-add-t34
-add-t34 c = omega (arith, c.before.before.before.before.before.before.before.before.before.before.before.before.before.before.before.before.before.before.before.before.before.before.before.before.before.before.before.requires.0.1.0)
+add-t34 : tie.Need-overflow_add-result-2
+add-t34 c = omega (arith, c.requires.0.1.0)
 
 returns-2 : tie.Need-returns
 returns-2 c =
-    let c1 = c.before.before.before.before.before.before.before.before.before.before.before.before in
-    let c2 = c1.before.before.before.before.before.before in
-    let c3 = c2.before in
-    let c4 = c3.before in
-    let c5 = c4.before in
-    let c6 = c5.before.before.before.before.before.before.before.before in (
-      (λ seen alive f hold low. left_joined c6.args.ws.now c6.args.val.now _ _ _ _ _ _ f hold low c6.requires.1.0 _ _ _ _ _ _ (c3.reads_on.ensures.yes c2.if-not-reads_on.false).1.0 c1.join-j.ensures _ _ _ _ (omega arith) (omega arith)),
-      (c5.block_word.ensures, c4.block_word-2.ensures),
+    (
+      (λ seen alive f hold low. left_joined c.args.ws.now c.args.val.now _ _ _ _ _ _ f hold low c.requires.1.0 _ _ _ _ _ _ (c.reads_on.ensures.yes c.if-not-reads_on.false).1.0 c.join-j.ensures _ _ _ _ (omega arith) (omega arith)),
+      (c.block_word.ensures, c.block_word-2.ensures),
     )
 
 pub go_on_spec : {M : Type 1} → statement M

@@ -18,41 +18,35 @@ abbrev given : tie.Start → Shop
 given s = shop_from (arrays_in s.args.items.now s.args.limits.now s.args.codes.now s.args.lens.now)
 
 abbrev filled : tie.After-update_slots-ok → Shop
-filled c = let l = c.update_slots-ok.new in shop_from (arrays_in l.0 l.1.0 l.1.1.0 l.1.1.1.0)
+filled c = let l = c.update_slots-ok.new in shop_from (arrays_in l.items l.limits l.codes l.lens)
 
 abbrev hidden : tie.After-update_slots-ok-2 → Shop
-hidden c = let l = c.update_slots-ok-2.new in shop_from (arrays_in l.0 l.1.0 l.1.1.0 l.1.1.1.0)
+hidden c = let l = c.update_slots-ok-2.new in shop_from (arrays_in l.items l.limits l.codes l.lens)
 
 returns : tie.Need-returns-then-s-eq0
 returns c =
-    let c1 = c.before in
-    let c2 = c1.before.before in
-    let c3 = c2.before.before.before.before.before.before.before in
-    let a = c3.requires in
-    let s = c3.args in
+    let c3 = c.before.before.before.before.before.before.before.before.before.before in
+    let a = c.requires in
+    let s = c.args in
     slots_updated {shop = given c3} {shop' = given c3} {u = true} c.updated.ensures a.0.1 (omega arith)
     (λ h rs i mean. none_counted _ (table_of s.s.item_mask s.ids.now) (table_of s.s.count_mask s.counts.now) a.1 (slots_long _)
-    (ap (λ m. table_of m s.counts.now) c1.if-s-eq0.true ∙ table_none s.counts.now c2.size.ensures) h rs)
+    (ap (λ m. table_of m s.counts.now) c.if-s-eq0.true ∙ table_none s.counts.now c.size.ensures) h rs)
 
 returns-2 : tie.Need-returns-then-not-hides
 returns-2 c =
     let c1 = c.before in
-    let c2 = c1.before.before.before.before.before.before in
-    let c3 = c2.before in
-    let c4 = c3.before.before.before in
-    let c5 = c4.before.before.before.before.before.before.before in
-    let s = c5.args in
-    slots_updated {shop = given c5} {shop' = filled c1} c.updated-then-not-hides.ensures c5.requires.0.1 (omega arith)
-    (λ h rs i mean. unhidden (given c5) s.known (table_of s.s.item_mask s.ids.now) (table_of s.s.count_mask s.counts.now) _ _ (filled c1) c1.update_slots-ok.ensures (sym (c3.hides.ensures s.counts.now c4.size.ensures) ∙ c2.if-not-hides.true) h rs i)
+    let c5 = c.before.before.before.before.before.before.before.before.before.before.before.before.before.before.before.before.before.before in
+    let s = c.args in
+    slots_updated {shop = given c5} {shop' = filled c1} c.updated-then-not-hides.ensures c.requires.0.1 (omega arith)
+    (λ h rs i mean. unhidden (given c5) s.known (table_of s.s.item_mask s.ids.now) (table_of s.s.count_mask s.counts.now) _ _ (filled c1) c.update_slots-ok.ensures (sym (c.hides.ensures s.counts.now c.size.ensures) ∙ c.if-not-hides.true) h rs i)
 
 returns-3 : tie.Need-returns
 returns-3 c =
-    let c1 = c.before in
-    let c2 = c1.before.before.before.before.before.before.before.before.before.before in
-    let c3 = c2.before.before.before.before.before.before.before.before.before.before.before.before.before.before.before.before in
-    let p = c2.parse_requirements-f.ensures in
+    let c1 = c.before.before in
+    let c3 = c.before.before.before.before.before.before.before.before.before.before.before.before.before.before.before.before.before.before.before.before.before.before.before.before.before.before.before in
+    let p = c.parse_requirements-f.ensures in
     slots_updated {shop = given c3} {shop' = hidden c1} c.updated-2.ensures p.marked p.most
-    (λ h rs i mean. c1.update_slots-ok-2.ensures.by h rs i (mean _ _ p.holds))
+    (λ h rs i mean. c.update_slots-ok-2.ensures.by h rs i (mean _ _ p.holds))
 
 pub slots_after_spec : {M : Type 1} → statement M
 slots_after_spec =

@@ -1,4 +1,3 @@
-
 -- A block past the last is not code. Assumes nothing.
 use Rattle.reach.specs.Stacks.{code_past, code_read}
 use borrow.Author.Rules.{rules}

@@ -1,4 +1,3 @@
-
 -- A block past the last is not marked. Assumes nothing.
 use mathlib.Core.Path.{sym}
 use lib.Seq.{get_or-take}

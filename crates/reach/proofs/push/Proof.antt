@@ -1,4 +1,3 @@
-
 -- No next, next alone, or else below next. Assumes nothing.
 use Rattle.reach.specs.Stacks.{push_none, push_next, push_both}
 use borrow.Author.Rules.{rules}

@@ -1,4 +1,3 @@
-
 -- Two words for an entry. Assumes nothing.
 use lib.ListN.{length-set}
 use native.Mathlib.Omega.{arith}

@@ -1,4 +1,3 @@
-
 -- The loop's invariant: the top is the same without the marked entries passed; the measure is the depth. Assumes nothing.
 use mathlib.Core.Path.{◌≡◌, refl, sym, ◌∙◌}
 use Prim.Native.Nat.{◌*◌, ◌≤◌}

@@ -15,7 +15,7 @@ use Rattle.reclaim.proofs.keep_survivors.Tie as tie
 
 -- the record after the call
 abbrev kept : tie.After-through_image → Memory
-kept c = memory_of c.through_image.new.0 c.through_image.new.1.0 c.through_image.new.1.1.0 c.through_image.new.1.1.1.0 c.through_image.result
+kept c = memory_of c.through_image.new.ws c.through_image.new.val c.through_image.new.cw c.through_image.new.bw c.through_image.result
 
 reach-roots-requires : tie.Need-reach_roots-requires
 reach-roots-requires c κs =

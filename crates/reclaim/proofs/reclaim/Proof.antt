@@ -22,7 +22,7 @@ abbrev born : tie.Start → ℕ → Born
 born s n = born_of s.args.ws.now s.args.val.now s.args.cw.now s.args.bw.now s.args.counts s.args.births.now n
 
 abbrev kept : tie.After-keep_survivors-after → Memory
-kept c = memory_of c.keep_survivors-after.new.0 c.keep_survivors-after.new.1.0 c.keep_survivors-after.new.1.1.0 c.keep_survivors-after.new.1.1.1.0 c.keep_survivors-after.result
+kept c = memory_of c.keep_survivors-after.new.ws c.keep_survivors-after.new.val c.keep_survivors-after.new.cw c.keep_survivors-after.new.bw c.keep_survivors-after.result
 
 returns : tie.Need-returns-then-not-roots_ok
 returns c = let s = c.before.before.before in λ n. answer_roots _ _ _ (answered (roots s) c.roots_ok.ensures c.if-not-roots_ok.true)

@@ -1,4 +1,3 @@
-
 -- `mark` meets its contract. A block with a mark is left, one without goes behind the queue, which has room for it. Assumes nothing.
 use Rattle.reclaim_reach.specs.Pieces.{marked_before, marked_now, room_now}
 use borrow.Author.Rules.{rules}

@@ -1,4 +1,3 @@
-
 -- `mark_link` meets its contract. No link, or a mark. Assumes nothing.
 use Rattle.reclaim_reach.specs.Pieces.{link_none, link_some}
 use borrow.Author.Rules.{rules}

@@ -1,4 +1,3 @@
-
 -- `mark_links` meets its contract. A block that is not code links to nothing; of another next, else and the targets, one after the other. Assumes nothing.
 use Rattle.reclaim_reach.specs.Pieces.{block_other, block_code, low_words}
 use borrow.Author.Rules.{rules}

@@ -1,4 +1,3 @@
-
 -- `mark_roots` meets its contract. The invariant says what is left to mark, the measure is how many roots are left. Assumes nothing.
 use Prim.Native.Nat.{◌-◌}
 use lib.ListN.{drop, length}

@@ -1,4 +1,3 @@
-
 -- `mark_target` meets its contract. A command that names no block, or a mark. Assumes nothing.
 use borrow.Author.Tests.{not-true, not-false}
 use Rattle.reclaim_reach.specs.Pieces.{target_none, target_low, target_some}

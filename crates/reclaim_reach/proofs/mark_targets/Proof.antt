@@ -1,4 +1,3 @@
-
 -- `mark_targets` meets its contract. The invariant says what is left to mark, the measure is how many commands are left. Assumes nothing.
 use Prim.Native.Nat.{◌-◌}
 use Rattle.reclaim_reach.specs.Queue.{queue_in}

@@ -1,4 +1,3 @@
-
 -- `names_block` meets its contract. The three codes whose command names a block. Assumes nothing.
 use borrow.Author.Tests.{eq-eqb, ne_eqb}
 use Rattle.reclaim_reach.specs.Words.{names_block}

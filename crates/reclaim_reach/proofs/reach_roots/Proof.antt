@@ -1,4 +1,3 @@
-
 -- `reach_roots` meets its contract. The invariant says what the followed part of the queue has done, the measure is how much of its array is left. Assumes nothing.
 use Prim.Native.Nat.{◌-◌}
 use Rattle.model.specs.Limits.{block_limit}

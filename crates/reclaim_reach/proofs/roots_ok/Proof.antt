@@ -1,4 +1,3 @@
-
 -- `roots_ok` meets its contract. The invariant: those before i passed. The measure is how many are left. Assumes nothing.
 use Prim.Native.Nat.{◌-◌}
 use lib.ListN.{length}

@@ -24,9 +24,7 @@ returns c =
 
 set-variable-requires : tie.Need-set_variable-requires
 set-variable-requires c κs =
-    let a = c.before.before in
-    let b = a.before.before.before.before.before.before.before.before.before in
-    (b.requires.target a.in-2.is c.if-block-ne0.false, b.requires.value a.in-2.is)
+    (c.requires.target c.in-2.is c.if-block-ne0.false, c.requires.value c.in-2.is)
 
 if-else-requires : tie.Need-if_else-requires
 if-else-requires c κs = c.requires.condition c.in-3.is
@@ -39,16 +37,13 @@ returns-3 c = let s = c.before.before.before.before.before.before.before.before.
 
 returns-4 : tie.Need-returns-else-block-ne0
 returns-4 c =
-    let a = c.before.before in
-    let b = a.before in
-    let s = b.before.before.before.before.before.before.before.before.before in
-    λ n m. flows_as {s = save s} _ _ (is_set (coded s n m) s.args.c b.in-2.is a.if-block-ne0.false) (c.set_variable.ensures n (link_in s.args.link.0))
+    let s = c.before.before.before.before.before.before.before.before.before.before.before.before in
+    λ n m. flows_as {s = save s} _ _ (is_set (coded s n m) s.args.c c.in-2.is c.if-block-ne0.false) (c.set_variable.ensures n (link_in s.args.link.0))
 
 returns-5 : tie.Need-returns-in-3
 returns-5 c =
-    let a = c.before.before in
-    let s = a.before.before.before.before.before.before.before.before in
-    λ n m. flows_as {s = save s} _ _ (is_if (coded s n m) s.args.c a.block_no-to.result a.block_no-to.ensures a.match.keys4) (c.if_else.ensures n)
+    let s = c.before.before.before.before.before.before.before.before.before.before in
+    λ n m. flows_as {s = save s} _ _ (is_if (coded s n m) s.args.c c.block_no-to.result c.block_no-to.ensures c.in-3.is) (c.if_else.ensures n)
 
 returns-6 : tie.Need-returns-in-4
 returns-6 c = let s = c.before.before.before.before.before.before.before.before.before in λ n m. flows_as _ _ (is_end (coded s n m) s.args.c c.block_no-to.result c.block_no-to.ensures c.in-4.is) (flows_out (λ cs. refl))

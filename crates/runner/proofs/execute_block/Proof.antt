@@ -25,10 +25,7 @@ command-requires c κs = c.requires (c.args.first + c.loop-i.i) (omega arith) (o
 
 loop-again : tie.Need-loop-i-preserved invariant-loop decreases-loop
 loop-again c =
-    let a = c.before in
-    let b = a.before.before in
-    let d = b.before in
-    one_passed _ _ _ _ _ _ _ _ d.loop-i.invariant b.loop-i-test.true a.command-f.ensures c.in-On.is
+    one_passed _ _ _ _ _ _ _ _ c.loop-i.invariant c.loop-i-test.true c.command-f.ensures c.in-On.is
 
 returns : tie.Need-returns-in-Out invariant-loop decreases-loop
 returns c = out_passed _ _ _ _ _ _ _ _ c.loop-i.invariant c.loop-i-test.true c.command-f.ensures c.in-Out.is

@@ -7,13 +7,13 @@ use Rattle.runner.proofs.if_else.Statement.{statement}
 use Rattle.runner.proofs.if_else.Tie as tie
 
 returns : tie.Need-returns-then-x-eq0
-returns c = let s = c.before.before.before.before.before in λ n. if_zero_lem (rw (below_root (nodes_in s.args.ws.now s.args.val.now n) s.args.test) at (c.evaluate-t.ensures n)) c.in-Is.is (bits_zero c.in-Is.x c.if-x-eq0.true (record { sfits = c.in-Is.known_told-1-own.given.0.1 }))
+returns c = λ n. if_zero_lem (rw (below_root (nodes_in c.args.ws.now c.args.val.now n) c.args.test) at (c.evaluate-t.ensures n)) c.in-Is.is (bits_zero c.in-Is.x c.if-x-eq0.true (record { sfits = c.in-Is.known_told-1-own.given.0.1 }))
 
 returns-2 : tie.Need-returns-else-x-eq0
-returns-2 c = let s = c.before.before.before.before.before.before in λ n. if_next (rw (below_root (nodes_in s.args.ws.now s.args.val.now n) s.args.test) at (c.evaluate-t.ensures n)) c.in-Is.is (bits_nonzero c.in-Is.x c.if-x-eq0.false) c.follow_link.ensures
+returns-2 c = λ n. if_next (rw (below_root (nodes_in c.args.ws.now c.args.val.now n) c.args.test) at (c.evaluate-t.ensures n)) c.in-Is.is (bits_nonzero c.in-Is.x c.if-x-eq0.false) c.follow_link.ensures
 
 returns-3 : tie.Need-returns-in-Refused
-returns-3 c = let s = c.before.before.before.before in λ n. if_stops (rw (below_root (nodes_in s.args.ws.now s.args.val.now n) s.args.test) at (c.evaluate-t.ensures n)) c.in-Refused.is
+returns-3 c = λ n. if_stops (rw (below_root (nodes_in c.args.ws.now c.args.val.now n) c.args.test) at (c.evaluate-t.ensures n)) c.in-Refused.is
 
 pub if_else_spec : {M : Type 1} → statement M
 if_else_spec =

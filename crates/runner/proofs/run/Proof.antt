@@ -1,5 +1,4 @@
 -- `run` meets its contract: where no check refuses, the record's arrays are ready and the variables are as many as the copy has. Assumes nothing.
-use mathlib.Core.Logic.{inl, inr}
 use Rattle.model.specs.Save.{Save}
 use Rattle.model.specs.Sheet.{Sheet, save_ok}
 use Rattle.model.specs.Memory.{Memory}
@@ -13,6 +12,7 @@ use Rattle.runner.proofs.Rest.{answers}
 use Rattle.runner.proofs.Checks.{call_ready, save_room, run_refused, run_bad_save, run_checked_lem}
 use borrow.Author.Rules.{rules}
 use Rattle.runner.proofs.run.Statement.{statement}
+use Rattle.runner.proofs.run.Lts.{then-refused-eq0-2, else-refused-eq0-2, else-refused-eq0-via-then-refused-eq0+else-check_save, else-refused-eq0-via-else-refused-eq0}
 use Rattle.runner.proofs.run.Tie as tie
 
 -- what the call was given
@@ -33,20 +33,17 @@ run-copied-requires c κs =
 returns : tie.Need-returns-then-check_save
 returns c =
     let s = c.before.before.before.before.before.before.before.before.before.before in
-    run_checked_lem (sheet s) (memory s) s.args.start.0 (save s) s.args.budget _ c.check_call-refused.ensures c.if-refused-eq0.true (ran_of c.run_copied.result c.run_copied.new.1.1.1.1.1.1.1.1.1.1.0) (answered (save_ok (sheet s) (save s)) c.check_save.ensures c.if-check_save.true) c.run_copied.ensures
+    run_checked_lem (sheet s) (memory s) s.args.start.0 (save s) s.args.budget _ c.check_call-refused.ensures c.if-refused-eq0.true (ran_of c.run_copied.result c.run_copied.new.vars) (answered (save_ok (sheet s) (save s)) c.check_save.ensures c.if-check_save.true) c.run_copied.ensures
 
 returns-2 : tie.Need-returns
 returns-2 c =
-    let a = c.before in
-    let b = a.before in
-    let d = b.before in
-    let s = d.before.before.before.before in
-    answers c.ended.ensures (elim a.if-refused-eq0-2.branch [
-      | inl w ↦ elim b.else-refused-eq0.branch [
-        | inl u ↦ rw w.1 (run_bad_save (sheet s) (memory s) s.args.start.0 (save s) s.args.budget _ d.check_call-refused.ensures u.0.taken (answered (save_ok (sheet s) (save s)) u.2.ensures u.3.left))
-        | inr u ↦ absurd (u.left w.0.taken)
+    let s = c.before.before.before.before.before.before.before in
+    answers c.ended.ensures (elim c.if-refused-eq0-2.branch [
+      | then-refused-eq0-2 w ↦ elim c.else-refused-eq0.branch [
+        | else-refused-eq0-via-then-refused-eq0+else-check_save u ↦ rw w.ended-is (run_bad_save (sheet s) (memory s) s.args.start.0 (save s) s.args.budget _ c.check_call-refused.ensures u.if-refused-eq0.true (answered (save_ok (sheet s) (save s)) u.check_save.ensures u.if-check_save.false))
+        | else-refused-eq0-via-else-refused-eq0 u ↦ absurd (u.if-refused-eq0.false w.if-refused-eq0-2.true)
       ]
-      | inr w ↦ rw w.1 (run_refused (sheet s) (memory s) s.args.start.0 (save s) s.args.budget _ d.check_call-refused.ensures w.0.left)
+      | else-refused-eq0-2 w ↦ rw w.ended-is (run_refused (sheet s) (memory s) s.args.start.0 (save s) s.args.budget _ c.check_call-refused.ensures w.if-refused-eq0-2.false)
     ])
 
 pub run_spec : {M : Type 1} → statement M

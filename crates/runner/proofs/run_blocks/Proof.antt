@@ -20,24 +20,15 @@ loop-holds c = none_entered _ _ _ _ _
 
 loop-again : tie.Need-loop-entered-preserved invariant-loop decreases-loop
 loop-again c =
-    let a = c.before in
-    let b = a.before.before in
-    let d = b.before in
-    one_entered _ _ _ _ _ d.loop-entered.invariant b.loop-entered-test.true a.step_block-s.result _ a.step_block-s.new.1.1.1.1.1.1.1.1.1.1.0 c.in-Next.is a.step_block-s.ensures
+    one_entered _ _ _ _ _ c.loop-entered.invariant c.loop-entered-test.true c.step_block-s.result _ c.step_block-s.new.vars c.in-Next.is c.step_block-s.ensures
 
 returns : tie.Need-returns-in-Done invariant-loop decreases-loop
 returns c =
-    let a = c.before.before in
-    let b = a.before.before in
-    let d = b.before in
-    answers c.ended.ensures (done_entered _ _ _ _ _ d.loop-entered.invariant b.loop-entered-test.true a.step_block-s.result a.step_block-s.new.1.1.1.1.1.1.1.1.1.1.0 c.in-Done.is a.step_block-s.ensures)
+    answers c.ended.ensures (done_entered _ _ _ _ _ c.loop-entered.invariant c.loop-entered-test.true c.step_block-s.result c.step_block-s.new.vars c.in-Done.is c.step_block-s.ensures)
 
 returns-2 : tie.Need-returns-in-Halt invariant-loop decreases-loop
 returns-2 c =
-    let a = c.before.before in
-    let b = a.before.before in
-    let d = b.before in
-    answers c.ended-in-Halt.ensures (halt_entered _ _ _ _ _ d.loop-entered.invariant b.loop-entered-test.true a.step_block-s.result _ a.step_block-s.new.1.1.1.1.1.1.1.1.1.1.0 c.in-Halt.is a.step_block-s.ensures)
+    answers c.ended-in-Halt.ensures (halt_entered _ _ _ _ _ c.loop-entered.invariant c.loop-entered-test.true c.step_block-s.result _ c.step_block-s.new.vars c.in-Halt.is c.step_block-s.ensures)
 
 returns-3 : tie.Need-returns invariant-loop decreases-loop
 returns-3 c = answers c.ended-2.ensures (all_spent _ _ _ _ _ c.loop-entered.invariant c.loop-entered-test.false)

@@ -8,8 +8,7 @@ use Rattle.runner.proofs.set_variable.Tie as tie
 
 returns : tie.Need-returns
 returns c =
-    let s = c.before.before.before.before.before.before in
-    λ n nx. c.store_value.ensures (reads s.args.items.now s.args.atcs.now s.args.flags.now s.args.times.now) nx _ _ (rw (below_root (nodes_in s.args.ws.now s.args.val.now n) s.args.target) at (c.evaluate-t.ensures n)) (rw (below_root (nodes_in s.args.ws.now s.args.val.now n) s.args.value) at (c.evaluate-e.ensures n))
+    λ n nx. c.store_value.ensures (reads c.args.items.now c.args.atcs.now c.args.flags.now c.args.times.now) nx _ _ (rw (below_root (nodes_in c.args.ws.now c.args.val.now n) c.args.target) at (c.evaluate-t.ensures n)) (rw (below_root (nodes_in c.args.ws.now c.args.val.now n) c.args.value) at (c.evaluate-e.ensures n))
 
 pub set_variable_spec : {M : Type 1} → statement M
 set_variable_spec =

@@ -23,23 +23,17 @@ returns c =
 
 returns-2 : tie.Need-returns-then-kind-ne1
 returns-2 c =
-    let a = c.before.before in
-    let s = a.before.before.before.before.before in
-    step_not_code (memory s) (save s) s.args.b.0 s.args.vars.now a.if-n-counts.false c.if-kind-ne1.true
+    let s = c.before.before.before.before.before.before.before in
+    step_not_code (memory s) (save s) s.args.b.0 s.args.vars.now c.if-n-counts.false c.if-kind-ne1.true
 
 execute-block-requires : tie.Need-execute_block-requires
 execute-block-requires c κs =
-    let a = c.before.before.before.before in
-    let d = a.before.before in
-    let e = d.before.before.before.before.before in
-    e.requires.commands e.args.b.0 d.if-n-counts.false a.if-kind-ne1.false
+    c.requires.commands c.args.b.0 c.if-n-counts.false c.if-kind-ne1.false
 
 returns-3 : tie.Need-returns
 returns-3 c =
-    let a = c.before.before.before.before.before in
-    let d = a.before.before in
-    let s = d.before.before.before.before.before in
-    step_code (memory s) (save s) s.args.b.0 s.args.vars.now d.if-n-counts.false {o = outcome_of c.execute_block.result c.execute_block.new.1.1.1.1.1.1.1.1.1.1.0} a.if-kind-ne1.false (c.execute_block.ensures s.args.counts.nodes s.args.counts.commands)
+    let s = c.before.before.before.before.before.before.before.before.before.before.before.before in
+    step_code (memory s) (save s) s.args.b.0 s.args.vars.now c.if-n-counts.false {o = outcome_of c.execute_block.result c.execute_block.new.vars} c.if-kind-ne1.false (c.execute_block.ensures s.args.counts.nodes s.args.counts.commands)
 
 pub step_block_spec : {M : Type 1} → statement M
 step_block_spec =

@@ -14,10 +14,10 @@ cast-i : tie.Need-overflow_cast-i
 cast-i c = rw (to_z-of_z c.ranges.k) (not_negative c.args.k (rw (to_z-of_z c.ranges.k) at c.if-k-lt0.false), Fits-nat_abs {w = w32} tt c.ranges.k)
 
 returns-2 : tie.Need-returns-then-i-vars
-returns-2 c = let s = c.before.before in rw (to_z-of_z s.ranges.k, to_z-of_z s.ranges.x) (store_in s.args.vars.now s.args.k s.args.x (rw (to_z-of_z s.ranges.k) at c.if-k-lt0.false))
+returns-2 c = rw (to_z-of_z c.ranges.k, to_z-of_z c.ranges.x) (store_in c.args.vars.now c.args.k c.args.x (rw (to_z-of_z c.ranges.k) at c.if-k-lt0.false))
 
 returns-3 : tie.Need-returns-else-i-vars
-returns-3 c = let s = c.before.before in store_out s.args.vars.now s.args.k s.args.x (rw (to_z-of_z s.ranges.k) at c.if-k-lt0.false) (rw (to_z-of_z s.ranges.k) at c.if-i-vars.false)
+returns-3 c = store_out c.args.vars.now c.args.k c.args.x (rw (to_z-of_z c.ranges.k) at c.if-k-lt0.false) (rw (to_z-of_z c.ranges.k) at c.if-i-vars.false)
 
 pub store_at_spec : {M : Type 1} → statement M
 store_at_spec =

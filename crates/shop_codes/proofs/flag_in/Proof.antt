@@ -1,4 +1,3 @@
-
 -- `flag_in` meets its contract: −1 less what the number lies below −1. Assumes nothing.
 use mathlib.Core.Path.{sym, ap, ◌∙◌}
 use mir.Syntax.{w32}

@@ -1,4 +1,3 @@
-
 -- `id_in` meets its contract: one below 0 is 512. Assumes nothing.
 use Rattle.shop_codes.specs.Codes.{id_of}
 use Rattle.shop_codes.specs.Laws.{unshift_low, unshift_high}

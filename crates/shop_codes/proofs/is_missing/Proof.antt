@@ -1,4 +1,3 @@
-
 use mathlib.Core.Path.{sym}
 use Rattle.shop_codes.specs.Subjects.{missing_kind, not_missing}
 use Rattle.shop_codes.proofs.is_missing.Statement.{statement}

@@ -1,4 +1,3 @@
-
 -- `shifted` meets its contract: the bits of a number, moved by half their range. Assumes nothing.
 use borrow.Author.Rules.{rules}
 use mir.Facts.{to_z-of_z}

@@ -1,4 +1,3 @@
-
 -- `sheet_read::read_all` meets its contract: the first refusal met answers. Assumes nothing.
 use Rattle.slots_sheet.specs.Told.{took, left}
 use Rattle.slots_sheet.specs.Steps.{accepted, rejected}

@@ -1,4 +1,3 @@
-
 -- `sheet_read::read_atcs` meets its contract. The loop's invariant: the atcs of the first i items stand in the array, and the rest of it is as it was. Assumes nothing.
 use Prim.Native.Nat.{◌≤◌, ◌-◌}
 use Rattle.slots_sheet.specs.Told.{took, left}

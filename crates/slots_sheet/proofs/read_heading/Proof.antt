@@ -1,4 +1,3 @@
-
 -- `sheet_read::read_heading` meets its contract: a refusal leaves zeros. Assumes nothing.
 use Rattle.slots_sheet.specs.Whole.{outcome_held, held_within, outcome_nothing, nothing_within}
 use borrow.Author.Rules.{rules}

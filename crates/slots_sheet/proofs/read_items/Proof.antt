@@ -1,4 +1,3 @@
-
 -- `sheet_read::read_items` meets its contract: the first refusal met answers. Assumes nothing.
 use Rattle.model.specs.Limits.{fewest_items, most_items, most_atcs}
 use Rattle.slots_sheet.specs.Told.{took, left}

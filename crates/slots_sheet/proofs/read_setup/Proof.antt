@@ -1,4 +1,3 @@
-
 -- `sheet_read::read_setup` meets its contract: a number that was read has 32 bits. Assumes nothing.
 use Rattle.slots_sheet.specs.Whole.{setup_bad, setup_low, setup_got}
 use borrow.Author.Rules.{rules}

@@ -1,4 +1,3 @@
-
 -- `sheet_read::read_timer` meets its contract, test by test. Assumes nothing.
 use Rattle.slots_sheet.specs.Steps.{entry_bad, entry_no, entry_got, timer_out, timer_first, timer_second, timer_in}
 use borrow.Author.Rules.{rules}

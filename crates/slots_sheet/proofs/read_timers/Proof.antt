@@ -1,4 +1,3 @@
-
 -- `sheet_read::read_timers` meets its contract: the first refusal met answers. Assumes nothing.
 use mathlib.Core.Bool.{Bool}
 use Prim.Native.Nat.{ℕ}

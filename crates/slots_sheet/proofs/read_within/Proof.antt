@@ -1,4 +1,3 @@
-
 -- `sheet_read::read_within` meets its contract: below, above and within the range. Assumes nothing.
 use Rattle.slots_sheet.specs.Steps.{entry_bad, entry_no, entry_got, within_low, within_high, within_in}
 use borrow.Author.Rules.{rules}
