@@ -18,7 +18,7 @@ use Rattle.shop_arrays.specs.Arrays.{shop_from}
 use Rattle.compile.specs.Answer.{call_of, CompiledAs}
 use Rattle.preview.specs.Accepted.{with_all}
 use Rattle.reclaim_record.specs.Demand.{Given}
-use Rattle.reclaim_record.specs.Stands.{LongBorn}
+use Rattle.reclaim_record.proofs.Stands.{LongBorn}
 use Rattle.capi.specs.declared.Ran.{Ran}
 use Rattle.capi.specs.Answers.{loader_by, ran_as}
 use Rattle.library.specs.Delivered.{Asked, AsPromised, Made, compile, means_of, given_by, made, reclaim, shop_of, shop_long}

@@ -109,7 +109,7 @@ fn previewed_by(p: preview::Previewed) -> Previewed
 }
 
 // The script of an image. A refused read hands out nothing: the arrays are zero then. An image carries no birth marks, so these and the count of compiles are 0 either way (02, A.2).
-pub extern "C" fn lk_read(
+pub fn lk_read(
     bytes: &[u8],
     ws: &mut NodeWords,
     val: &mut Values,
@@ -128,7 +128,7 @@ pub extern "C" fn lk_read(
 }
 
 // The image of a script into a slice. Refused, the slice stays as it was.
-pub extern "C" fn lk_write(
+pub fn lk_write(
     ws: &NodeWords,
     val: &Values,
     cw: &CommandWords,
@@ -149,7 +149,7 @@ pub extern "C" fn lk_write(
 }
 
 // Runs the blocks from start on, with the variables in vars. Refused by 1 to 12 it enters no block and writes nothing.
-pub extern "C" fn lk_run(
+pub fn lk_run(
     attached: &[u8],
     atcs: u16,
     timer5: u16,
@@ -197,7 +197,7 @@ pub extern "C" fn lk_run(
 }
 
 // Compiles the shop that the arrays stand for and links it at block setup, for the disc where loader is 0, else for the demo. The blocks that it appends bear the new count of compiles. Refused, nothing is written and the counts are those handed in.
-pub extern "C" fn lk_compile(
+pub fn lk_compile(
     attached: &[u8],
     atcs: u16,
     timer5: u16,
@@ -246,7 +246,7 @@ pub extern "C" fn lk_compile(
 
 // Takes back the blocks that no root reaches by next, else and command targets: the others keep their order and get the numbers from 0 on,
 // links and birth marks follow them, and moved tells for each old block its new number and 1, or 0. The count of compiles is kept. Refused, nothing is written and the counts are those handed in.
-pub extern "C" fn lk_reclaim(
+pub fn lk_reclaim(
     ws: &mut NodeWords,
     val: &mut Values,
     cw: &mut CommandWords,
@@ -269,7 +269,7 @@ pub extern "C" fn lk_reclaim(
 
 // The arrays of a shop from any number of slots, each with a row of codes. As many slots are given as there are items; what another slice
 // lacks of them is 0. Slots past the twentieth are dropped unchecked, missing ones are empty.
-pub extern "C" fn lk_with_slots(
+pub fn lk_with_slots(
     items: &[i32],
     limits: &[i16],
     codes: &[u64],
@@ -287,7 +287,7 @@ pub extern "C" fn lk_with_slots(
 }
 
 // The shop that starts at block setup, into the arrays; refused, those of an empty shop.
-pub extern "C" fn lk_parse(
+pub fn lk_parse(
     attached: &[u8],
     atcs: u16,
     timer5: u16,
@@ -327,7 +327,7 @@ pub extern "C" fn lk_parse(
 }
 
 // What the shop that the arrays stand for means under a save.
-pub extern "C" fn lk_preview(
+pub fn lk_preview(
     attached: &[u8],
     atcs: u16,
     timer5: u16,

@@ -13,7 +13,7 @@ use capi_values::sheet_by;
 use shop::SLOTS;
 
 // The bill of the save that a run left: item, slot and coins of its twenty lines, in the order of the items. Refused, the three arrays stay as they were.
-pub extern "C" fn lk_bill(
+pub fn lk_bill(
     attached: &[u8],
     atcs: u16,
     timer5: u16,

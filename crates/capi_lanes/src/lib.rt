@@ -24,7 +24,7 @@ pub struct Walked {
 }
 
 // Runs the blocks from setup on for that many saves, whose parts lie one behind another, with a budget of 4,096 each. Every save's refusal and count go to its place in two arrays, whose places past the last save are left alone. Refused, nothing is written.
-pub extern "C" fn lk_run_all(
+pub fn lk_run_all(
     attached: &[u8],
     atcs: u16,
     timer5: u16,

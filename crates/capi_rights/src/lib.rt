@@ -14,7 +14,7 @@ use shop::{Codes, Row, SLOTS};
 
 // An edit by a user of one field of a slot: field 0 is the item, -1 for none, 1 the limit, 2 the requirements, len of them by their codes.
 // Of item, limit and requirements the one counts that the field names. Refused, nothing is written; a field above 2 is 21, as a slot above 19.
-pub extern "C" fn lk_edit(
+pub fn lk_edit(
     attached: &[u8],
     atcs: u16,
     timer5: u16,
@@ -44,7 +44,7 @@ pub extern "C" fn lk_edit(
 
 // The arrays of a shop become those of the shop as the user sees it: the words of a slot with the right to see stay, those of every other
 // slot become an empty one's. Refused (20), all are those of the empty shop.
-pub extern "C" fn lk_show(
+pub fn lk_show(
     rights: &[u8; RIGHTS],
     items: &mut [i32; SLOTS],
     limits: &mut [i16; SLOTS],

@@ -14,7 +14,7 @@ use shop::Row;
 use shop_arrays::slot_by;
 
 // The slot's subjects, and in how many combinations of their answers it is listed and hidden; refused, every number is 0.
-pub extern "C" fn lk_settings(
+pub fn lk_settings(
     attached: &[u8],
     atcs: u16,
     timer5: u16,

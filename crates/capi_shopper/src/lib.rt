@@ -16,7 +16,7 @@ use shopper::{Shopped, WISHES, shopping};
 
 // A step for each wish, in the shop of the four arrays, from this save and this money: of each step 0 bought, 1 sold out, 2 too dear or 23, and the
 // coins paid. Refused, the save and both arrays stay as they were.
-pub extern "C" fn lk_shopper(
+pub fn lk_shopper(
     attached: &[u8],
     atcs: u16,
     timer5: u16,

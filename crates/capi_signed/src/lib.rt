@@ -13,7 +13,7 @@ use shop::{Codes, SLOTS};
 use signed_check::{Checked, check_shop};
 
 // What is told of each slot; refused, every number is 0.
-pub extern "C" fn lk_check(
+pub fn lk_check(
     attached: &[u8],
     atcs: u16,
     timer5: u16,

@@ -67,7 +67,7 @@ fn headed_of(h: Heading) -> Headed
 }
 
 // Sheet and setup number of a stage, its items' atcs + 1 or 0 into the array, whose places past the items stay. A refused read hands out nothing: the array is zero then.
-pub extern "C" fn lk_read_heading(bytes: &[u8], attached: &mut [u8; 512]) -> Headed
+pub fn lk_read_heading(bytes: &[u8], attached: &mut [u8; 512]) -> Headed
     ensures { told result attached.new ≡ head_told bytes.now attached.old }
 {
     if INPUT < bytes.len() {
@@ -79,7 +79,7 @@ pub extern "C" fn lk_read_heading(bytes: &[u8], attached: &mut [u8; 512]) -> Hea
 }
 
 // Sheet and setup number into a slice, as lk_read_heading reads them. Refused, the slice stays as it was; so do the bytes past the heading.
-pub extern "C" fn lk_write_heading(
+pub fn lk_write_heading(
     attached: &[u8],
     atcs: u16,
     timer5: u16,

@@ -79,7 +79,7 @@ fn few_each(lens: &[u8]) -> bool
 // ---- the calls
 
 // The shop of a text into its arrays. Refused, they are as they were.
-pub extern "C" fn lk_read_shop(
+pub fn lk_read_shop(
     text: &[u8],
     items: &mut [i32; SLOTS],
     limits: &mut [i16; SLOTS],
@@ -101,7 +101,7 @@ pub extern "C" fn lk_read_shop(
 }
 
 // The text of a shop from the start of the array on, and how long it is: 0, and nothing written, where a slot has more entries than may be given.
-pub extern "C" fn lk_print_shop(
+pub fn lk_print_shop(
     items: &[i32; SLOTS],
     limits: &[i16; SLOTS],
     codes: &Codes,

@@ -40,9 +40,10 @@ use Rattle.reclaim_model.specs.Changes as change
 use Rattle.reclaim_model.proofs.Laws.Others.{AsWas}
 use Rattle.reclaim_model.proofs.Laws.Renames.{rename_agree, rename_same}
 use Rattle.reclaim_record.specs.Calls.{change_refusal_in, changed_in, changes_in, moved_in, number_after_in, reclaim_refusal_in}
-use Rattle.reclaim_record.specs.Moved.{moved_tells}
-use Rattle.reclaim_record.specs.Stands.{LongBorn}
-use Rattle.reclaim_record.specs.Demand.{Demand3MixedIn, demand_3_mixed_in}
+use Rattle.reclaim_record.proofs.Moved.{moved_tells}
+use Rattle.reclaim_record.proofs.Stands.{LongBorn}
+use Rattle.reclaim_record.specs.Demand.{Demand3MixedIn}
+use Rattle.reclaim_record.proofs.Demand.{demand_3_mixed_in}
 use Rattle.reclaim.specs.Answer.{ReclaimedAs}
 
 -- what a call was given: a compile its loader, its setup block and its shop, a reclaim its roots and the array in which it tells

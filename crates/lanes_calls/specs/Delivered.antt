@@ -20,7 +20,7 @@ use Rattle.model.proofs.Laws.Lists.{Followed}
 use Rattle.reclaim_model.specs.Rename.{Every}
 use Rattle.reclaim_model.specs.Changes.{Change}
 use Rattle.reclaim_record.specs.Calls.{changes_in}
-use Rattle.reclaim_record.specs.Stands.{LongBorn}
+use Rattle.reclaim_record.proofs.Stands.{LongBorn}
 use Rattle.engine.specs.Delivered as engine
 use Rattle.library.specs.Delivered.{AsPromised, Made, call_by, followed, made, promises}
 use Rattle.lanes_model.specs.Flat.{Left, left_by, saves_in, saves_ok, walk_in, walk_refusal_in}

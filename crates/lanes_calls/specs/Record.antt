@@ -24,14 +24,14 @@ use Rattle.model.proofs.Laws.Refused.{Proper}
 use Rattle.memory.specs.RecordLaws.{proper_record}
 use Rattle.reclaim_model.specs.Changes.{BornScript, Change, changes}
 use Rattle.reclaim_record.specs.Calls.{changes_in}
-use Rattle.reclaim_record.specs.Stands.{LongBorn, Stands, borne, born_script, call_same, followed, judged_stands}
+use Rattle.reclaim_record.proofs.Stands.{LongBorn, Stands, borne, born_script, call_same, followed, judged_stands}
 use Rattle.lanes_model.specs.Falls.{falls}
 use Rattle.lanes_model.specs.Walk.{Walked, walk_call, walk_checks}
 use Rattle.lanes_model.specs.Flat.{lengths_ok, saves_in, saves_ok, walk_in, walk_refusal_in}
 use Rattle.lanes_model.proofs.Laws.Falls.{paths_falls}
 use Rattle.lanes_model.proofs.Laws.Lists.{walk_few, walk_serves}
 use Rattle.lanes_model.proofs.Laws.Walks.{by_lanes, saves_many, walk_call_lem, walk_in_lem, walk_passed, walk_passed_in}
-use Rattle.reclaim_record.specs.Demand.{unmoved}
+use Rattle.reclaim_record.proofs.Demand.{unmoved}
 
 -- what a walk of k saves at block b of the record m comes to
 pub record Served (h : Sheet) (m : Memory) (b : ℕ) : Type 0 where

@@ -28,7 +28,7 @@ use Rattle.preview.specs.Agree.{AgreesCall}
 use Rattle.preview.specs.Accepted.{with_all}
 use Rattle.reclaim_model.specs.Changes.{given_to, names_of}
 use Rattle.reclaim_model.proofs.Laws.Others.{AsWas}
-use Rattle.reclaim_record.specs.Stands.{LongBorn}
+use Rattle.reclaim_record.proofs.Stands.{LongBorn}
 use Rattle.reclaim.specs.Answer.{ReclaimedAs}
 use Rattle.capi.specs.declared.Kept.{Kept}
 use Rattle.capi.specs.declared.Ran.{Ran}

@@ -19,8 +19,8 @@ use Rattle.memory.specs.Transfer.{accepted_script, blocks_counted, compile_trans
 use Rattle.preview.specs.Accepted.{with_all}
 use Rattle.shop_arrays.specs.Arrays.{Arrays, shop_from}
 use Rattle.compile.specs.Answer.{call_of, CompiledAs}
-use Rattle.reclaim_record.specs.Stands.{LongBorn}
-use Rattle.reclaim_record.specs.Compiles.{passed_in}
+use Rattle.reclaim_record.proofs.Stands.{LongBorn}
+use Rattle.reclaim_record.proofs.Compiles.{passed_in}
 use Rattle.capi.specs.Answers.{loader_by}
 use Rattle.library.specs.Delivered.{delivered, left_by, shop_of, shop_long}
 use Rattle.moves_model.proofs.Again.{shifted}

@@ -11,7 +11,7 @@ use Rattle.model.specs.Flags.{flag_answer}
 use Rattle.model.specs.RecordCalls.{Born, run_in}
 use Rattle.model.specs.Lists.{Along, after_all, following, last_at, last_from, now_at}
 use Rattle.model.proofs.Laws.Lists.{none≢some}
-use Rattle.reclaim_record.specs.Stands.{LongBorn}
+use Rattle.reclaim_record.proofs.Stands.{LongBorn}
 use Rattle.capi.specs.declared.Ran.{Ran}
 use Rattle.capi.specs.Answers.{ran_as}
 use Rattle.library.specs.Delivered.{Asked, compile, reclaim, Made, AsPromised, delivered, given_by, left_by, made, shop_long}

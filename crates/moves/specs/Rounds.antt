@@ -8,7 +8,7 @@ use Rattle.model.specs.RecordCalls.{Born, parse_in}
 use Rattle.model.specs.Lists.{Along, after_all, last_at, now_at}
 use Rattle.shop_arrays.specs.Arrays.{Arrays}
 use Rattle.parse.specs.Answer.{ParsedInto}
-use Rattle.reclaim_record.specs.Stands.{LongBorn}
+use Rattle.reclaim_record.proofs.Stands.{LongBorn}
 use Rattle.library.specs.Delivered.{AsPromised, Made, compile, left_by, made, shop_of}
 
 -- an lk_compile of a shop, on any script and at any block of it, and what lk_compile and lk_reclaim were called after it

@@ -11,7 +11,7 @@ use lib.Seq.{slice, slice_empty, length-slice, take-suc, take-suc-set, drop-appe
 use borrow.Author.Tests.{eqb-true, eqb-false}
 use Rattle.model.proofs.Laws.Bools.{or_move}
 use Rattle.parse_filter.specs.Chains.{signed_entry, signed_part, has}
-use Rattle.parse_filter.specs.Members.{has_append}
+use Rattle.parse_filter.proofs.Members.{has_append}
 use Rattle.parse_filter.specs.Marks.{Part, Marks, Unmarks}
 
 -- ---- a part of the list

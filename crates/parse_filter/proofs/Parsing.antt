@@ -11,11 +11,11 @@ use Rattle.model.proofs.Laws.Checks.{and_left, and_right, or_none}
 use Rattle.shop.specs.Sets.{sorted_codes}
 use Rattle.parse_keys.specs.Entries.{Valid, entry_code}
 use Rattle.parse_filter.specs.Chains.{companion_of, has, entries_above, entries_in, reached, top_of, Falls, Chains, Walkable, Bounds}
-use Rattle.parse_filter.specs.ChainLaws.{down, reached_end, reached_step, entries_none, entries_split, top_to}
+use Rattle.parse_filter.proofs.ChainLaws.{down, reached_end, reached_step, entries_none, entries_split, top_to}
 use Rattle.parse_filter.specs.Filter.{stay, filtered, unmet, Met, Sifted, companion_codes, negated_codes, Coded, Holds}
-use Rattle.parse_filter.specs.Frames.{entries_valid}
+use Rattle.parse_filter.proofs.Frames.{entries_valid}
 use Rattle.parse_filter.specs.Marks.{MarkedAs, Marks, Onward, Unmarks, Served, as_they_are, none_left, Parsed}
-use Rattle.parse_filter.specs.Members.{has_append, has_stay, place_has, same_set, map_same}
+use Rattle.parse_filter.proofs.Members.{has_append, has_stay, place_has, same_set, map_same}
 use Rattle.parse_filter.specs.declared.Marked.{Marked}
 use Rattle.model.proofs.Laws.Normal.{both_ways_lem}
 use Rattle.model.proofs.Laws.Bools.{or_cases, or_left, or_right}

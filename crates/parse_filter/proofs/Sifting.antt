@@ -14,8 +14,8 @@ use Rattle.shop.specs.SetLaws.{insert_more}
 use Rattle.parse_keys.specs.Entries.{entry_code}
 use Rattle.parse_filter.specs.Chains.{companion_of}
 use Rattle.parse_filter.specs.Filter.{stay, unmet, Sifted, companion_codes, Holds}
-use Rattle.parse_filter.specs.Members.{stay_append, sorted_more, sorted_on}
-use Rattle.parse_filter.specs.Companions.{held_filtered}
+use Rattle.parse_filter.proofs.Members.{stay_append, sorted_more, sorted_on}
+use Rattle.parse_filter.proofs.Companions.{held_filtered}
 
 -- ---- the filter
 

@@ -6,7 +6,7 @@ use Prim.Native.Nat.{ℕ, ◌+◌, ◌-◌, ◌≤◌, ◌<◌}
 use native.Mathlib.Omega.{arith}
 use lib.ListN.{get_or, length}
 use Rattle.parse_filter.specs.Chains.{joined_to, from_of, to_of, is_else, signed_part, entries_above, entries_in, reached, top_of, CellAt, Walkable}
-use Rattle.parse_filter.specs.ChainLaws.{above_end, above_step, reached_end, reached_step, entries_at, top_to, reached_top}
+use Rattle.parse_filter.proofs.ChainLaws.{above_end, above_step, reached_end, reached_step, entries_at, top_to, reached_top}
 use Rattle.parse_filter.specs.Marks.{Part, Marks, Unmarks}
 use Rattle.parse_filter.proofs.Marking.{part_length, marks_none, marks_before, unmarks_none, unmarks_before}
 

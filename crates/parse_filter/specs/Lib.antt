@@ -1,9 +1,3 @@
 pub mod Chains
 pub mod Filter
 pub mod Marks
-pub mod Members
-pub mod Companions
-pub mod FilterCases
-pub mod ChainLaws
-pub mod Frames
-pub mod Negations

@@ -19,8 +19,8 @@ use Rattle.parse_conditions.specs.Gathered.{gathered}
 use Rattle.parse_conditions.specs.Gathers.{gathered_negated}
 use Rattle.parse_conditions.specs.Listing.{Listing}
 use Rattle.parse_filter.specs.Chains.{cell_of, joined_to, to_of, is_else, signed_part, top_of, entries_in, CellAt, Chains}
-use Rattle.parse_filter.specs.ChainLaws.{entries_at}
-use Rattle.parse_filter.specs.Frames.{Kept, entries_frame, marked_frame}
+use Rattle.parse_filter.proofs.ChainLaws.{entries_at}
+use Rattle.parse_filter.proofs.Frames.{Kept, entries_frame, marked_frame}
 use Rattle.parse_filter.specs.Marks.{MarkedAs}
 use Rattle.parse_visit.specs.Entries.{Reads, reads_append, reads_grown, reads_other, reads_plain, listing_reads, listing_valid}
 use Rattle.parse_visit.specs.State.{Stored, stored_in, gathered_of, Holding}

@@ -22,9 +22,9 @@ use Rattle.parse_conditions.specs.Gathered.{inserted}
 use Rattle.parse_conditions.specs.Gathers.{gather_inserts}
 use Rattle.parse_filter.specs.Chains.{has, entries_in, Bounds}
 use Rattle.parse_filter.specs.Filter.{negated_codes, Holds}
-use Rattle.parse_filter.specs.Frames.{entries_valid}
+use Rattle.parse_filter.proofs.Frames.{entries_valid}
 use Rattle.parse_filter.specs.Marks.{MarkedAs}
-use Rattle.parse_filter.specs.Negations.{inserted_codes, inserted_narrow}
+use Rattle.parse_filter.proofs.Negations.{inserted_codes, inserted_narrow}
 use Rattle.parse_filter.specs.declared.Marked.{Marked}
 use Rattle.parse_scan.specs.Slots.{Stands}
 use Rattle.parse_scan.specs.AllSlots.{slots_then, UpdatedBy}

@@ -28,7 +28,7 @@ use Rattle.expr.specs.Requirement.{Has}
 use Rattle.parse_keys.specs.Growth.{tables_start}
 use Rattle.parse_keys.specs.declared.Known.{Known}
 use Rattle.parse_filter.specs.Chains.{has}
-use Rattle.parse_filter.specs.ChainLaws.{entries_none}
+use Rattle.parse_filter.proofs.ChainLaws.{entries_none}
 use Rattle.parse_visit.specs.LastIf.{nodes_few}
 use Rattle.parse_visit.specs.declared.Walk.{Walk}
 use Rattle.parse_visit.specs.State.{Accepted, state_of, Stored, stored_in, Holding}

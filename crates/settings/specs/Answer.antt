@@ -22,7 +22,8 @@ use Rattle.shop.specs.Shapes.{rate_word, slot_of}
 use Rattle.shop.specs.Slots.{slot_narrow}
 use Rattle.settings_model.specs.Settings as Counted
 use Rattle.settings_model.specs.Settings.{hidden_count, listed_count, rates, settings_as, settings_call, settings_checks, subject_of, subjects}
-use Rattle.settings_model.specs.Closed.{acquired_filled, bit, none_listed}
+use Rattle.settings_model.specs.Closed.{acquired_filled, bit}
+use Rattle.settings_model.proofs.Closed.{none_listed}
 use Rattle.settings_model.proofs.Prefixes.{acquired_subjects, count_new}
 use Rattle.settings_model.proofs.Call.{Counts, counts}
 use Rattle.model.specs.declared.ItemId.{ItemId}

@@ -12,10 +12,10 @@ use Rattle.model.specs.RecordCalls.{Born, run_in}
 use Rattle.model.specs.Lists.{Along, after_all, last_at, now_at}
 use Rattle.shop.specs.Shapes.{slot_of}
 use Rattle.shop_arrays.specs.Arrays.{slot_in}
-use Rattle.reclaim_record.specs.Stands.{LongBorn}
+use Rattle.reclaim_record.proofs.Stands.{LongBorn}
 use Rattle.settings_model.specs.Settings.{combos, count, listed_by, setting_of, settings_call, subjects}
-use Rattle.settings_model.specs.Combos.{each_once, same_list}
-use Rattle.settings_model.specs.Listed.{listed_item, setting_long}
+use Rattle.settings_model.proofs.Combos.{each_once, same_list}
+use Rattle.settings_model.proofs.Listed.{listed_item, setting_long}
 use Rattle.settings_model.proofs.Call.{Told, told}
 use Rattle.settings.specs.declared.Settings.{Settings}
 use Rattle.settings.specs.Answer.{settings_of}

@@ -9,9 +9,10 @@ use Rattle.model.specs.Shop.{Slot, item_known, limit_of, req_known, slot_ok}
 use Rattle.model.proofs.Laws.Checks.{and_left, and_right, first_passed, passed}
 use Rattle.faithful_model.specs.Faithful.{faithful_filled}
 use Rattle.settings_model.specs.Settings.{Settings, combos, count, hidden_count, listed_by, listed_count, settings_as, settings_call, settings_checks, subject_of, subjects, subjects_filled}
-use Rattle.settings_model.specs.Closed.{acquired_filled, bit, hidden_closed_lem, hidden_closed, listed_closed_lem, listed_closed, together}
+use Rattle.settings_model.specs.Closed.{acquired_filled, bit, hidden_closed, listed_closed}
+use Rattle.settings_model.proofs.Closed.{hidden_closed_lem, listed_closed_lem, together}
 use Rattle.settings_model.proofs.Prefixes.{acquired_subjects, count_new, subjects_count}
-use Rattle.settings_model.specs.Subjects.{subjects_few}
+use Rattle.settings_model.proofs.Subjects.{subjects_few}
 
 -- ---- by numbers
 

@@ -13,7 +13,7 @@ use Rattle.model.proofs.Laws.Runs.{same_req_true}
 use Rattle.model.proofs.Laws.Sets.{same_refl}
 use Rattle.model.proofs.Laws.Bools.{or_cases, or_right}
 use Rattle.settings_model.specs.Settings.{Subject, distinct, member_s, rates, same_subject, subject_of, subjects_filled, without}
-use Rattle.settings_model.specs.Subjects.{no_rate, req_other, req_own, subject_neg, subject_own, subject_true}
+use Rattle.settings_model.proofs.Subjects.{no_rate, req_other, req_own, subject_neg, subject_own, subject_true}
 use Rattle.settings_model.specs.Closed.{acquired_filled, bit}
 
 -- ---- one subject more

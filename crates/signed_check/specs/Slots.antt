@@ -28,7 +28,7 @@ use Rattle.shop.specs.declared.Slot.{Slot}
 use Rattle.shop.specs.declared.SlotItem.TheVariants.{Nothing, Of}
 use Rattle.shop.specs.declared.Reqs.{Reqs}
 use Rattle.settings_model.specs.Settings.{hidden_count, listed_count, settings_call}
-use Rattle.settings_model.specs.Closed.{none_listed}
+use Rattle.settings_model.proofs.Closed.{none_listed}
 use Rattle.settings.specs.Codes.{codes_are, lacks_is, negated_code_lem, own_narrow}
 use Rattle.settings.specs.Answer.{settings_of, item_none, item_some}
 use Rattle.settings.specs.declared.Settings.{Settings}

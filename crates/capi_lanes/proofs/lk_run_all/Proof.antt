@@ -4,7 +4,11 @@ use Rattle.capi_lanes.proofs.lk_run_all.Statement.{statement}
 use Rattle.capi_lanes.proofs.lk_run_all.Tie as tie
 
 returns : tie.Need-returns
-returns c = rw c.before.before.before.before.before.sheet-by.ensures at c.before.run-all.ensures
+returns c = rw c.sheet_by-sheet.ensures at c.run_all-r.ensures
 
-pub lk-run-all-spec : {M : Type 1} → statement M
-lk-run-all-spec = tie.close (tie.spec (λ c κs. search rules) (λ c κs. search rules) (λ c. search rules) returns)
+pub lk_run_all_spec : {M : Type 1} → statement M
+lk_run_all_spec = tie.close (tie.spec
+    (λ c κs. search rules)
+    (λ c κs. search rules)
+    (λ c. search rules)
+    returns)

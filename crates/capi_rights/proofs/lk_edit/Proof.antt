@@ -10,4 +10,7 @@ returns c =
     rw (c.sheet_by-sheet.ensures, to_z-of_z {w = w32} {z = c.args.item} c.ranges.item, to_z-of_z {w = w16} {z = c.args.limit} c.ranges.limit) at c.edit_arrays.ensures
 
 pub lk_edit_spec : {M : Type 1} → statement M
-lk_edit_spec = tie.close (tie.spec (λ c κs. search rules) (λ c κs. search rules) returns)
+lk_edit_spec = tie.close (tie.spec
+    (λ c κs. search rules)
+    (λ c κs. search rules)
+    returns)

@@ -14,11 +14,10 @@ use Rattle.capi_settings.proofs.lk_settings.Tie as tie
 
 returns : tie.Need-returns
 returns c =
-    let s = c.before.before.before.before in
-    let p = rw (to_z-of_z {w = w32} {z = s.args.item} s.ranges.item, to_z-of_z {w = w16} {z = s.args.limit} s.ranges.limit) at c.slot_by-slot.ensures in
+    let p = rw (to_z-of_z {w = w32} {z = c.args.item} c.ranges.item, to_z-of_z {w = w16} {z = c.args.limit} c.ranges.limit) at c.slot_by-slot.ensures in
     c.settings_of.ensures
-    ∙ ap (λ (h : Sheet). settings_of (settings_call (sheet_of s.args.attached.now h) (slot_of c.slot_by-slot.result))) c.sheet_by-sheet.ensures
-    ∙ ap (λ (x : Slot). settings_of (settings_call (sheet_of s.args.attached.now (sheet_by s.args.atcs s.args.timer5 s.args.timer10 s.args.timer15)) (slot_of x))) p
+    ∙ ap (λ (h : Sheet). settings_of (settings_call (sheet_of c.args.attached.now h) (slot_of c.slot_by-slot.result))) c.sheet_by-sheet.ensures
+    ∙ ap (λ (x : Slot). settings_of (settings_call (sheet_of c.args.attached.now (sheet_by c.args.atcs c.args.timer5 c.args.timer10 c.args.timer15)) (slot_of x))) p
 
 pub lk_settings_spec : {M : Type 1} → statement M
 lk_settings_spec = tie.close (tie.spec

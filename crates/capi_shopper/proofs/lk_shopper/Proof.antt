@@ -4,10 +4,10 @@ use Rattle.capi_shopper.proofs.lk_shopper.Statement.{statement}
 use Rattle.capi_shopper.proofs.lk_shopper.Tie as tie
 
 returns : tie.Need-returns
-returns c = rw c.before.before.before.before.before.before.before.before.before.before.sheet-by.ensures at c.before.before.before.before.shopping.ensures
+returns c = rw c.sheet_by-sheet.ensures at c.shopping.ensures
 
-pub lk-shopper-spec : {M : Type 1} → statement M
-lk-shopper-spec =
+pub lk_shopper_spec : {M : Type 1} → statement M
+lk_shopper_spec =
     tie.close
     (tie.spec
     (λ c κs. search rules)

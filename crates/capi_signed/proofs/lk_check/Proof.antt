@@ -17,7 +17,10 @@ answer s h = checked_of (check_call (sheet_of s.args.attached.now h) (slots_of (
 returns : tie.Need-returns
 returns c =
     let s = c.before.before.before in
-    ◌∙◌ {b = answer s c.before.sheet-by.result} c.check-shop.ensures (ap (answer s) c.before.sheet-by.ensures)
+    ◌∙◌ {b = answer s c.sheet_by-sheet.result} c.check_shop.ensures (ap (answer s) c.sheet_by-sheet.ensures)
 
-pub lk-check-spec : {M : Type 1} → statement M
-lk-check-spec = tie.close (tie.spec (λ c κs. search rules) (λ c κs. search rules) returns)
+pub lk_check_spec : {M : Type 1} → statement M
+lk_check_spec = tie.close (tie.spec
+    (λ c κs. search rules)
+    (λ c κs. search rules)
+    returns)

@@ -5,11 +5,16 @@ use borrow.Author.Rules.{rules}
 use Rattle.capi_stage.proofs.lk_read_heading.Statement.{statement}
 use Rattle.capi_stage.proofs.lk_read_heading.Tie as tie
 
-returns : tie.Need-returns
-returns c = rw c.no-head.ensures (told_long c.before.before.before.before.args.bytes.now c.before.before.before.before.args.attached.now (omega (arith, c.before.before.if1.true)))
+returns : tie.Need-returns-then-bytes-gt-INPUT
+returns c = rw c.no_head.ensures (told_long c.args.bytes.now c.args.attached.now (omega (arith, c.if-bytes-gt-INPUT.true)))
 
-returns-2 : tie.Need-returns-2
-returns-2 c = rw c.headed-of.ensures (told_read c.before.before.before.before.before.args.bytes.now c.before.before.before.before.before.args.attached.now c.before.read-heading.result _ (omega (arith, c.before.before.before.if1.false)) c.before.read-heading.ensures.0 c.before.read-heading.ensures.1)
+returns-2 : tie.Need-returns
+returns-2 c = rw c.headed_of.ensures (told_read c.args.bytes.now c.args.attached.now c.read_heading-h.result _ (omega (arith, c.if-bytes-gt-INPUT.false)) c.read_heading-h.ensures.0 c.read_heading-h.ensures.1)
 
-pub lk-read-heading-spec : {M : Type 1} → statement M
-lk-read-heading-spec = tie.close (tie.spec (λ c κs. search rules) returns (λ c κs. search rules) (λ c κs. search rules) returns-2)
+pub lk_read_heading_spec : {M : Type 1} → statement M
+lk_read_heading_spec = tie.close (tie.spec
+    (λ c κs. search rules)
+    returns
+    (λ c κs. search rules)
+    (λ c κs. search rules)
+    returns-2)

@@ -4,7 +4,11 @@ use Rattle.capi_stage.proofs.lk_write_heading.Statement.{statement}
 use Rattle.capi_stage.proofs.lk_write_heading.Tie as tie
 
 returns : tie.Need-returns
-returns c = rw c.before.before.before.before.sheet-by.ensures at c.before.before.write-heading.ensures
+returns c = rw c.sheet_by-sheet.ensures at c.write_heading-w.ensures
 
-pub lk-write-heading-spec : {M : Type 1} → statement M
-lk-write-heading-spec = tie.close (tie.spec (λ c κs. search rules) (λ c κs. search rules) (λ c. search rules) returns)
+pub lk_write_heading_spec : {M : Type 1} → statement M
+lk_write_heading_spec = tie.close (tie.spec
+    (λ c κs. search rules)
+    (λ c κs. search rules)
+    (λ c. search rules)
+    returns)

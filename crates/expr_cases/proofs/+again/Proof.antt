@@ -26,32 +26,33 @@ again-below t = and 2 again-kinds.ps (falls 2 again-kinds.ps ◌<◌ μ-again t)
 abbrev again-claims : ℕ → again-lts.Claims
 again-claims t = (kind-of-reads.Asked, kind-of-reads.Learnt, again-below t, again.Post, over-two-reads.Asked, over-two-reads.Learnt, over-one-reads.Asked, over-one-reads.Learnt, leaf-reads.Asked, leaf-reads.Learnt)
 
-again-again-requires : (t : ℕ) → again-lts.Need-again-requires (again-claims t) (again-at t) again.Post
+again-again-requires : (t : ℕ) → again-lts.Need-again-x-requires (again-claims t) (again-at t) again.Post
 again-again-requires t c κs = (omega arith, omega arith)
 
-again-again-requires-2 : (t : ℕ) → again-lts.Need-again-requires-2 (again-claims t) (again-at t) again.Post
+again-again-requires-2 : (t : ℕ) → again-lts.Need-again-y-requires (again-claims t) (again-at t) again.Post
 again-again-requires-2 t c κs = (omega arith, omega arith)
 
-again-again-requires-3 : (t : ℕ) → again-lts.Need-again-requires-3 (again-claims t) (again-at t) again.Post
+again-again-requires-3 : (t : ℕ) → again-lts.Need-again-x-requires-in-One (again-claims t) (again-at t) again.Post
 again-again-requires-3 t c κs = (omega arith, omega arith)
 
-again-returns-4 : (t : ℕ) → again-lts.Need-returns-4 (again-claims t) (again-at t) again.Post
-again-returns-4 t c = λ h. c.over-two.ensures _ _ refl c.before.before.before.before.before.before.again.ensures c.before.before.before.again2.ensures h
+again-returns-4 : (t : ℕ) → again-lts.Need-returns-else-right-i (again-claims t) (again-at t) again.Post
+again-returns-4 t c = λ h. c.over_two.ensures _ _ refl c.again-x.ensures c.again-y.ensures h
 
-again-returns-5 : (t : ℕ) → again-lts.Need-returns-5 (again-claims t) (again-at t) again.Post
-again-returns-5 t c = λ h. c.over-one.ensures _ c.before.before.before.again3.ensures h
+again-returns-5 : (t : ℕ) → again-lts.Need-returns-else-left-i (again-claims t) (again-at t) again.Post
+again-returns-5 t c = λ h. c.over_one.ensures _ c.again-x-in-One.ensures h
 
-again-returns-6 : (t : ℕ) → again-lts.Need-returns-6 (again-claims t) (again-at t) again.Post
+again-returns-6 : (t : ℕ) → again-lts.Need-returns-in-Imm16 (again-claims t) (again-at t) again.Post
 again-returns-6 t c = λ h. imm16_stands (c.leaf.ensures h)
 
-again-returns-7 : (t : ℕ) → again-lts.Need-returns-7 (again-claims t) (again-at t) again.Post
-again-returns-7 t c = λ h. imm32_stands (c.leaf2.ensures h)
+again-returns-7 : (t : ℕ) → again-lts.Need-returns-in-Imm32 (again-claims t) (again-at t) again.Post
+again-returns-7 t c = λ h. imm32_stands (c.leaf-in-Imm32.ensures h)
 
-again-returns-8 : (t : ℕ) → again-lts.Need-returns-8 (again-claims t) (again-at t) again.Post
-again-returns-8 t c = λ h. other_stands (c.leaf3.ensures h)
+again-returns-8 : (t : ℕ) → again-lts.Need-returns-in-Other (again-claims t) (again-at t) again.Post
+again-returns-8 t c = λ h. other_stands (c.leaf-in-Other.ensures h)
 
-pub +again-spec : {M : Type 1} → statement M
-+again-spec = close μ-again λ t. again-lts.spec (again-claims t)
+pub +again_spec : {M : Type 1} → statement M
++again_spec = close μ-again λ t. again-lts.spec
+    (again-claims t)
     (again-at t)
     again.Post
     (λ c. λ h. absurd (omega (arith, h)))

@@ -5,10 +5,10 @@ use Rattle.expr_cases.proofs.negated.Statement.{statement}
 use Rattle.expr_cases.proofs.negated.Tie as tie
 
 negate-requires : tie.Need-negate-requires
-negate-requires c κs = stands_last (c.before.before.before.before.again.ensures (omega arith)) (omega arith) (omega arith)
+negate-requires c κs = stands_last (c.again-r.ensures (omega arith)) (omega arith) (omega arith)
 
-pub negated-spec : {M : Type 1} → statement M
-negated-spec =
+pub negated_spec : {M : Type 1} → statement M
+negated_spec =
     tie.close
     (tie.spec
     (λ c. search rules)

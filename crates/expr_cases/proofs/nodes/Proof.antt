@@ -3,14 +3,14 @@ use Rattle.std.proofs.Common.{rules}
 use Rattle.expr_cases.proofs.nodes.Statement.{statement}
 use Rattle.expr_cases.proofs.nodes.Tie as tie
 
-abbrev invariant-loop : tie.invariant-loop
+abbrev invariant-loop : tie.invariant-loop-left
 invariant-loop a₀ ws₀ val₀ left₀ a ws val left = Unit {0}
 
-abbrev decreases-loop : tie.decreases-loop
+abbrev decreases-loop : tie.decreases-loop-left
 decreases-loop a₀ ws₀ val₀ left₀ a ws val left = left
 
-pub nodes-spec : {M : Type 1} → statement M
-nodes-spec =
+pub nodes_spec : {M : Type 1} → statement M
+nodes_spec =
     tie.close
     (tie.spec
     invariant-loop

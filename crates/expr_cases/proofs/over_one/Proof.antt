@@ -4,16 +4,16 @@ use Rattle.expr_cases.specs.Stands.{one_stands}
 use Rattle.expr_cases.proofs.over_one.Statement.{statement}
 use Rattle.expr_cases.proofs.over_one.Tie as tie
 
-returns : tie.Need-returns
+returns : tie.Need-returns-then-x-eq0
 returns c = λ s e h. absurd (omega (arith, h))
 
-returns-2 : tie.Need-returns-2
+returns-2 : tie.Need-returns
 returns-2 c = λ s e h.
-    one_stands c.before.before.before.before.before.before.args.o (omega (arith, c.before.push-node.ensures.counted)) c.before.before.before.before.code_one.ensures c.rank.ensures
-    (e (omega arith)) c.before.push-node.ensures
+    one_stands c.args.o (omega (arith, c.push_node.ensures.counted)) c.code_one-code.ensures c.rank.ensures
+    (e (omega arith)) c.push_node.ensures
 
-pub over-one-spec : {M : Type 1} → statement M
-over-one-spec =
+pub over_one_spec : {M : Type 1} → statement M
+over_one_spec =
     tie.close
     (tie.spec
     returns

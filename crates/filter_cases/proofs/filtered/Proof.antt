@@ -4,13 +4,13 @@ use borrow.Author.Rules.{rules}
 use Rattle.filter_cases.proofs.filtered.Statement.{statement}
 use Rattle.filter_cases.proofs.filtered.Tie as tie
 
-filter-alive-requires : tie.Need-filter-alive-requires
+filter-alive-requires : tie.Need-filter_alive-n-requires
 filter-alive-requires c κs =
     let s = c.before.before.before.before.before.before.before.before.before in
     rw c.index_of.ensures (fits_met s.args.x s.args.t s.requires)
 
-pub filtered-spec : {M : Type 1} → statement M
-filtered-spec =
+pub filtered_spec : {M : Type 1} → statement M
+filtered_spec =
     tie.close
     (tie.spec
     (λ c κs. search rules)

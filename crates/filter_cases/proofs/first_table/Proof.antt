@@ -5,14 +5,14 @@ use borrow.Author.Rules.{rules}
 use Rattle.filter_cases.proofs.first_table.Statement.{statement}
 use Rattle.filter_cases.proofs.first_table.Tie as tie
 
-abbrev invariant-loop : tie.invariant-loop
+abbrev invariant-loop : tie.invariant-loop-i
 invariant-loop x i₀ i = i ≤ 625
 
-abbrev decreases-loop : tie.decreases-loop
+abbrev decreases-loop : tie.decreases-loop-i
 decreases-loop x i₀ i = 625 - i
 
-pub first-table-spec : {M : Type 1} → statement M
-first-table-spec =
+pub first_table_spec : {M : Type 1} → statement M
+first_table_spec =
     tie.close
     (tie.spec
     invariant-loop

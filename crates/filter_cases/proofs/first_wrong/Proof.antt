@@ -5,14 +5,14 @@ use borrow.Author.Rules.{rules}
 use Rattle.filter_cases.proofs.first_wrong.Statement.{statement}
 use Rattle.filter_cases.proofs.first_wrong.Tie as tie
 
-abbrev invariant-loop : tie.invariant-loop
+abbrev invariant-loop : tie.invariant-loop-i
 invariant-loop i₀ i = i ≤ 1280
 
-abbrev decreases-loop : tie.decreases-loop
+abbrev decreases-loop : tie.decreases-loop-i
 decreases-loop i₀ i = 1280 - i
 
-pub first-wrong-spec : {M : Type 1} → statement M
-first-wrong-spec =
+pub first_wrong_spec : {M : Type 1} → statement M
+first_wrong_spec =
     tie.close
     (tie.spec
     invariant-loop

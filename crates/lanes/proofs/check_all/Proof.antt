@@ -5,7 +5,7 @@ use Rattle.model.specs.Save.{Save}
 use Rattle.model.specs.Sheet.{Sheet}
 use Rattle.model.specs.Memory.{Memory, script_of}
 use Rattle.model.specs.RecordCalls.{call_in}
-use Rattle.model.proofs.Laws.Checks.{answered, is_true, is_false}
+use Rattle.model.proofs.Laws.Checks.{answered}
 use Rattle.memory.specs.View.{memory_of}
 use Rattle.checks.specs.Calls.{save_of}
 use Rattle.shop.specs.Shapes.{sheet_of}
@@ -36,38 +36,38 @@ fit a = saves_ok (sheet a) a.args.k (save a)
 abbrev falling : tie.Start → Bool
 falling a = walk_ok (script_of (memory a)).blocks a.args.start.0 a.args.k
 
-returns : tie.Need-returns
+returns : tie.Need-returns-then-refused-ne0
 returns c =
     let a = c.before.before.before.before.before in
-    check_refused (sheet a) (memory a) a.args.start.0 a.args.k (save a) _ c.before.check-call.ensures c.if1.true
+    check_refused (sheet a) (memory a) a.args.start.0 a.args.k (save a) _ c.check_call-refused.ensures c.if-refused-ne0.true
 
-check-saves-requires : tie.Need-check-saves-requires
+check-saves-requires : tie.Need-check_saves-requires
 check-saves-requires c κs =
     let a = c.before.before.before.before.before in
-    items_low a.args.attached.now a.args.sheet (memory a) a.args.start.0 (answered (called a) c.before.check-call.ensures c.if1.false)
+    items_low a.args.attached.now a.args.sheet (memory a) a.args.start.0 (answered (called a) c.check_call-refused.ensures c.if-refused-ne0.false)
 
-returns-2 : tie.Need-returns-2
+returns-2 : tie.Need-returns-then-not-check_saves
 returns-2 c =
     let a = c.before.before.before.before.before.before.before in
-    check_saves (sheet a) (memory a) a.args.start.0 a.args.k (save a) (answered (called a) c.before.before.before.check-call.ensures c.before.before.if1.false) (is_false (fit a) c.before.check_saves.ensures c.if2.true)
+    check_saves (sheet a) (memory a) a.args.start.0 a.args.k (save a) (answered (called a) c.check_call-refused.ensures c.if-refused-ne0.false) (answered (fit a) c.check_saves.ensures c.if-not-check_saves.true)
 
-check-walk-requires : tie.Need-check-walk-requires
+check-walk-requires : tie.Need-check_walk-requires
 check-walk-requires c κs =
     let a = c.before.before.before.before.before.before.before in
-    call_safe (sheet a) (memory a) a.args.start.0 a.args.k (save a) (answered (called a) c.before.before.before.check-call.ensures c.before.before.if1.false)
+    call_safe (sheet a) (memory a) a.args.start.0 a.args.k (save a) (answered (called a) c.check_call-refused.ensures c.if-refused-ne0.false)
 
-returns-3 : tie.Need-returns-3
+returns-3 : tie.Need-returns-then-not-check_walk
 returns-3 c =
     let a = c.before.before.before.before.before.before.before.before.before in
-    check_walk (sheet a) (memory a) a.args.start.0 a.args.k (save a) (answered (called a) c.before.before.before.before.before.check-call.ensures c.before.before.before.before.if1.false) (is_true (fit a) c.before.before.before.check_saves.ensures c.before.before.if2.false) (is_false (falling a) (c.before.check_walk.ensures a.args.ws.now a.args.val.now) c.if3.true)
+    check_walk (sheet a) (memory a) a.args.start.0 a.args.k (save a) (answered (called a) c.check_call-refused.ensures c.if-refused-ne0.false) (answered (fit a) c.check_saves.ensures c.if-not-check_saves.false) (answered (falling a) (c.check_walk.ensures a.args.ws.now a.args.val.now) c.if-not-check_walk.true)
 
-returns-4 : tie.Need-returns-4
+returns-4 : tie.Need-returns
 returns-4 c =
     let a = c.before.before.before.before.before.before.before.before.before in
-    check_passed (sheet a) (memory a) a.args.start.0 a.args.k (save a) (answered (called a) c.before.before.before.before.before.check-call.ensures c.before.before.before.before.if1.false) (is_true (fit a) c.before.before.before.check_saves.ensures c.before.before.if2.false) (is_true (falling a) (c.before.check_walk.ensures a.args.ws.now a.args.val.now) c.if3.false)
+    check_passed (sheet a) (memory a) a.args.start.0 a.args.k (save a) (answered (called a) c.check_call-refused.ensures c.if-refused-ne0.false) (answered (fit a) c.check_saves.ensures c.if-not-check_saves.false) (answered (falling a) (c.check_walk.ensures a.args.ws.now a.args.val.now) c.if-not-check_walk.false)
 
-pub check-all-spec : {M : Type 1} → statement M
-check-all-spec =
+pub check_all_spec : {M : Type 1} → statement M
+check_all_spec =
     tie.close
     (tie.spec
     (λ c κs. search rules)

@@ -3,7 +3,7 @@ use native.Mathlib.Omega.{arith}
 use mathlib.Core.Bool.{Bool}
 use lib.ListN.{length}
 use Rattle.model.specs.Save.{Save}
-use Rattle.model.proofs.Laws.Checks.{is_true, is_false}
+use Rattle.model.proofs.Laws.Checks.{answered}
 use Rattle.checks.specs.Calls.{save_of}
 use Rattle.lanes.specs.Calls.{lengths_are}
 use Rattle.lanes.proofs.Saves.{saves_bad, saves_fit, product_low}
@@ -18,21 +18,21 @@ save a = save_of a.args.items.now a.args.atcs.now a.args.flags.now a.args.times.
 abbrev long : tie.Start → Bool
 long a = lengths_are a.args.k (length a.args.attached.now) a.args.sheet.atcs (save a)
 
-lengths-ok-requires : tie.Need-lengths-ok-requires
-lengths-ok-requires c κs = (omega arith, omega arith, omega arith, product_low c.before.before.before.before.args.k (length c.before.before.before.before.args.attached.now) (omega arith) (omega arith), product_low c.before.before.before.before.args.k c.before.before.before.before.args.sheet.atcs (omega arith) (omega arith))
+lengths-ok-requires : tie.Need-lengths_ok-requires
+lengths-ok-requires c κs = (omega arith, omega arith, omega arith, product_low c.args.k (length c.args.attached.now) (omega arith) (omega arith), product_low c.args.k c.args.sheet.atcs (omega arith) (omega arith))
 
-returns : tie.Need-returns
+returns : tie.Need-returns-then-not-lengths_ok
 returns c =
     let a = c.before.before.before.before.before.before in
-    saves_bad a.args.attached.now a.args.sheet (save a) a.args.k (is_false (long a) c.before.lengths-ok.ensures c.if1.true)
+    saves_bad a.args.attached.now a.args.sheet (save a) a.args.k (answered (long a) c.lengths_ok.ensures c.if-not-lengths_ok.true)
 
-returns-2 : tie.Need-returns-2
+returns-2 : tie.Need-returns
 returns-2 c =
     let a = c.before.before.before.before.before.before.before.before.before in
-    saves_fit a.args.attached.now a.args.sheet (save a) c.before.before.shorts-known.ensures c.before.numbers-known.ensures a.args.k c.values-ok.result (is_true (long a) c.before.before.before.before.lengths-ok.ensures c.before.before.before.if1.false) c.values-ok.ensures
+    saves_fit a.args.attached.now a.args.sheet (save a) c.shorts_known.ensures c.numbers_known.ensures a.args.k c.values_ok.result (answered (long a) c.lengths_ok.ensures c.if-not-lengths_ok.false) c.values_ok.ensures
 
-pub check-saves-spec : {M : Type 1} → statement M
-check-saves-spec =
+pub check_saves_spec : {M : Type 1} → statement M
+check_saves_spec =
     tie.close
     (tie.spec
     (λ c. search rules)

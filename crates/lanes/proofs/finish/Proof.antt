@@ -8,20 +8,20 @@ use borrow.Author.Rules.{rules}
 use Rattle.lanes.proofs.finish.Statement.{statement}
 use Rattle.lanes.proofs.finish.Tie as tie
 
-abbrev invariant-loop : tie.invariant-loop
+abbrev invariant-loop : tie.invariant-loop-l
 invariant-loop at k answers₀ -all l₀ answers l = (l ≤ k) × Each 0 (λ i a. last_answer (get_or at i 0) a) l answers₀ answers
 
-abbrev decreases-loop : tie.decreases-loop
+abbrev decreases-loop : tie.decreases-loop-l
 decreases-loop at k answers₀ -all l₀ answers l = k - l
 
-loop-holds : tie.Need-loop-init invariant-loop decreases-loop
+loop-holds : tie.Need-loop-l-init invariant-loop decreases-loop
 loop-holds c = (omega arith, each_none _ _ _)
 
-loop-again : tie.Need-loop-preserved invariant-loop decreases-loop
-loop-again c = (omega arith, each_more c.before.before.before.before.loop.invariant.1 (omega (arith, c.before.before.before.before.before.known-lanes.ensures)) c.last-answer.ensures)
+loop-again : tie.Need-loop-l-preserved invariant-loop decreases-loop
+loop-again c = (omega arith, each_more c.loop-l.invariant.1 (omega (arith, c.known_lanes-all.ensures)) c.last_answer.ensures)
 
 returns : tie.Need-returns invariant-loop decreases-loop
-returns c = each_all c.before.loop.invariant.1 c.before.loop.invariant.0 c.loop-test.false
+returns c = each_all c.loop-l.invariant.1 c.loop-l.invariant.0 c.loop-l-test.false
 
 pub finish_spec : {M : Type 1} → statement M
 finish_spec =

@@ -9,29 +9,29 @@ use borrow.Author.Rules.{rules}
 use Rattle.lanes.proofs.gather.Statement.{statement}
 use Rattle.lanes.proofs.gather.Tie as tie
 
-abbrev invariant-loop : tie.invariant-loop
+abbrev invariant-loop : tie.invariant-loop-l
 invariant-loop at k word lanes₀ -all s₀ l₀ lanes s l = (l ≤ k) × (length lanes ≡ most_saves) × Gathered at l word lanes s
 
-abbrev decreases-loop : tie.decreases-loop
+abbrev decreases-loop : tie.decreases-loop-l
 decreases-loop at k word lanes₀ -all s₀ l₀ lanes s l = k - l
 
-loop-holds : tie.Need-loop-init invariant-loop decreases-loop
-loop-holds c = (omega arith, c.known-lanes.ensures, gathered_none _ _ _)
+loop-holds : tie.Need-loop-l-init invariant-loop decreases-loop
+loop-holds c = (omega arith, c.known_lanes-all.ensures, gathered_none _ _ _)
 
-element-write-lanes : tie.Need-element-write-lanes invariant-loop decreases-loop
-element-write-lanes c = omega (arith, c.before.loop.invariant.2.few)
+element-write-lanes : tie.Need-bounds-lanes-s invariant-loop decreases-loop
+element-write-lanes c = omega (arith, c.loop-l.invariant.2.few)
 
-add-s : tie.Need-overflow-add-s invariant-loop decreases-loop
-add-s c = omega (arith, c.before.before.before.loop.invariant.2.few, same_low c.same.result (get_or c.before.before.before.before.before.before.args.at.now c.before.before.before.loop.l 0) c.before.before.before.before.before.before.args.word c.same.ensures)
+add-s : tie.Need-overflow_add-s invariant-loop decreases-loop
+add-s c = omega (arith, c.loop-l.invariant.2.few, same_low c.same-s.result (get_or c.args.at.now c.loop-l.l 0) c.args.word c.same-s.ensures)
 
-loop-again : tie.Need-loop-preserved invariant-loop decreases-loop
-loop-again c = (omega arith, simp length-set c.before.before.before.loop.invariant.1, gathered_more _ _ c.before.before.before.loop.invariant.1 (omega arith) c.before.before.before.loop.invariant.2 c.same.result c.same.ensures)
+loop-again : tie.Need-loop-l-preserved invariant-loop decreases-loop
+loop-again c = (omega arith, simp length-set c.loop-l.invariant.1, gathered_more _ _ c.loop-l.invariant.1 (omega arith) c.loop-l.invariant.2 c.same-s.result c.same-s.ensures)
 
 returns : tie.Need-returns invariant-loop decreases-loop
-returns c = gathered_all c.before.loop.invariant.2 c.before.loop.invariant.0 c.loop-test.false
+returns c = gathered_all c.loop-l.invariant.2 c.loop-l.invariant.0 c.loop-l-test.false
 
-pub gather-spec : {M : Type 1} → statement M
-gather-spec =
+pub gather_spec : {M : Type 1} → statement M
+gather_spec =
     tie.close
     (tie.spec
     invariant-loop

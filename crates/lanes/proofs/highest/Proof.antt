@@ -5,8 +5,12 @@ use borrow.Author.Rules.{rules}
 use Rattle.lanes.proofs.highest.Statement.{statement}
 use Rattle.lanes.proofs.highest.Tie as tie
 
-returns : tie.Need-returns
-returns c = highest_under c.before.highest-below.ensures (omega (arith, c.before.before.ranges.top)) c.if1.true
+returns : tie.Need-returns-then-most-top
+returns c = highest_under c.highest_below-most.ensures (omega (arith, c.ranges.top)) c.if-most-top.true
 
-pub highest-spec : {M : Type 1} → statement M
-highest-spec = tie.close (tie.spec (λ c κs. search rules) returns (λ c κs. search rules) (λ c. search rules))
+pub highest_spec : {M : Type 1} → statement M
+highest_spec = tie.close (tie.spec
+    (λ c κs. search rules)
+    returns
+    (λ c κs. search rules)
+    (λ c. search rules))

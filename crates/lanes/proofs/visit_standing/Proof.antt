@@ -19,18 +19,22 @@ use Rattle.lanes.proofs.visit_standing.Tie as tie
 abbrev blocks : tie.Start → List Block
 blocks a = (script_of (memory_of a.args.ws.now a.args.val.now a.args.cw.now a.args.bw.now a.args.counts)).blocks
 
-visit-block-requires : tie.Need-visit-block-requires
-visit-block-requires c κs = (c.before.before.before.before.before.before.before.before.before.before.requires.0, lying_stand c.before.before.before.before.before.before.before.before.before.before.requires.1 c.before.before.before.before.before.gather.ensures, gathered_rising c.before.before.before.before.before.gather.ensures c.before.before.before.before.before.before.before.before.before.before.requires.1.few, countable c.before.before.before.before.before.before.before.before.before.before.args.entered.now c.before.before.before.before.before.gather.ensures c.before.before.before.before.before.before.before.before.before.before.requires.3)
+visit-block-requires : tie.Need-visit_block-requires
+visit-block-requires c κs = (c.requires.0, lying_stand c.requires.1 c.gather.ensures, gathered_rising c.gather.ensures c.requires.1.few, countable c.args.entered.now c.gather.ensures c.requires.3)
 
 -- z': the variables, words, answers and counts that the call left
 returns : tie.Need-returns
 returns c =
-    let a = c.before.before.before.before.before.before.before.before.before.before.before.before in
-    let z = c.before.visit-block in
-    let z' = z.new.1.1.1.1.1.1.1.1.1.1.1.1 in
-    λ v. stepped {qs = a.args.answers.now} {es = a.args.entered.now} {ps' = z'.1.0} {qs' = z'.1.1.0} {es' = z'.1.1.1.0} {vs = a.args.vars.now} {vs' = z'.0}
-    (λ l u. step_rest (save_in a.args.w.items a.args.w.atcs (save_of a.args.items.now a.args.atcs.now a.args.flags.now a.args.times.now v) l) (blocks a) (a.args.word - 1) u ∙ sym (step_rest (save_in a.args.w.items a.args.w.atcs (reads a.args.items.now a.args.atcs.now a.args.flags.now a.args.times.now) l) (blocks a) (a.args.word - 1) u)) (gathered_word c.before.before.before.before.before.before.before.gather.ensures a.requires.2) z.ensures
+    let a = c.before.before.before.before.before.before.before.before.before.before.before in
+    let z = c.visit_block in
+    λ v. stepped {qs = a.args.answers.now} {es = a.args.entered.now} {ps' = z.new.at} {qs' = z.new.answers} {es' = z.new.entered} {vs = a.args.vars.now} {vs' = z.new.vs}
+    (λ l u. step_rest (save_in a.args.w.items a.args.w.atcs (save_of a.args.items.now a.args.atcs.now a.args.flags.now a.args.times.now v) l) (blocks a) (a.args.word - 1) u ∙ sym (step_rest (save_in a.args.w.items a.args.w.atcs (reads a.args.items.now a.args.atcs.now a.args.flags.now a.args.times.now) l) (blocks a) (a.args.word - 1) u)) (gathered_word c.gather.ensures a.requires.2) z.ensures
 
-pub visit-standing-spec : {M : Type 1} → statement M
-visit-standing-spec =
-    tie.close (tie.spec (λ c κs. search rules) (λ c. search rules) visit-block-requires (λ c. search rules) returns)
+pub visit_standing_spec : {M : Type 1} → statement M
+visit_standing_spec =
+    tie.close (tie.spec
+    (λ c κs. search rules)
+    (λ c. search rules)
+    visit-block-requires
+    (λ c. search rules)
+    returns)

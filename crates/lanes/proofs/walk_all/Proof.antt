@@ -17,30 +17,28 @@ memory a = memory_of a.args.ws.now a.args.val.now a.args.cw.now a.args.bw.now a.
 abbrev save : tie.Start → Save
 save a = save_of a.args.items.now a.args.atcs.now a.args.flags.now a.args.times.now a.args.vars.now
 
-visit-standing-requires : tie.Need-visit-standing-requires
-visit-standing-requires c κs = (c.before.before.before.before.before.before.before.before.before.before.requires.0, c.before.before.before.before.before.before.before.before.before.before.requires.1, omega arith, begun_counts 4294967294 _ _ _ _ c.before.before.before.before.begin.ensures)
+visit-standing-requires : tie.Need-visit_standing-requires
+visit-standing-requires c κs = (c.requires.0, c.requires.1, omega arith, begun_counts 4294967294 _ _ _ _ c.begin.ensures)
 
-walk-down-requires : tie.Need-walk-down-requires
-walk-down-requires c κs = (c.before.before.before.before.before.before.before.before.before.before.before.before.before.before.before.before.requires.0, lying_still c.before.before.before.before.before.before.before.before.before.before.before.before.before.before.before.before.requires.1 (c.before.before.before.before.before.visit-standing.ensures []).long, stepped_counts c.before.before.before.before.before.before.before.before.before.before.begin.ensures (c.before.before.before.before.before.visit-standing.ensures []))
+walk-down-requires : tie.Need-walk_down-read-requires
+walk-down-requires c κs = (c.requires.0, lying_still c.requires.1 (c.visit_standing.ensures []).long, stepped_counts c.begin.ensures (c.visit_standing.ensures []))
 
 finish-requires : tie.Need-finish-requires
-finish-requires c κs = c.before.before.before.before.before.before.before.before.before.before.before.before.before.before.before.before.before.before.before.before.requires.1.few
+finish-requires c κs = c.requires.1.few
 
-add-result : tie.Need-overflow-add-result
-add-result c = omega (arith, (c.before.before.before.before.walk-down.ensures []).few, c.before.before.before.before.before.before.before.before.before.before.before.before.before.before.before.before.before.before.before.before.before.requires.0.few)
+add-result : tie.Need-overflow_add-result
+add-result c = omega (arith, (c.walk_down-read.ensures []).few, c.requires.0.few)
 
 -- v' and d': the variables, words, answers and counts that the calls left
 returns : tie.Need-returns
 returns c =
     let a = c.before.before.before.before.before.before.before.before.before.before.before.before.before.before.before.before.before.before.before.before.before in
-    let v = c.before.before.before.before.before.before.before.before.before.before.visit-standing in
-    let v' = v.new.1.1.1.1.1.1.1.1.1.1.1 in
-    let d = c.before.before.before.before.walk-down in
-    let d' = d.new.1.1.1.1.1.1.1.1.1.1 in
-    lanes_walked {bs = (script_of (memory a)).blocks} {f = save a} {ps₂ = v'.1.0} {ps₃ = d'.1.0} {qs = a.args.answers.now} {qs₂ = v'.1.1.0} {qs₃ = d'.1.1.0} {es₂ = v'.1.1.1.0} {es' = d'.1.1.1.0} {vs₂ = v'.0} {vs' = d'.0} c.before.before.before.before.before.before.before.before.before.before.before.before.before.before.before.begin.ensures (v.ensures a.args.vars.now) (script_length (memory a)) (d.ensures a.args.vars.now) c.finish.ensures
+    let v = c.visit_standing in
+    let d = c.walk_down-read in
+    lanes_walked {bs = (script_of (memory a)).blocks} {f = save a} {ps₂ = v.new.at} {ps₃ = d.new.at} {qs = a.args.answers.now} {qs₂ = v.new.answers} {qs₃ = d.new.answers} {es₂ = v.new.entered} {es' = d.new.entered} {vs₂ = v.new.vars} {vs' = d.new.vars} c.begin.ensures (v.ensures a.args.vars.now) (script_length (memory a)) (d.ensures a.args.vars.now) c.finish.ensures
 
-pub walk-all-spec : {M : Type 1} → statement M
-walk-all-spec =
+pub walk_all_spec : {M : Type 1} → statement M
+walk_all_spec =
     tie.close
     (tie.spec
     (λ c. search rules)

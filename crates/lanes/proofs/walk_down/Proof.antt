@@ -12,35 +12,35 @@ use borrow.Author.Rules.{rules}
 use Rattle.lanes.proofs.walk_down.Statement.{statement}
 use Rattle.lanes.proofs.walk_down.Tie as tie
 
-abbrev invariant-loop : tie.invariant-loop
+abbrev invariant-loop : tie.invariant-loop-word
 invariant-loop ws val cw bw counts w items atcs flags times vars₀ at₀ answers₀ entered₀ read₀ top₀ word₀ vars at answers entered read top word = ((v : List ℤ) → Walking (save_in w.items w.atcs (save_of items atcs flags times v)) (script_of (memory_of ws val cw bw counts)).blocks counts.blocks w.lanes at₀ answers₀ entered₀ vars₀ top read at answers entered vars) × Highest at top w.lanes word
 
-abbrev decreases-loop : tie.decreases-loop
+abbrev decreases-loop : tie.decreases-loop-word
 decreases-loop ws val cw bw counts w items atcs flags times vars₀ at₀ answers₀ entered₀ read₀ top₀ word₀ vars at answers entered read top word = word
 
-loop-holds : tie.Need-loop-init invariant-loop decreases-loop
-loop-holds c = (λ v. walking_none _ _ _ _ _ _ _ _, c.highest.ensures)
+loop-holds : tie.Need-loop-word-init invariant-loop decreases-loop
+loop-holds c = (λ v. walking_none _ _ _ _ _ _ _ _, c.highest-word.ensures)
 
-visit-standing-requires : tie.Need-visit-standing-requires invariant-loop decreases-loop
-visit-standing-requires c κs = (c.before.before.before.before.before.before.before.before.before.before.before.requires.0, lying_still c.before.before.before.before.before.before.before.before.before.before.before.requires.1 (c.before.before.before.before.before.loop.invariant.0 []).long, omega arith, walking_counts (c.before.before.before.before.before.loop.invariant.0 []) c.before.before.before.before.before.before.before.before.before.before.before.requires.2 c.before.before.before.before.before.before.before.before.before.before.before.requires.0.few)
+visit-standing-requires : tie.Need-visit_standing-requires invariant-loop decreases-loop
+visit-standing-requires c κs = (c.requires.0, lying_still c.requires.1 (c.loop-word.invariant.0 []).long, omega arith, walking_counts (c.loop-word.invariant.0 []) c.requires.2 c.requires.0.few)
 
-add_read : tie.Need-overflow-add-read invariant-loop decreases-loop
-add_read c = omega (arith, (c.before.before.before.before.before.before.before.loop.invariant.0 []).low, c.before.before.before.before.before.before.before.before.before.before.before.before.before.requires.0.few)
+add_read : tie.Need-overflow_add-read invariant-loop decreases-loop
+add_read c = omega (arith, (c.loop-word.invariant.0 []).low, c.requires.0.few)
 
-loop-less : tie.Need-loop-smaller invariant-loop decreases-loop
-loop-less c = omega (arith, c.highest2.ensures.low)
+loop-less : tie.Need-loop-word-smaller invariant-loop decreases-loop
+loop-less c = omega (arith, c.highest-word-in-loop-word.ensures.low)
 
-loop-again : tie.Need-loop-preserved invariant-loop decreases-loop
-loop-again c = (λ v. walking_on _ _ _ _ _ _ _ _ (c.before.before.before.before.before.before.before.before.before.loop.invariant.0 v) c.before.before.before.before.before.before.before.before.before.loop.word c.before.before.before.before.before.before.before.before.before.loop.invariant.1 c.before.before.before.before.before.before.before.before.loop-test.true (c.before.before.before.visit-standing.ensures v), c.highest2.ensures)
+loop-again : tie.Need-loop-word-preserved invariant-loop decreases-loop
+loop-again c = (λ v. walking_on _ _ _ _ _ _ _ _ (c.loop-word.invariant.0 v) c.loop-word.word c.loop-word.invariant.1 c.loop-word-test.true (c.visit_standing.ensures v), c.highest-word-in-loop-word.ensures)
 
-same_length : tie.Need-same-length invariant-loop decreases-loop
-same_length c = (c.before.loop.invariant.0 []).long
+same_length : tie.Need-shape_of-vars invariant-loop decreases-loop
+same_length c = (c.loop-word.invariant.0 []).long
 
 returns : tie.Need-returns invariant-loop decreases-loop
-returns c = λ v. walked_down _ _ _ _ _ _ _ _ (c.before.loop.invariant.0 v) c.before.loop.invariant.1 c.loop-test.false
+returns c = λ v. walked_down _ _ _ _ _ _ _ _ (c.loop-word.invariant.0 v) c.loop-word.invariant.1 c.loop-word-test.false
 
-pub walk-down-spec : {M : Type 1} → statement M
-walk-down-spec =
+pub walk_down_spec : {M : Type 1} → statement M
+walk_down_spec =
     tie.close
     (tie.spec
     invariant-loop

@@ -4,14 +4,14 @@ use borrow.Author.Rules.{rules}
 use Rattle.lanes.proofs.walk_one.Statement.{statement}
 use Rattle.lanes.proofs.walk_one.Tie as tie
 
-same_length : tie.Need-same-length
+same_length : tie.Need-shape_of-vars
 same_length c = search rules
 
 returns : tie.Need-returns
-returns c = alone_ran _ c.before.before.before.before.before.args.answers.now c.before.before.before.before.before.args.entered.now c.before.before.before.before.before.args.vars.now _ _ _ c.before.run-copied.ensures (same_length c)
+returns c = alone_ran _ c.args.answers.now c.args.entered.now c.args.vars.now _ _ _ c.run_copied-ran.ensures (same_length c)
 
-pub walk-one-spec : {M : Type 1} → statement M
-walk-one-spec =
+pub walk_one_spec : {M : Type 1} → statement M
+walk_one_spec =
     tie.close
     (tie.spec
     (λ c κs. search rules)

@@ -24,23 +24,22 @@ memory a = memory_of a.args.ws.now a.args.val.now a.args.cw.now a.args.bw.now a.
 abbrev save : tie.Start → Save
 save a = save_of a.args.items.now a.args.atcs.now a.args.flags.now a.args.times.now a.args.vars.now
 
-walk-one-requires : tie.Need-walk-one-requires
+walk-one-requires : tie.Need-walk_one-requires
 walk-one-requires c κs =
     let a = c.before.before.before.before.before.before.before in
     let p = walk_passed_in (sheet a) (memory a) a.args.start.0 a.args.k (save a) a.requires in (
       call_ready (memory a) (sheet a) a.args.start.0 p.call,
-      omega (arith, saves_long a.args.attached.now a.args.sheet (save a) a.args.k p.lengths, c.before.before.before.if1.true),
+      omega (arith, saves_long a.args.attached.now a.args.sheet (save a) a.args.k p.lengths, c.if-k-eq1.true),
     )
 
 -- here and below w': the variables, answers and counts that the call left
-returns : tie.Need-returns
+returns : tie.Need-returns-then-k-eq1
 returns c =
     let a = c.before.before.before.before.before.before.before.before.before in
-    let w = c.before.walk-one in
-    let w' = w.new.1.1.1.1.1.1.1.1.1.1 in
-    left_one a.args.attached.now a.args.sheet (memory a) a.args.start.0 a.args.k (save a) a.args.answers.now a.args.entered.now w.result w'.1.0 w'.1.1.0 w'.0 c.before.before.before.before.before.if1.true a.requires w.ensures
+    let w = c.walk_one in
+    left_one a.args.attached.now a.args.sheet (memory a) a.args.start.0 a.args.k (save a) a.args.answers.now a.args.entered.now w.result w.new.answers w.new.entered w.new.vars c.if-k-eq1.true a.requires w.ensures
 
-walk-all-requires : tie.Need-walk-all-requires
+walk-all-requires : tie.Need-walk_all-requires
 walk-all-requires c κs =
     let a = c.before.before.before.before.before.before.before.before in
     let p = walk_passed_in (sheet a) (memory a) a.args.start.0 a.args.k (save a) a.requires in (
@@ -49,16 +48,15 @@ walk-all-requires c κs =
       (call_safe (sheet a) (memory a) a.args.start.0 a.args.k (save a) p.call).1,
     )
 
-returns-2 : tie.Need-returns-2
+returns-2 : tie.Need-returns
 returns-2 c =
     let a = c.before.before.before.before.before.before.before.before.before.before in
-    let w = c.before.walk-all in
-    let w' = w.new.1.1.1.1.1.1.1.1.1.1.1 in
-    left_walked a.args.attached.now a.args.sheet (memory a) a.args.start.0 a.args.k (save a) a.args.answers.now a.args.entered.now w.result w'.1.0 w'.1.1.0 w'.0 a.requires
+    let w = c.walk_all in
+    left_walked a.args.attached.now a.args.sheet (memory a) a.args.start.0 a.args.k (save a) a.args.answers.now a.args.entered.now w.result w.new.answers w.new.entered w.new.vars a.requires
     (saves_long a.args.attached.now a.args.sheet (save a) a.args.k (walk_passed_in (sheet a) (memory a) a.args.start.0 a.args.k (save a) a.requires).lengths) w.ensures
 
-pub walk-saves-spec : {M : Type 1} → statement M
-walk-saves-spec =
+pub walk_saves_spec : {M : Type 1} → statement M
+walk_saves_spec =
     tie.close
     (tie.spec
     walk-one-requires

@@ -9,13 +9,11 @@ returns c = chosen_stop c.args.exit c.args.x c.args.stop c.if-stop-ne0.true
 
 returns-2 : tie.Need-returns-then-x-eq0
 returns-2 c =
-    let s = c.before.before.before in
-    chosen_zero s.args.exit s.args.x s.args.stop c.if-stop-ne0.false (bits_zero s.args.x c.if-x-eq0.true s.ranges.x)
+    chosen_zero c.args.exit c.args.x c.args.stop c.if-stop-ne0.false (bits_zero c.args.x c.if-x-eq0.true c.ranges.x)
 
 returns-3 : tie.Need-returns
 returns-3 c =
-    let s = c.before.before.before in
-    chosen_other s.args.exit s.args.x s.args.stop c.if-stop-ne0.false (bits_nonzero s.args.x c.if-x-eq0.false)
+    chosen_other c.args.exit c.args.x c.args.stop c.if-stop-ne0.false (bits_nonzero c.args.x c.if-x-eq0.false)
 
 pub choose_spec : {M : Type 1} → statement M
 choose_spec = tie.close (tie.spec

@@ -50,8 +50,8 @@ returns-4 : tie.Need-returns-else-block-ne0
 returns-4 c =
     let a = c.before.before.before.before.before.before.before.before.before.before.before.before.before.before.before in
     let v = c.set_variable in
-    let v' = v.new.1.1.1.1.1.1.1.1.1.1 in
-    λ d e. does_as {save = save a} {ls = a.args.ls.now} {s = a.args.w.lanes} {vs = a.args.vs.now} {rs = a.args.rs.now} {vs' = v'.0} {xs' = v'.1.0} {rs' = v'.1.1.0} _ _ (is_set (coded a d e) a.args.c c.in-2.is c.if-block-ne0.false) (v.ensures d (link_in a.args.link))
+    let v' = v.new in
+    λ d e. does_as {save = save a} {ls = a.args.ls.now} {s = a.args.w.lanes} {vs = a.args.vs.now} {rs = a.args.rs.now} {vs' = v'.vs} {xs' = v'.xs} {rs' = v'.rs} _ _ (is_set (coded a d e) a.args.c c.in-2.is c.if-block-ne0.false) (v.ensures d (link_in a.args.link))
 
 returns-5 : tie.Need-returns-in-3
 returns-5 c =

@@ -12,13 +12,12 @@ store-lanes-requires c κs = (c.requires.3, λ j h. (c.requires.2.lie j h).varia
 -- t': the values and the refusals that the call left
 returns : tie.Need-returns
 returns c =
-    let a = c.before.before.before.before.before.before.before.before.before.before.before.before in
     let t = c.evaluate_lanes in
-    let t' = t.new.1.1.1.1.1.1.1.1.1.1.1 in
+    let t' = t.new in
     let v = c.evaluate_lanes-2 in
     λ d nx.
-    let ns = nodes_in a.args.ws.now a.args.val.now d in
-    set_does {rs₁ = t'.1.0} (valued_worth {xs = t'.0} (rw (below_root ns a.args.t) at (t.ensures d))) (valued_worth {rs = t'.1.0} {xs = v.new.1.1.1.1.1.1.1.1.1.1.1.0} (rw (below_root ns a.args.v) at (v.ensures d))) c.store_lanes.ensures
+    let ns = nodes_in c.args.ws.now c.args.val.now d in
+    set_does {rs₁ = t'.rs} (valued_worth {xs = t'.xs} (rw (below_root ns c.args.t) at (t.ensures d))) (valued_worth {rs = t'.rs} {xs = v.new.xs} (rw (below_root ns c.args.v) at (v.ensures d))) c.store_lanes.ensures
 
 pub set_each_spec : {M : Type 1} → statement M
 set_each_spec =

@@ -19,15 +19,13 @@ store-same-requires c κs = (c.requires.2, λ j h. (c.requires.1.lie j h).variab
 
 returns : tie.Need-returns-in-Is
 returns c =
-    let a = c.before.before.before.before.before.before.before in
     λ d nx t p.
-    let ns = nodes_in a.args.ws.now a.args.val.now d in
-    set_does (always_worth (to_z-of_z a.ranges.k) p) (always_worth refl (imm_always (tree ns a.args.v) _ (imm_found (tree ns a.args.v) (to_z-of_z {w = w32} (record { sfits = c.in-Is.known_told-1-own.given.0.1 })) c.in-Is.is (rw (below_root ns a.args.v) at (c.number_below-q.ensures d))))) c.store_number.ensures
+    let ns = nodes_in c.args.ws.now c.args.val.now d in
+    set_does (always_worth (to_z-of_z c.ranges.k) p) (always_worth refl (imm_always (tree ns c.args.v) _ (imm_found (tree ns c.args.v) (to_z-of_z {w = w32} (record { sfits = c.in-Is.known_told-1-own.given.0.1 })) c.in-Is.is (rw (below_root ns c.args.v) at (c.number_below-q.ensures d))))) c.store_number.ensures
 
 returns-2 : tie.Need-returns-in-Nothing
 returns-2 c =
-    let a = c.before.before.before.before.before.before.before.before.before.before in
-    λ d nx t p. set_does (always_worth (to_z-of_z a.ranges.k) p) (valued_worth {xs = c.evaluate_lanes.new.1.1.1.1.1.1.1.1.1.1.1.0} (rw (below_root (nodes_in a.args.ws.now a.args.val.now d) a.args.v) at (c.evaluate_lanes.ensures d))) c.store_same.ensures
+    λ d nx t p. set_does (always_worth (to_z-of_z c.ranges.k) p) (valued_worth {xs = c.evaluate_lanes.new.xs} (rw (below_root (nodes_in c.args.ws.now c.args.val.now d) c.args.v) at (c.evaluate_lanes.ensures d))) c.store_same.ensures
 
 pub set_same_spec : {M : Type 1} → statement M
 set_same_spec =

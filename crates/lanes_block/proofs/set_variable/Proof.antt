@@ -12,10 +12,9 @@ use Rattle.lanes_block.proofs.set_variable.Tie as tie
 
 returns : tie.Need-returns-in-Is
 returns c =
-    let a = c.before.before.before.before.before.before.before.before.before in
     λ d nx.
-    let ns = nodes_in a.args.ws.now a.args.val.now d in
-    c.set_same.ensures d nx (tree ns a.args.t) (imm_always (tree ns a.args.t) (to_z w32 (of_z w32 c.in-Is.k)) (imm_found (tree ns a.args.t) (to_z-of_z {w = w32} (record { sfits = c.in-Is.known_told-1-own.given.0.1 })) c.in-Is.is (rw (below_root ns a.args.t) at (c.number_below-q.ensures d))))
+    let ns = nodes_in c.args.ws.now c.args.val.now d in
+    c.set_same.ensures d nx (tree ns c.args.t) (imm_always (tree ns c.args.t) (to_z w32 (of_z w32 c.in-Is.k)) (imm_found (tree ns c.args.t) (to_z-of_z {w = w32} (record { sfits = c.in-Is.known_told-1-own.given.0.1 })) c.in-Is.is (rw (below_root ns c.args.t) at (c.number_below-q.ensures d))))
 
 pub set_variable_spec : {M : Type 1} → statement M
 set_variable_spec =

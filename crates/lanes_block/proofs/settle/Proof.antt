@@ -50,13 +50,11 @@ element-copy-out-entered c = omega (arith, c.lane_of-lane.ensures, c.requires.0.
 
 add-entered : tie.Need-overflow_add-entered invariant-loop decreases-loop
 add-entered c =
-    let l = c.before.before.before.before.before.before.before in
-    let a = l.before.before.before.before.before in
     omega (
       arith,
-      count_room a.args.lanes.now a.args.exit a.args.out.now a.args.stops.now
-          a.args.at.now a.args.answers.now a.args.entered.now a.args.s l.loop-j.j l.loop-j.at l.loop-j.answers l.loop-j.entered
-          a.requires.0 c.loop-j-test.true l.loop-j.invariant.1 a.requires.1 c.lane_of-lane.result c.lane_of-lane.ensures,
+      count_room c.args.lanes.now c.args.exit c.args.out.now c.args.stops.now
+          c.args.at.now c.args.answers.now c.args.entered.now c.args.s c.loop-j.j c.loop-j.at c.loop-j.answers c.loop-j.entered
+          c.requires.0 c.loop-j-test.true c.loop-j.invariant.1 c.requires.1 c.lane_of-lane.result c.lane_of-lane.ensures,
     )
 
 mul-entered-2 : tie.Need-offset_bounds-entered-lane-in-loop-j invariant-loop decreases-loop
@@ -67,17 +65,15 @@ element-write-entered c = omega (arith, c.lane_of-lane.ensures, c.requires.0.low
 
 loop-again : tie.Need-loop-j-preserved invariant-loop decreases-loop
 loop-again c =
-    let l = c.before.before.before.before.before.before.before in
-    let a = l.before.before.before.before.before in
-    let f : SFits w32 (get_or a.args.out.now l.loop-j.j (pos 0)) = record { sfits = c.choose-arg-1.given } in (
+    let f : SFits w32 (get_or c.args.out.now c.loop-j.j (pos 0)) = record { sfits = c.choose-arg-1.given } in (
       omega arith,
-      settled_more a.args.lanes.now a.args.exit a.args.out.now a.args.stops.now a.args.at.now a.args.answers.now a.args.entered.now a.args.s
-          l.loop-j.j l.loop-j.at l.loop-j.answers l.loop-j.entered a.requires.0 c.loop-j-test.true l.loop-j.invariant.1
-          l.known-all.ensures.0 l.known-all.ensures.1 l.known-all.ensures.2 c.lane_of-lane.result c.lane_of-lane.ensures c.choose-way.result (rw (to_z-of_z f) at c.choose-way.ensures),
+      settled_more c.args.lanes.now c.args.exit c.args.out.now c.args.stops.now c.args.at.now c.args.answers.now c.args.entered.now c.args.s
+          c.loop-j.j c.loop-j.at c.loop-j.answers c.loop-j.entered c.requires.0 c.loop-j-test.true c.loop-j.invariant.1
+          c.known-all.ensures.0 c.known-all.ensures.1 c.known-all.ensures.2 c.lane_of-lane.result c.lane_of-lane.ensures c.choose-way.result (rw (to_z-of_z f) at c.choose-way.ensures),
     )
 
 returns : tie.Need-returns invariant-loop decreases-loop
-returns c = let a = c.before.before.before in settled_all a.args.lanes.now a.args.exit a.args.out.now a.args.stops.now a.args.at.now a.args.answers.now a.args.entered.now a.args.s c.loop-j.j c.loop-j.at c.loop-j.answers c.loop-j.entered c.loop-j.invariant.1 c.loop-j.invariant.0 c.loop-j-test.false
+returns c = settled_all c.args.lanes.now c.args.exit c.args.out.now c.args.stops.now c.args.at.now c.args.answers.now c.args.entered.now c.args.s c.loop-j.j c.loop-j.at c.loop-j.answers c.loop-j.entered c.loop-j.invariant.1 c.loop-j.invariant.0 c.loop-j-test.false
 
 pub settle_spec : {M : Type 1} → statement M
 settle_spec =

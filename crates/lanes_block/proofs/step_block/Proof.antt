@@ -37,8 +37,8 @@ returns-3 : tie.Need-returns
 returns-3 c =
     let a = c.before.before.before.before.before.before.before.before.before.before.before.before.before.before.before in
     let x = c.execute_block in
-    let x' = x.new.1.1.1.1.1.1.1.1.1.1 in
-    leaves_as {save = save a} {ls = a.args.ls.now} {s = a.args.w.lanes} {vs = a.args.vs.now} {rs = a.args.rs.now} {vs' = x'.0} {xs' = x'.1.0} {rs' = x'.1.1.0} (λ t v. sym (step_code (memory a) t a.args.b v c.if-b-counts.false c.if-kind-ne1.false refl)) (x.ensures a.args.counts.nodes a.args.counts.commands)
+    let x' = x.new in
+    leaves_as {save = save a} {ls = a.args.ls.now} {s = a.args.w.lanes} {vs = a.args.vs.now} {rs = a.args.rs.now} {vs' = x'.vs} {xs' = x'.xs} {rs' = x'.rs} (λ t v. sym (step_code (memory a) t a.args.b v c.if-b-counts.false c.if-kind-ne1.false refl)) (x.ensures a.args.counts.nodes a.args.counts.commands)
 
 pub step_block_spec : {M : Type 1} → statement M
 step_block_spec =

@@ -8,23 +8,21 @@ use Rattle.lanes_block.proofs.store_lane.Statement.{statement}
 use Rattle.lanes_block.proofs.store_lane.Tie as tie
 
 returns : tie.Need-returns-then-stop-ne0
-returns c = let s = c.before in stored_stop s.args.vars.now s.args.lane s.args.x s.args.stop s.args.k c.if-stop-ne0.true
+returns c = stored_stop c.args.vars.now c.args.lane c.args.x c.args.stop c.args.k c.if-stop-ne0.true
 
 returns-2 : tie.Need-returns-then-k-lt0
-returns-2 c = let s = c.before.before in stored_negative s.args.vars.now s.args.lane s.args.x s.args.stop s.args.k c.if-stop-ne0.false (rw (to_z-of_z s.ranges.k) at c.if-k-lt0.true)
+returns-2 c = stored_negative c.args.vars.now c.args.lane c.args.x c.args.stop c.args.k c.if-stop-ne0.false (rw (to_z-of_z c.ranges.k) at c.if-k-lt0.true)
 
 cast-i : tie.Need-overflow_cast-i
-cast-i c = let s = c.before.before in rw (to_z-of_z s.ranges.k) (not_negative s.args.k (rw (to_z-of_z s.ranges.k) at c.if-k-lt0.false), Fits-nat_abs {w = w32} tt s.ranges.k)
+cast-i c = rw (to_z-of_z c.ranges.k) (not_negative c.args.k (rw (to_z-of_z c.ranges.k) at c.if-k-lt0.false), Fits-nat_abs {w = w32} tt c.ranges.k)
 
 returns-3 : tie.Need-returns-then-i-lt-VARIABLES
 returns-3 c =
-    let s = c.before.before.before in
-    rw (to_z-of_z s.ranges.k, to_z-of_z s.ranges.x) (stored_in_lem s.args.vars.now s.args.lane s.args.x s.args.stop s.args.k c.if-stop-ne0.false (rw (to_z-of_z s.ranges.k) at c.if-k-lt0.false) (rw (to_z-of_z s.ranges.k) at c.if-i-lt-VARIABLES.true))
+    rw (to_z-of_z c.ranges.k, to_z-of_z c.ranges.x) (stored_in_lem c.args.vars.now c.args.lane c.args.x c.args.stop c.args.k c.if-stop-ne0.false (rw (to_z-of_z c.ranges.k) at c.if-k-lt0.false) (rw (to_z-of_z c.ranges.k) at c.if-i-lt-VARIABLES.true))
 
 returns-4 : tie.Need-returns-else-i-lt-VARIABLES
 returns-4 c =
-    let s = c.before.before.before in
-    stored_out s.args.vars.now s.args.lane s.args.x s.args.stop s.args.k c.if-stop-ne0.false (rw (to_z-of_z s.ranges.k) at c.if-k-lt0.false) (rw (to_z-of_z s.ranges.k) at c.if-i-lt-VARIABLES.false)
+    stored_out c.args.vars.now c.args.lane c.args.x c.args.stop c.args.k c.if-stop-ne0.false (rw (to_z-of_z c.ranges.k) at c.if-k-lt0.false) (rw (to_z-of_z c.ranges.k) at c.if-i-lt-VARIABLES.false)
 
 pub store_lane_spec : {M : Type 1} → statement M
 store_lane_spec =

@@ -27,16 +27,14 @@ store-lane-requires c κs = omega (arith, c.requires.1 c.loop-j.j c.loop-j-test.
 
 loop-again : tie.Need-loop-j-preserved invariant-loop decreases-loop
 loop-again c =
-    let l = c.before.before.before.before.before.before.before in
-    let a = l.before in
-    let f : SFits w32 (get_or a.args.values.now l.loop-j.j (pos 0)) = record { sfits = c.store_lane-arg-in-loop-j-2-1.given } in
-    (omega arith, stored_more a.args.lanes.now _ (λ j. get_or a.args.values.now j (pos 0)) a.args.stops.now a.args.vars.now a.args.s l.loop-j.j l.loop-j.vars _ a.requires.0 c.loop-j-test.true l.loop-j.invariant.1 (rw (to_z-of_z f) at c.store_lane.ensures))
+    let f : SFits w32 (get_or c.args.values.now c.loop-j.j (pos 0)) = record { sfits = c.store_lane-arg-in-loop-j-2-1.given } in
+    (omega arith, stored_more c.args.lanes.now _ (λ j. get_or c.args.values.now j (pos 0)) c.args.stops.now c.args.vars.now c.args.s c.loop-j.j c.loop-j.vars _ c.requires.0 c.loop-j-test.true c.loop-j.invariant.1 (rw (to_z-of_z f) at c.store_lane.ensures))
 
 same_length : tie.Need-shape_of-vars invariant-loop decreases-loop
 same_length c = c.loop-j.invariant.1.kept.long
 
 returns : tie.Need-returns invariant-loop decreases-loop
-returns c = let a = c.before.before in stored_as (stored_all a.args.lanes.now _ (λ j. get_or a.args.values.now j (pos 0)) a.args.stops.now a.args.vars.now a.args.s c.loop-j.j c.loop-j.vars c.loop-j.invariant.1 c.loop-j.invariant.0 c.loop-j-test.false) (λ _. to_z-of_z a.ranges.k) (λ _. refl)
+returns c = stored_as (stored_all c.args.lanes.now _ (λ j. get_or c.args.values.now j (pos 0)) c.args.stops.now c.args.vars.now c.args.s c.loop-j.j c.loop-j.vars c.loop-j.invariant.1 c.loop-j.invariant.0 c.loop-j-test.false) (λ _. to_z-of_z c.ranges.k) (λ _. refl)
 
 pub store_same_spec : {M : Type 1} → statement M
 store_same_spec =

@@ -4,7 +4,10 @@ use Rattle.parse.proofs.parse.Statement.{statement}
 use Rattle.parse.proofs.parse.Tie as tie
 
 returns : tie.Need-returns
-returns c = rw c.shop-from.ensures c.before.before.before.before.before.parse-arrays.ensures.stands
+returns c = rw c.shop_from-shop.ensures c.parse_arrays-refusal.ensures.stands
 
-pub parse-spec : {M : Type 1} → statement M
-parse-spec = tie.close (tie.spec (λ c κs. search rules) (λ c κs. search rules) returns)
+pub parse_spec : {M : Type 1} → statement M
+parse_spec = tie.close (tie.spec
+    (λ c κs. search rules)
+    (λ c κs. search rules)
+    returns)

@@ -21,57 +21,57 @@ abbrev sheet : tie.Start → Model.Sheet
 sheet s = sheet_of s.args.attached.now s.args.sheet
 
 -- the arrays as they were cleared, as the walk leaves them, and as they were cleared after it
-abbrev cleared : tie.After-clear-arrays → Arrays
-cleared c = let l = c.clear-arrays.new in arrays_in l.0 l.1.0 l.1.1.0 l.1.1.1.0
+abbrev cleared : tie.After-clear_arrays → Arrays
+cleared c = let l = c.clear_arrays.new in arrays_in l.0 l.1.0 l.1.1.0 l.1.1.1.0
 
-abbrev walked : tie.After-walk → Arrays
-walked c = let l = c.walk.new.1.1.1.1 in arrays_in l.0 l.1.0 l.1.1.0 l.1.1.1.0
+abbrev walked : tie.After-walk-w → Arrays
+walked c = let l = c.walk-w.new.1.1.1.1 in arrays_in l.0 l.1.0 l.1.1.0 l.1.1.1.0
 
-abbrev cleared2 : tie.After-clear-arrays2 → Arrays
-cleared2 c = let l = c.clear-arrays2.new in arrays_in l.0 l.1.0 l.1.1.0 l.1.1.1.0
+abbrev cleared2 : tie.After-clear_arrays-then-w-ne0 → Arrays
+cleared2 c = let l = c.clear_arrays-then-w-ne0.new in arrays_in l.0 l.1.0 l.1.1.0 l.1.1.1.0
 
 -- no check refuses
-passes : (c : tie.Else1) → let s = c.before.before.before.before.before.before.before.before in call_in (sheet s) (memory s) s.args.setup.0 ≡ 0
-passes c = sym c.before.check-call.ensures ∙ c.if1.false
+passes : (c : tie.Else-refused-ne0) → let s = c.before.before.before.before.before.before.before.before in call_in (sheet s) (memory s) s.args.setup.0 ≡ 0
+passes c = sym c.check_call-refused.ensures ∙ c.if-refused-ne0.false
 
-returns : tie.Need-returns
-returns c = let s = c.before.before.before.before.before.before.before.before in parse_refused (sheet s) (memory s) s.args.setup.0 _ c.before.check-call.ensures c.if1.true (cleared c.before.before) c.before.before.clear-arrays.ensures
+returns : tie.Need-returns-then-refused-ne0
+returns c = let s = c.before.before.before.before.before.before.before.before in parse_refused (sheet s) (memory s) s.args.setup.0 _ c.check_call-refused.ensures c.if-refused-ne0.true (cleared c.before.before) c.clear_arrays.ensures
 
-cast-t24 : tie.Need-overflow-cast-t24
-cast-t24 c = let s = c.before.before.before.before.before.before.before.before in record { fits = omega (arith, items_low s.args.attached.now s.args.sheet (memory s) s.args.setup.0 (passes (c))) }
+cast-t24 : tie.Need-overflow_cast-known
+cast-t24 c = let s = c.before.before.before.before.before.before.before.before in record { fits = omega (arith, items_low s.args.attached.now s.args.sheet (memory s) s.args.setup.0 (passes c)) }
 
-walk-requires : tie.Need-walk-requires
+walk-requires : tie.Need-walk-w-requires
 walk-requires c κs =
     let c1 = c.before.before.before.before in
     let c2 = c1.before.before in
     let c3 = c2.before.before.before.before.before.before in
     let s = c3 in
     let p = call_passed (sheet s) (memory s) s.args.setup.0 (passes (c1)) in
-    ((record { blocks = p.blocks; rest = p.rest; is = p.judged }, ap shop_from {x = cleared c2} c2.clear-arrays.ensures ∙ shop_none), p.inside)
+    ((record { blocks = p.blocks; rest = p.rest; is = p.judged }, ap shop_from {x = cleared c2} c2.clear_arrays.ensures ∙ shop_none), p.inside)
 
-returns-2 : tie.Need-returns-2
+returns-2 : tie.Need-returns-then-w-ne0
 returns-2 c =
     let c1 = c.before.before.before.before.before in
     let c2 = c1.before.before in
     let c3 = c2.before.before.before.before.before in
     let c4 = c3.before.before.before.before.before.before.before.before in
     let s = c4 in
-    let w = c2.walk.ensures (sheet s) (record { items = items_counted s.args.attached.now s.args.sheet; atcs = atcs_counted s.args.attached.now s.args.sheet }) in
-    parse_stopped (sheet s) (memory s) s.args.setup.0 _ (passes (c3)) w.answer c1.if2.true (cleared2 c) c.clear-arrays2.ensures
+    let w = c2.walk-w.ensures (sheet s) (record { items = items_counted s.args.attached.now s.args.sheet; atcs = atcs_counted s.args.attached.now s.args.sheet }) in
+    parse_stopped (sheet s) (memory s) s.args.setup.0 _ (passes (c3)) w.answer c1.if-w-ne0.true (cleared2 c) c.clear_arrays-then-w-ne0.ensures
 
-returns-3 : tie.Need-returns-3
+returns-3 : tie.Need-returns
 returns-3 c =
     let c1 = c.before.before.before.before.before in
     let c2 = c1.before.before in
     let c3 = c2.before.before.before.before.before in
-    let c4 = c3.before.before.before.before.before.before.before.before in
+    let c4 = c3.before.before.before.before in
     let s = c4 in
     let o = c1.if2.false in
     let w = c2.walk.ensures (sheet s) (record { items = items_counted s.args.attached.now s.args.sheet; atcs = atcs_counted s.args.attached.now s.args.sheet }) in
     parse_read (sheet s) (memory s) s.args.setup.0 _ (walked c2) (passes (c3)) w.answer o (w.slots o) c.sizes.ensures (w.good o)
 
-pub parse-arrays-spec : {M : Type 1} → statement M
-parse-arrays-spec =
+pub parse_arrays_spec : {M : Type 1} → statement M
+parse_arrays_spec =
     tie.close
     (tie.spec
     (λ c κs. search rules)

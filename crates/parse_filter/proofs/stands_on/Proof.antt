@@ -6,7 +6,7 @@ use native.Mathlib.Omega.{arith}
 use lib.Dec.{eqb}
 use borrow.Author.Rules.{rules}
 use Rattle.parse_filter.specs.Chains.{reached}
-use Rattle.parse_filter.specs.ChainLaws.{reached_end, reached_step}
+use Rattle.parse_filter.proofs.ChainLaws.{reached_end, reached_step}
 use Rattle.parse_filter.proofs.stands_on.Statement.{statement}
 use Rattle.parse_filter.proofs.stands_on.Tie as tie
 

@@ -10,19 +10,24 @@ use borrow.Author.Rules.{rules}
 use Rattle.parse_walk.proofs.walk.Statement.{statement}
 use Rattle.parse_walk.proofs.walk.Tie as tie
 
-returns : tie.Need-returns
-returns c = c.before.before.walk-few.ensures c.if1.true
+returns : tie.Need-returns-then-w
+returns c = c.walk_few-w.ensures c.if-w.true
 
 -- arrays that stand for no shop
 cleared : {items limits : List ℤ} {codes lens : List ℕ} → arrays_in items limits codes lens ≡ no_arrays → shop_from (arrays_in items limits codes lens) ≡ no_shop
 cleared e = ap shop_from e ∙ shop_none
 
-walk-many-requires : tie.Need-walk-many-requires
+walk-many-requires : tie.Need-walk_many-requires
 walk-many-requires c κs =
-    let a = c.before.before.before.before.before.before.before.before.before.before.before.before.before.before.before.before.requires in
-    ((a.0.0, cleared c.before.before.before.before.clear-arrays.ensures), a.1)
+    let a = c.requires in
+    ((a.0.0, cleared c.clear_arrays.ensures), a.1)
 
-pub walk-spec : {M : Type 1} → statement M
-walk-spec =
+pub walk_spec : {M : Type 1} → statement M
+walk_spec =
     tie.close
-    (tie.spec (λ c κs. search rules) returns (λ c κs. search rules) walk-many-requires (λ c. search rules))
+    (tie.spec
+    (λ c κs. search rules)
+    returns
+    (λ c κs. search rules)
+    walk-many-requires
+    (λ c. search rules))

@@ -5,10 +5,9 @@ use mathlib.Core.List.{List}
 use Prim.Native.Nat.{ℕ, ◌*◌, ◌-◌}
 use native.Mathlib.Omega.{arith}
 use lib.ListN.{get_or, take}
-use borrow.Author.Tests.{not-true}
 use Rattle.shop_arrays.specs.Arrays.{arrays_in, shop_from}
 use Rattle.model.specs.Memory.{Memory}
-use Rattle.model.proofs.Laws.Checks.{is_true}
+use Rattle.model.proofs.Laws.Checks.{answered}
 use Rattle.model.proofs.Laws.Marks.{unmarked}
 use Rattle.shop.specs.declared.Shop.{Shop}
 use Rattle.reach.specs.Stacks.{top_most, is_code_at}
@@ -22,310 +21,270 @@ use Rattle.parse_walk.proofs.walk_all.Statement.{statement}
 use Rattle.parse_walk.proofs.walk_all.Tie as tie
 use Rattle.memory.specs.View.{memory_of}
 
-abbrev invariant-loop : tie.invariant-loop
+abbrev invariant-loop : tie.invariant-loop-depth
 invariant-loop ws val cw bw keys₀ kids₀ companions₀ list₀ seen₀ alive₀ cells₀ stack₀ marks₀ items₀ limits₀ codes₀ lens₀ g ids₀ counts₀ w₀ depth₀ keys kids companions list seen alive cells stack marks items limits codes lens ids counts w depth =
     Turning g.known (memory_of ws val cw bw g.counts) (get_or stack₀ 0 0) (stored_in keys kids companions list seen alive cells)
     marks stack (shop_from (arrays_in items limits codes lens)) w depth
     × Lengths (stored_in keys kids companions list seen alive cells) stack (stored_in keys₀ kids₀ companions₀ list₀ seen₀ alive₀ cells₀) stack₀
 
-abbrev decreases-loop : tie.decreases-loop
+abbrev decreases-loop : tie.decreases-loop-depth
 decreases-loop ws val cw bw keys₀ kids₀ companions₀ list₀ seen₀ alive₀ cells₀ stack₀ marks₀ items₀ limits₀ codes₀ lens₀ g ids₀ counts₀ w₀ depth₀ keys kids companions list seen alive cells stack marks items limits codes lens ids counts w depth = unmarked (take g.counts.blocks marks)
 
 -- the record, and the slots as a turn finds them
-abbrev memory : tie.At-loop invariant-loop decreases-loop → Memory
-memory a = let s = a.before.before.before.before.before.before.before.before.before.before in memory_of s.args.ws.now s.args.val.now s.args.cw.now s.args.bw.now s.args.g.counts
+abbrev memory : tie.At-loop-depth invariant-loop decreases-loop → Memory
+memory a = memory_of a.args.ws.now a.args.val.now a.args.cw.now a.args.bw.now a.args.g.counts
 
-abbrev slots : tie.At-loop invariant-loop decreases-loop → Shop
-slots a = shop_from (arrays_in a.loop.items a.loop.limits a.loop.codes a.loop.lens)
+abbrev slots : tie.At-loop-depth invariant-loop decreases-loop → Shop
+slots a = shop_from (arrays_in a.loop-depth.items a.loop-depth.limits a.loop-depth.codes a.loop-depth.lens)
 
 -- the block to visit, which is code
-abbrev block : tie.After-top-unmarked invariant-loop decreases-loop → ℕ
-block a = get_or a.before.before.before.before.loop.stack (2 * (a.top-unmarked.result - 1)) 0
+abbrev block : tie.After-top_unmarked-top invariant-loop decreases-loop → ℕ
+block a = get_or a.loop-depth.stack (2 * (a.top_unmarked-top.result - 1)) 0
 
-coded : (c : tie.Else2 invariant-loop decreases-loop) → let a = c.before.before.before.before in Coded (memory a.before.before.before.before) (block a)
+coded : (c : tie.Else-not-is_code invariant-loop decreases-loop) → let a = c.before.before.before.before in Coded (memory a.before.before) (block a)
 coded c =
     let a = c.before.before.before.before in
-    let m = memory a.before.before.before.before in
-    is_code m (block a) (is_true (is_code_at m.words m.count (block a)) c.before.is_code.ensures c.if2.false)
+    let m = memory a.before.before in
+    is_code m (block a) (answered (is_code_at m.words m.count (block a)) c.is_code.ensures c.if-not-is_code.false)
 
 -- the tables, the marks and the slots as a visit leaves them
-abbrev tablesLeft : tie.After-visit invariant-loop decreases-loop → Stored
+abbrev tablesLeft : tie.After-visit-v invariant-loop decreases-loop → Stored
 tablesLeft a =
-    let l = a.visit.new.1.1.1.1 in
-    stored_in l.0 l.1.0 l.1.1.0 l.1.1.1.0 l.1.1.1.1.0 l.1.1.1.1.1.0 l.1.1.1.1.1.1.0
+    let l = a.visit-v.new in
+    stored_in l.keys l.kids l.companions l.list l.seen l.alive l.cells
 
-abbrev marksLeft : tie.After-visit invariant-loop decreases-loop → List Bool
-marksLeft a = a.visit.new.1.1.1.1.1.1.1.1.1.1.1.0
+abbrev marksLeft : tie.After-visit-v invariant-loop decreases-loop → List Bool
+marksLeft a = a.visit-v.new.marks
 
-abbrev slotsLeft : tie.After-visit invariant-loop decreases-loop → Shop
-slotsLeft a = let l = a.visit.new.1.1.1.1.1.1.1.1.1.1.1.1 in shop_from (arrays_in l.0 l.1.0 l.1.1.0 l.1.1.1.0)
+abbrev slotsLeft : tie.After-visit-v invariant-loop decreases-loop → Shop
+slotsLeft a = let l = a.visit-v.new in shop_from (arrays_in l.items l.limits l.codes l.lens)
 
-loop-holds : tie.Need-loop-init invariant-loop decreases-loop
-loop-holds c = let a = c.before.before.before.before.before.before.before.before.before.requires in (turning_start _ 4096 (few_blocks _ a.1.0) _ a.0.1.1.1 _ a.1.1 _ c.start.ensures _ _ _ _ a.0.1.0 a.1.0 a.0.1.1.0 refl a.0.0, record { keys = refl; kids = refl; companions = refl; list = refl; seen = refl; alive = refl; cells = refl; entries = refl })
+loop-holds : tie.Need-loop-depth-init invariant-loop decreases-loop
+loop-holds c = let a = c.requires in (turning_start _ 4096 (few_blocks _ a.1.0) _ a.0.1.1.1 _ a.1.1 _ c.start-w.ensures _ _ _ _ a.0.1.0 a.1.0 a.0.1.1.0 refl a.0.0, record { keys = refl; kids = refl; companions = refl; list = refl; seen = refl; alive = refl; cells = refl; entries = refl })
 
-top-unmarked-requires : tie.Need-top-unmarked-requires invariant-loop decreases-loop
-top-unmarked-requires c κs = let r = c.before.before.before.loop.invariant.0.ready in (few_blocks _ r.accepted, r.tall)
+top-unmarked-requires : tie.Need-top_unmarked-top-requires invariant-loop decreases-loop
+top-unmarked-requires c κs = let r = c.loop-depth.invariant.0.ready in (few_blocks _ r.accepted, r.tall)
 
-same_length : tie.Need-same-length invariant-loop decreases-loop
-same_length c = c.before.before.before.before.before.loop.invariant.1.keys
+same_length : tie.Need-shape_of-keys-then-top-eq0 invariant-loop decreases-loop
+same_length c = c.loop-depth.invariant.1.keys
 
-same-length-2 : tie.Need-same-length-2 invariant-loop decreases-loop
-same-length-2 c = c.before.before.before.before.before.loop.invariant.1.kids
+same-length-2 : tie.Need-shape_of-kids-then-top-eq0 invariant-loop decreases-loop
+same-length-2 c = c.loop-depth.invariant.1.kids
 
-same-length-3 : tie.Need-same-length-3 invariant-loop decreases-loop
-same-length-3 c = c.before.before.before.before.before.loop.invariant.1.companions
+same-length-3 : tie.Need-shape_of-companions-then-top-eq0 invariant-loop decreases-loop
+same-length-3 c = c.loop-depth.invariant.1.companions
 
-same-length-4 : tie.Need-same-length-4 invariant-loop decreases-loop
-same-length-4 c = c.before.before.before.before.before.loop.invariant.1.list
+same-length-4 : tie.Need-shape_of-list-then-top-eq0 invariant-loop decreases-loop
+same-length-4 c = c.loop-depth.invariant.1.list
 
-same-length-5 : tie.Need-same-length-5 invariant-loop decreases-loop
-same-length-5 c = c.before.before.before.before.before.loop.invariant.1.seen
+same-length-5 : tie.Need-shape_of-seen-then-top-eq0 invariant-loop decreases-loop
+same-length-5 c = c.loop-depth.invariant.1.seen
 
-same-length-6 : tie.Need-same-length-6 invariant-loop decreases-loop
-same-length-6 c = c.before.before.before.before.before.loop.invariant.1.alive
+same-length-6 : tie.Need-shape_of-alive-then-top-eq0 invariant-loop decreases-loop
+same-length-6 c = c.loop-depth.invariant.1.alive
 
-same-length-7 : tie.Need-same-length-7 invariant-loop decreases-loop
-same-length-7 c = c.before.before.before.before.before.loop.invariant.1.cells
+same-length-7 : tie.Need-shape_of-cells-then-top-eq0 invariant-loop decreases-loop
+same-length-7 c = c.loop-depth.invariant.1.cells
 
-same-length-8 : tie.Need-same-length-8 invariant-loop decreases-loop
-same-length-8 c = c.before.before.before.before.before.loop.invariant.1.entries
+same-length-8 : tie.Need-shape_of-stack-then-top-eq0 invariant-loop decreases-loop
+same-length-8 c = c.loop-depth.invariant.1.entries
 
-returns : tie.Need-returns invariant-loop decreases-loop
-returns c = ends_none c.before.before.before.before.before.loop.invariant.0 (sym c.before.top-unmarked.ensures ∙ c.if1.true)
+returns : tie.Need-returns-then-top-eq0 invariant-loop decreases-loop
+returns c = ends_none c.loop-depth.invariant.0 (sym c.top_unmarked-top.ensures ∙ c.if-top-eq0.true)
 
-mul-t33 : tie.Need-overflow-mul-t33 invariant-loop decreases-loop
-mul-t33 c = omega (arith, top_few c.before.before.before.before.before.loop.invariant.0.ready c.before.top-unmarked.ensures)
+mul-t33 : tie.Need-overflow_mul-block invariant-loop decreases-loop
+mul-t33 c = omega (arith, top_few c.loop-depth.invariant.0.ready c.top_unmarked-top.ensures)
 
-mul-t34 : tie.Need-overflow-mul-t34 invariant-loop decreases-loop
-mul-t34 c = omega (arith, top_few c.before.before.before.before.before.loop.invariant.0.ready c.before.top-unmarked.ensures)
+mul-t34 : tie.Need-offset_bounds-stack-d invariant-loop decreases-loop
+mul-t34 c = omega (arith, top_few c.loop-depth.invariant.0.ready c.top_unmarked-top.ensures)
 
-slice-read-t36 : tie.Need-slice-read-t36 invariant-loop decreases-loop
-slice-read-t36 c = omega (arith, top_fits c.before.before.before.before.before.before.loop.invariant.0.ready c.before.before.top-unmarked.ensures)
+slice-read-t36 : tie.Need-bounds-stack-d invariant-loop decreases-loop
+slice-read-t36 c = omega (arith, top_fits c.loop-depth.invariant.0.ready c.top_unmarked-top.ensures)
 
-cast-t37 : tie.Need-overflow-cast-t37 invariant-loop decreases-loop
-cast-t37 c = omega (arith, c.slice-known9.given (2 * (c.before.before.top-unmarked.result - 1)))
+cast-t37 : tie.Need-overflow_cast-block invariant-loop decreases-loop
+cast-t37 c = omega (arith, c.slice_known-in-loop-depth-1.given (2 * (c.top_unmarked-top.result - 1)))
 
-is-code-requires : tie.Need-is-code-requires invariant-loop decreases-loop
-is-code-requires c κs = few_blocks _ c.before.before.before.before.before.before.loop.invariant.0.ready.accepted
+is-code-requires : tie.Need-is_code-requires invariant-loop decreases-loop
+is-code-requires c κs = few_blocks _ c.loop-depth.invariant.0.ready.accepted
 
-same-length-9 : tie.Need-same-length-9 invariant-loop decreases-loop
-same-length-9 c = c.before.before.before.before.before.before.before.before.before.loop.invariant.1.keys
+same-length-9 : tie.Need-shape_of-keys-then-not-is_code invariant-loop decreases-loop
+same-length-9 c = c.loop-depth.invariant.1.keys
 
-same-length-10 : tie.Need-same-length-10 invariant-loop decreases-loop
-same-length-10 c = c.before.before.before.before.before.before.before.before.before.loop.invariant.1.kids
+same-length-10 : tie.Need-shape_of-kids-then-not-is_code invariant-loop decreases-loop
+same-length-10 c = c.loop-depth.invariant.1.kids
 
-same-length-11 : tie.Need-same-length-11 invariant-loop decreases-loop
-same-length-11 c = c.before.before.before.before.before.before.before.before.before.loop.invariant.1.companions
+same-length-11 : tie.Need-shape_of-companions-then-not-is_code invariant-loop decreases-loop
+same-length-11 c = c.loop-depth.invariant.1.companions
 
-same-length-12 : tie.Need-same-length-12 invariant-loop decreases-loop
-same-length-12 c = c.before.before.before.before.before.before.before.before.before.loop.invariant.1.list
+same-length-12 : tie.Need-shape_of-list-then-not-is_code invariant-loop decreases-loop
+same-length-12 c = c.loop-depth.invariant.1.list
 
-same-length-13 : tie.Need-same-length-13 invariant-loop decreases-loop
-same-length-13 c = c.before.before.before.before.before.before.before.before.before.loop.invariant.1.seen
+same-length-13 : tie.Need-shape_of-seen-then-not-is_code invariant-loop decreases-loop
+same-length-13 c = c.loop-depth.invariant.1.seen
 
-same-length-14 : tie.Need-same-length-14 invariant-loop decreases-loop
-same-length-14 c = c.before.before.before.before.before.before.before.before.before.loop.invariant.1.alive
+same-length-14 : tie.Need-shape_of-alive-then-not-is_code invariant-loop decreases-loop
+same-length-14 c = c.loop-depth.invariant.1.alive
 
-same-length-15 : tie.Need-same-length-15 invariant-loop decreases-loop
-same-length-15 c = c.before.before.before.before.before.before.before.before.before.loop.invariant.1.cells
+same-length-15 : tie.Need-shape_of-cells-then-not-is_code invariant-loop decreases-loop
+same-length-15 c = c.loop-depth.invariant.1.cells
 
-same-length-16 : tie.Need-same-length-16 invariant-loop decreases-loop
-same-length-16 c = c.before.before.before.before.before.before.before.before.before.loop.invariant.1.entries
+same-length-16 : tie.Need-shape_of-stack-then-not-is_code invariant-loop decreases-loop
+same-length-16 c = c.loop-depth.invariant.1.entries
 
-returns-2 : tie.Need-returns-2 invariant-loop decreases-loop
-returns-2 c = ends_stopped c.before.before.before.before.before.before.before.before.before.loop.invariant.0 c.before.before.before.before.before.top-unmarked.ensures c.before.before.before.before.if1.false refl refl (sym c.before.before.is_code.ensures ∙ not-true _ c.before.if2.true) c.answered.ensures
+returns-2 : tie.Need-returns-then-not-is_code invariant-loop decreases-loop
+returns-2 c = ends_stopped c.loop-depth.invariant.0 c.top_unmarked-top.ensures c.if-top-eq0.false refl refl (sym c.is_code.ensures ∙ c.if-not-is_code.true) c.answered.ensures
 
-mul-if3 : tie.Need-overflow-mul-if3 invariant-loop decreases-loop
-mul-if3 c = omega (arith, top_few c.before.before.before.before.before.before.before.before.loop.invariant.0.ready c.before.before.before.before.top-unmarked.ensures)
+mul-if3 : tie.Need-overflow_mul-d invariant-loop decreases-loop
+mul-if3 c = omega (arith, top_few c.loop-depth.invariant.0.ready c.top_unmarked-top.ensures)
 
-add-if3 : tie.Need-overflow-add-if3 invariant-loop decreases-loop
-add-if3 c = omega (arith, top_few c.before.before.before.before.before.before.before.before.loop.invariant.0.ready c.before.before.before.before.top-unmarked.ensures)
+add-if3 : tie.Need-overflow_add-d invariant-loop decreases-loop
+add-if3 c = omega (arith, top_few c.loop-depth.invariant.0.ready c.top_unmarked-top.ensures)
 
-same-length-17 : tie.Need-same-length-17 invariant-loop decreases-loop
-same-length-17 c = c.before.before.before.before.before.before.before.before.before.before.loop.invariant.1.keys
+same-length-17 : tie.Need-shape_of-keys-then-stack-d invariant-loop decreases-loop
+same-length-17 c = c.loop-depth.invariant.1.keys
 
-same-length-18 : tie.Need-same-length-18 invariant-loop decreases-loop
-same-length-18 c = c.before.before.before.before.before.before.before.before.before.before.loop.invariant.1.kids
+same-length-18 : tie.Need-shape_of-kids-then-stack-d invariant-loop decreases-loop
+same-length-18 c = c.loop-depth.invariant.1.kids
 
-same-length-19 : tie.Need-same-length-19 invariant-loop decreases-loop
-same-length-19 c = c.before.before.before.before.before.before.before.before.before.before.loop.invariant.1.companions
+same-length-19 : tie.Need-shape_of-companions-then-stack-d invariant-loop decreases-loop
+same-length-19 c = c.loop-depth.invariant.1.companions
 
-same-length-20 : tie.Need-same-length-20 invariant-loop decreases-loop
-same-length-20 c = c.before.before.before.before.before.before.before.before.before.before.loop.invariant.1.list
+same-length-20 : tie.Need-shape_of-list-then-stack-d invariant-loop decreases-loop
+same-length-20 c = c.loop-depth.invariant.1.list
 
-same-length-21 : tie.Need-same-length-21 invariant-loop decreases-loop
-same-length-21 c = c.before.before.before.before.before.before.before.before.before.before.loop.invariant.1.seen
+same-length-21 : tie.Need-shape_of-seen-then-stack-d invariant-loop decreases-loop
+same-length-21 c = c.loop-depth.invariant.1.seen
 
-same-length-22 : tie.Need-same-length-22 invariant-loop decreases-loop
-same-length-22 c = c.before.before.before.before.before.before.before.before.before.before.loop.invariant.1.alive
+same-length-22 : tie.Need-shape_of-alive-then-stack-d invariant-loop decreases-loop
+same-length-22 c = c.loop-depth.invariant.1.alive
 
-same-length-23 : tie.Need-same-length-23 invariant-loop decreases-loop
-same-length-23 c = c.before.before.before.before.before.before.before.before.before.before.loop.invariant.1.cells
+same-length-23 : tie.Need-shape_of-cells-then-stack-d invariant-loop decreases-loop
+same-length-23 c = c.loop-depth.invariant.1.cells
 
-same-length-24 : tie.Need-same-length-24 invariant-loop decreases-loop
-same-length-24 c = c.before.before.before.before.before.before.before.before.before.before.loop.invariant.1.entries
+same-length-24 : tie.Need-shape_of-stack-then-stack-d invariant-loop decreases-loop
+same-length-24 c = c.loop-depth.invariant.1.entries
 
-returns-3 : tie.Need-returns-3 invariant-loop decreases-loop
+returns-3 : tie.Need-returns-then-stack-d invariant-loop decreases-loop
 returns-3 c =
-    let c1 = c.before in
-    let c2 = c1.before in
-    let c3 = c2.before.before.before in
-    let c4 = c3.before in
-    let c5 = c4.before.before.before.before in
-    ends_full c5.loop.invariant.0 c4.top-unmarked.ensures c3.if1.false refl refl (coded c2) c5.loop.invariant.1 {s' = slots c5} c1.if3.true c.answered2.ensures
+    let c2 = c.before.before in
+    let c5 = c2.before.before.before.before.before.before in
+    ends_full c5.loop-depth.invariant.0 c2.top_unmarked-top.ensures c2.if-top-eq0.false refl refl (coded c2) c5.loop-depth.invariant.1 {s' = slots c5} c.if-stack-d.true c.answered-then-stack-d.ensures
 
-mul-t33-2 : tie.Need-overflow-mul-t33-2 invariant-loop decreases-loop
-mul-t33-2 c = omega (arith, top_few c.before.before.before.before.before.before.before.before.before.loop.invariant.0.ready c.before.before.before.before.before.top-unmarked.ensures)
+mul-t33-2 : tie.Need-overflow_mul-under invariant-loop decreases-loop
+mul-t33-2 c = omega (arith, top_few c.loop-depth.invariant.0.ready c.top_unmarked-top.ensures)
 
-add-t34 : tie.Need-overflow-add-t34 invariant-loop decreases-loop
-add-t34 c = omega (arith, top_few c.before.before.before.before.before.before.before.before.before.loop.invariant.0.ready c.before.before.before.before.before.top-unmarked.ensures)
+add-t34 : tie.Need-overflow_add-under invariant-loop decreases-loop
+add-t34 c = omega (arith, top_few c.loop-depth.invariant.0.ready c.top_unmarked-top.ensures)
 
-mul-t39 : tie.Need-overflow-mul-t39 invariant-loop decreases-loop
-mul-t39 c = omega (arith, top_few c.before.before.before.before.before.before.before.before.before.loop.invariant.0.ready c.before.before.before.before.before.top-unmarked.ensures)
+mul-t39 : tie.Need-offset_bounds-stack-d-in-loop-depth invariant-loop decreases-loop
+mul-t39 c = omega (arith, top_few c.loop-depth.invariant.0.ready c.top_unmarked-top.ensures)
 
-slice-read-t36-2 : tie.Need-slice-read-t36-2 invariant-loop decreases-loop
-slice-read-t36-2 c = omega (arith, c.before.if3.false)
+slice-read-t36-2 : tie.Need-bounds-stack-d-in-loop-depth invariant-loop decreases-loop
+slice-read-t36-2 c = omega (arith, c.if-stack-d.false)
 
-visit-requires : tie.Need-visit-requires invariant-loop decreases-loop
+visit-requires : tie.Need-visit-v-requires invariant-loop decreases-loop
 visit-requires c κs =
     let c1 = c.before.before.before.before.before.before.before.before.before.before.before.before.before.before.before.before in
-    let c2 = c1.before.before.before in
-    let c3 = c2.before in
-    let c4 = c3.before.before.before.before in
-    (held c4.loop.invariant.0, visit_open c4.loop.invariant.0 c3.top-unmarked.ensures c2.if1.false refl refl (coded c1) c4.loop.invariant.1)
+    (held c1.loop-depth.invariant.0, visit_open c1.loop-depth.invariant.0 c1.top_unmarked-top.ensures c1.if-top-eq0.false refl refl (coded c1) c1.loop-depth.invariant.1)
 
-same-length-25 : tie.Need-same-length-25 invariant-loop decreases-loop
+same-length-25 : tie.Need-shape_of-keys-then-w-ne0 invariant-loop decreases-loop
 same-length-25 c =
-    let c1 = c.before.before.before.before.before.before.before.before.before.before.before.before.before.before.before.before in
-    let c2 = c1.before.before.before.before.before.before.before.before.before.before.before.before.before.before.before.before.before.before.before.before.before.before.before.before.before.before in
-    c1.keys.given ∙ c2.loop.invariant.1.keys
+    c.keys-1.given ∙ c.loop-depth.invariant.1.keys
 
-same-length-26 : tie.Need-same-length-26 invariant-loop decreases-loop
+same-length-26 : tie.Need-shape_of-kids-then-w-ne0 invariant-loop decreases-loop
 same-length-26 c =
-    let c1 = c.before.before.before.before.before.before.before.before.before.before.before.before.before.before in
-    let c2 = c1.before.before.before.before.before.before.before.before.before.before.before.before.before.before.before.before.before.before.before.before.before.before.before.before.before.before.before.before in
-    c1.kids.given ∙ c2.loop.invariant.1.kids
+    c.kids-1.given ∙ c.loop-depth.invariant.1.kids
 
-same-length-27 : tie.Need-same-length-27 invariant-loop decreases-loop
+same-length-27 : tie.Need-shape_of-companions-then-w-ne0 invariant-loop decreases-loop
 same-length-27 c =
-    let c1 = c.before.before.before.before.before.before.before.before.before.before.before.before in
-    let c2 = c1.before.before.before.before.before.before.before.before.before.before.before.before.before.before.before.before.before.before.before.before.before.before.before.before.before.before.before.before.before.before in
-    c1.companions.given ∙ c2.loop.invariant.1.companions
+    c.companions-1.given ∙ c.loop-depth.invariant.1.companions
 
-same-length-28 : tie.Need-same-length-28 invariant-loop decreases-loop
+same-length-28 : tie.Need-shape_of-list-then-w-ne0 invariant-loop decreases-loop
 same-length-28 c =
-    let c1 = c.before.before.before.before.before.before.before.before.before.before in
-    let c2 = c1.before.before.before.before.before.before.before.before.before.before.before.before.before.before.before.before.before.before.before.before.before.before.before.before.before.before.before.before.before.before.before.before in
-    c1.list.given ∙ c2.loop.invariant.1.list
+    c.list-1.given ∙ c.loop-depth.invariant.1.list
 
-same-length-29 : tie.Need-same-length-29 invariant-loop decreases-loop
+same-length-29 : tie.Need-shape_of-seen-then-w-ne0 invariant-loop decreases-loop
 same-length-29 c =
-    let c1 = c.before.before.before.before.before.before.before.before in
-    let c2 = c1.before.before.before.before.before.before.before.before.before.before.before.before.before.before.before.before.before.before.before.before.before.before.before.before.before.before.before.before.before.before.before.before.before.before in
-    c1.seen.given ∙ c2.loop.invariant.1.seen
+    c.seen-1.given ∙ c.loop-depth.invariant.1.seen
 
-same-length-30 : tie.Need-same-length-30 invariant-loop decreases-loop
+same-length-30 : tie.Need-shape_of-alive-then-w-ne0 invariant-loop decreases-loop
 same-length-30 c =
-    let c1 = c.before.before.before.before.before.before in
-    let c2 = c1.before.before.before.before.before.before.before.before.before.before.before.before.before.before.before.before.before.before.before.before.before.before.before.before.before.before.before.before.before.before.before.before.before.before.before.before in
-    c1.alive.given ∙ c2.loop.invariant.1.alive
+    c.alive-1.given ∙ c.loop-depth.invariant.1.alive
 
-same-length-31 : tie.Need-same-length-31 invariant-loop decreases-loop
+same-length-31 : tie.Need-shape_of-cells-then-w-ne0 invariant-loop decreases-loop
 same-length-31 c =
-    let c1 = c.before.before.before.before in
-    let c2 = c1.before.before.before.before.before.before.before.before.before.before.before.before.before.before.before.before.before.before.before.before.before.before.before.before.before.before.before.before.before.before.before.before.before.before.before.before.before.before in
-    c1.cells.given ∙ c2.loop.invariant.1.cells
+    c.cells-1.given ∙ c.loop-depth.invariant.1.cells
 
-same-length-32 : tie.Need-same-length-32 invariant-loop decreases-loop
-same-length-32 c = c.before.before.before.before.before.before.before.before.before.before.before.before.before.before.before.before.before.before.before.before.before.before.before.before.before.before.before.before.before.before.before.before.before.before.before.before.before.before.before.before.before.before.loop.invariant.1.entries
+same-length-32 : tie.Need-shape_of-stack-then-w-ne0 invariant-loop decreases-loop
+same-length-32 c = c.loop-depth.invariant.1.entries
 
-returns-4 : tie.Need-returns-4 invariant-loop decreases-loop
+returns-4 : tie.Need-returns-then-w-ne0 invariant-loop decreases-loop
 returns-4 c =
     let c1 = c.before.before.before.before.before.before.before.before.before.before.before.before.before.before.before.before.before in
     let c2 = c1.before.before.before.before.before.before.before.before.before.before.before.before.before.before.before.before.before in
-    let c3 = c2.before.before.before in
-    let c4 = c3.before in
-    let c5 = c4.before.before.before.before in
-    ends_refused c5.loop.invariant.0 c4.top-unmarked.ensures c3.if1.false refl refl (coded c2) c5.loop.invariant.1 {t' = tablesLeft c1} {marks' = marksLeft c1} {s' = slotsLeft c1}
-    (c1.visit.ensures c5.loop.invariant.0.conditions c5.loop.invariant.0.holding) c.if4.true
+    ends_refused c2.loop-depth.invariant.0 c2.top_unmarked-top.ensures c2.if-top-eq0.false refl refl (coded c2) c2.loop-depth.invariant.1 {t' = tablesLeft c1} {marks' = marksLeft c1} {s' = slotsLeft c1}
+    (c1.visit-v.ensures c2.loop-depth.invariant.0.conditions c2.loop-depth.invariant.0.holding) c.if-w-ne0.true
 
-push-requires : tie.Need-push-requires invariant-loop decreases-loop
-push-requires c κs = omega (arith, c.before.before.before.before.before.before.before.before.before.before.before.before.before.before.before.before.before.before.before.before.before.before.before.before.before.before.before.before.before.before.before.before.before.before.if3.false)
+push-requires : tie.Need-push-depth-requires invariant-loop decreases-loop
+push-requires c κs = omega (arith, c.if-stack-d.false)
 
-loop-less : tie.Need-loop-smaller invariant-loop decreases-loop
+loop-less : tie.Need-loop-depth-smaller invariant-loop decreases-loop
 loop-less c =
-    let c1 = c.before.before.before.before in
-    let c2 = c1.before.before.before.before.before.before.before.before.before.before.before.before.before.before.before.before.before in
+    let c2 = c.before.before.before.before.before.before.before.before.before.before.before.before.before.before.before.before.before.before.before.before.before.before.before.before.before in
     let c3 = c2.before.before.before.before.before.before.before.before.before.before.before.before.before.before.before.before.before in
-    let c4 = c3.before.before.before in
-    let c5 = c4.before in
-    let c6 = c5.before.before.before.before in
-    falls c6.loop.invariant.0 c5.top-unmarked.ensures c4.if1.false refl refl (coded c3) c6.loop.invariant.1 {t' = tablesLeft c2} {marks' = marksLeft c2} {s' = slotsLeft c2}
-    (c2.visit.ensures c6.loop.invariant.0.conditions c6.loop.invariant.0.holding) c1.if4.false
+    falls c3.loop-depth.invariant.0 c3.top_unmarked-top.ensures c3.if-top-eq0.false refl refl (coded c3) c3.loop-depth.invariant.1 {t' = tablesLeft c2} {marks' = marksLeft c2} {s' = slotsLeft c2}
+    (c2.visit-v.ensures c3.loop-depth.invariant.0.conditions c3.loop-depth.invariant.0.holding) c.if-w-ne0.false
 
-loop-again : tie.Need-loop-preserved invariant-loop decreases-loop
+loop-again : tie.Need-loop-depth-preserved invariant-loop decreases-loop
 loop-again c =
-    let c1 = c.before in
-    let c2 = c1.before in
-    let c3 = c2.before.before in
-    let c4 = c3.before.before.before.before in
-    let c5 = c4.before.before in
-    let c6 = c5.before.before in
-    let c7 = c6.before.before in
-    let c8 = c7.before.before in
-    let c9 = c8.before.before in
-    let c10 = c9.before.before in
-    let c11 = c10.before in
-    let c12 = c11.before.before.before.before.before.before.before.before.before.before.before.before.before.before.before.before in
-    let c13 = c12.before in
-    let c14 = c13.before.before.before in
-    let c15 = c14.before in
-    let c16 = c15.before.before.before.before in (
-      turns c16.loop.invariant.0 c15.top-unmarked.ensures c14.if1.false refl refl (coded c13) c16.loop.invariant.1 {t' = tablesLeft c11} {marks' = marksLeft c11} {s' = slotsLeft c11}
-          (c11.visit.ensures c16.loop.invariant.0.conditions c16.loop.invariant.0.holding) c3.if4.false c2.push.ensures (omega (arith, c12.if3.false))
-          c1.stack.given,
+    let c11 = c.before.before.before.before.before.before.before.before.before.before.before.before.before.before.before.before.before.before.before.before.before.before.before.before.before in
+    let c13 = c11.before.before.before.before.before.before.before.before.before.before.before.before.before.before.before.before.before in
+    (
+      turns c13.loop-depth.invariant.0 c13.top_unmarked-top.ensures c13.if-top-eq0.false refl refl (coded c13) c13.loop-depth.invariant.1 {t' = tablesLeft c11} {marks' = marksLeft c11} {s' = slotsLeft c11}
+          (c11.visit-v.ensures c13.loop-depth.invariant.0.conditions c13.loop-depth.invariant.0.holding) c.if-w-ne0.false c.push-depth.ensures (omega (arith, c11.if-stack-d.false))
+          c.stack-1.given,
       record {
-        keys = c10.keys.given ∙ c16.loop.invariant.1.keys;
-        kids = c9.kids.given ∙ c16.loop.invariant.1.kids;
-        companions = c8.companions.given
-            ∙ c16.loop.invariant.1.companions;
-        list = c7.list.given ∙ c16.loop.invariant.1.list;
-        seen = c6.seen.given ∙ c16.loop.invariant.1.seen;
-        alive = c5.alive.given ∙ c16.loop.invariant.1.alive;
-        cells = c4.cells.given ∙ c16.loop.invariant.1.cells;
-        entries = c1.stack.given ∙ c16.loop.invariant.1.entries;
+        keys = c.keys-1.given ∙ c13.loop-depth.invariant.1.keys;
+        kids = c.kids-1.given ∙ c13.loop-depth.invariant.1.kids;
+        companions = c.companions-1.given
+            ∙ c13.loop-depth.invariant.1.companions;
+        list = c.list-1.given ∙ c13.loop-depth.invariant.1.list;
+        seen = c.seen-1.given ∙ c13.loop-depth.invariant.1.seen;
+        alive = c.alive-1.given ∙ c13.loop-depth.invariant.1.alive;
+        cells = c.cells-1.given ∙ c13.loop-depth.invariant.1.cells;
+        entries = c.stack-1.given ∙ c13.loop-depth.invariant.1.entries;
       },
     )
 
-same-length-33 : tie.Need-same-length-33 invariant-loop decreases-loop
-same-length-33 c = c.before.loop.invariant.1.keys
+same-length-33 : tie.Need-shape_of-keys invariant-loop decreases-loop
+same-length-33 c = c.loop-depth.invariant.1.keys
 
-same-length-34 : tie.Need-same-length-34 invariant-loop decreases-loop
-same-length-34 c = c.before.loop.invariant.1.kids
+same-length-34 : tie.Need-shape_of-kids invariant-loop decreases-loop
+same-length-34 c = c.loop-depth.invariant.1.kids
 
-same-length-35 : tie.Need-same-length-35 invariant-loop decreases-loop
-same-length-35 c = c.before.loop.invariant.1.companions
+same-length-35 : tie.Need-shape_of-companions invariant-loop decreases-loop
+same-length-35 c = c.loop-depth.invariant.1.companions
 
-same-length-36 : tie.Need-same-length-36 invariant-loop decreases-loop
-same-length-36 c = c.before.loop.invariant.1.list
+same-length-36 : tie.Need-shape_of-list invariant-loop decreases-loop
+same-length-36 c = c.loop-depth.invariant.1.list
 
-same-length-37 : tie.Need-same-length-37 invariant-loop decreases-loop
-same-length-37 c = c.before.loop.invariant.1.seen
+same-length-37 : tie.Need-shape_of-seen invariant-loop decreases-loop
+same-length-37 c = c.loop-depth.invariant.1.seen
 
-same-length-38 : tie.Need-same-length-38 invariant-loop decreases-loop
-same-length-38 c = c.before.loop.invariant.1.alive
+same-length-38 : tie.Need-shape_of-alive invariant-loop decreases-loop
+same-length-38 c = c.loop-depth.invariant.1.alive
 
-same-length-39 : tie.Need-same-length-39 invariant-loop decreases-loop
-same-length-39 c = c.before.loop.invariant.1.cells
+same-length-39 : tie.Need-shape_of-cells invariant-loop decreases-loop
+same-length-39 c = c.loop-depth.invariant.1.cells
 
-same-length-40 : tie.Need-same-length-40 invariant-loop decreases-loop
-same-length-40 c = c.before.loop.invariant.1.entries
+same-length-40 : tie.Need-shape_of-stack invariant-loop decreases-loop
+same-length-40 c = c.loop-depth.invariant.1.entries
 
-returns-5 : tie.Need-returns-5 invariant-loop decreases-loop
-returns-5 c = ends_none c.before.loop.invariant.0 (omega (arith, top_most (take c.before.before.before.before.before.before.before.before.before.before.before.args.g.counts.blocks c.before.loop.marks) c.before.loop.stack c.before.loop.depth, c.loop-test.false))
+returns-5 : tie.Need-returns invariant-loop decreases-loop
+returns-5 c = ends_none c.loop-depth.invariant.0 (omega (arith, top_most (take c.args.g.counts.blocks c.loop-depth.marks) c.loop-depth.stack c.loop-depth.depth, c.loop-depth-test.false))
 
-pub walk-all-spec : {M : Type 1} → statement M
-walk-all-spec =
+pub walk_all_spec : {M : Type 1} → statement M
+walk_all_spec =
     tie.close
     (tie.spec
     invariant-loop

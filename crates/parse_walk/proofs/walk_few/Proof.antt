@@ -10,20 +10,19 @@ use borrow.Author.Rules.{rules}
 use Rattle.parse_walk.proofs.walk_few.Statement.{statement}
 use Rattle.parse_walk.proofs.walk_few.Tie as tie
 
-cast-stack : tie.Need-overflow-cast-stack
-cast-stack c = record { fits = omega (arith, few_blocks _ c.before.requires.0.0, c.before.requires.1) }
+cast-stack : tie.Need-overflow_cast-stack
+cast-stack c = record { fits = omega (arith, few_blocks _ c.requires.0.0, c.requires.1) }
 
-walk-all-requires : tie.Need-walk-all-requires
+walk-all-requires : tie.Need-walk_all-requires
 walk-all-requires c κs =
-    let c1 = c.before.before.before.before.before.before.before.before.before.before.before.before.before.before in
-    let a = c1.requires.0 in (
+    let a = c.requires.0 in (
       (
-        start_holds c1.args.g.known 256 512 512 512 512 512 384 (omega arith) (omega arith) (omega arith) (omega arith) (omega arith) (omega arith) (omega arith),
+        start_holds c.args.g.known 256 512 512 512 512 512 384 (omega arith) (omega arith) (omega arith) (omega arith) (omega arith) (omega arith) (omega arith),
         (
           refl {a = replicate block_limit false},
           (
             search rules,
-            first_under 516 c1.args.setup.0 (omega arith),
+            first_under 516 c.args.setup.0 (omega arith),
           ),
         ),
       ),
@@ -31,10 +30,10 @@ walk-all-requires c κs =
     )
 
 returns : tie.Need-returns
-returns c = walked_from c.before.before.before.before.before.before.before.before.walk-all.ensures _ (first_block 516 c.before.before.before.before.before.before.before.before.before.before.before.before.before.before.before.before.before.before.before.before.before.before.before.args.setup.0 (omega arith))
+returns c = walked_from c.walk_all.ensures _ (first_block 516 c.args.setup.0 (omega arith))
 
-pub walk-few-spec : {M : Type 1} → statement M
-walk-few-spec =
+pub walk_few_spec : {M : Type 1} → statement M
+walk_few_spec =
     tie.close
     (tie.spec
     cast-stack

@@ -5,14 +5,14 @@ use borrow.Author.Rules.{rules}
 use Rattle.settings_cases.proofs.cases.Statement.{statement}
 use Rattle.settings_cases.proofs.cases.Tie as tie
 
-abbrev invariant-loop : tie.invariant-loop
+abbrev invariant-loop : tie.invariant-loop-at
 invariant-loop text tally₀ at₀ tally at = Unit {0}
 
-abbrev decreases-loop : tie.decreases-loop
+abbrev decreases-loop : tie.decreases-loop-at
 decreases-loop text tally₀ at₀ tally at = length text - at
 
-pub cases-spec : {M : Type 1} → statement M
-cases-spec =
+pub cases_spec : {M : Type 1} → statement M
+cases_spec =
     tie.close
     (tie.spec
     invariant-loop

@@ -19,8 +19,8 @@ use Rattle.reclaim_model.proofs.Laws.Reached.{reached_long}
 use Rattle.reclaim_model.proofs.Laws.Survivors.{rank_most}
 use Rattle.reclaim_model.proofs.Laws.Reclaimed.{commands_same, length_kept, nodes_renamed, reclaim_held, reclaim_judged, sum_map}
 use Rattle.reclaim_record.specs.Calls.{reclaim_refusal_in, lives_in, kept_only_in, reclaimed_in}
-use Rattle.reclaim_record.specs.Stands.{born_script, fresh_put}
-use Rattle.reclaim_record.specs.Checks.{was_judged}
+use Rattle.reclaim_record.proofs.Stands.{born_script, fresh_put}
+use Rattle.reclaim_record.proofs.Checks.{was_judged}
 
 -- the kept counts after a reclaim
 pub record RoomAgain (k : Born) (rs : List ℕ) : Type 0 where

@@ -9,7 +9,7 @@ use Rattle.reclaim_model.specs.Changes.{reclaim}
 use Rattle.reclaim_model.proofs.Laws.Moved.{moved_at}
 use Rattle.reclaim_model.proofs.Laws.Reached.{reached_long}
 use Rattle.reclaim_record.specs.Calls.{reclaim_refusal_in, lives_in, moved_in, number_after_in}
-use Rattle.reclaim_record.specs.Checks.{was_judged}
+use Rattle.reclaim_record.proofs.Checks.{was_judged}
 
 -- "the answer tells for each old block its new number or that it is gone"; past the blocks it has 0
 pub moved_tells : (k : Born) (rs moved : List ℕ) → reclaim_refusal_in k rs ≡ 0 → (b : ℕ) → get_or (moved_in k rs moved) b 0 ≡ moved_word (number_after_in k (reclaim rs) b)

@@ -17,7 +17,7 @@ use Rattle.model.specs.Normal.{acquired_of}
 use Rattle.model.proofs.Laws.Sets.{same_refl}
 use Rattle.model.proofs.Laws.Bools.{or_right}
 use Rattle.settings_model.specs.Settings.{Subject, rate_is, agree, answer_in, distinct, listed_by, listed_filled, listed_for, listed_with, meets, member_s, or_rate, rates, same_subject, says, setting_of, subject_of, subjects, subjects_filled, subjects_for}
-use Rattle.settings_model.specs.Subjects.{distinct_member, subject_in, subject_own, subject_true}
+use Rattle.settings_model.proofs.Subjects.{distinct_member, subject_in, subject_own, subject_true}
 
 -- ---- by the save itself
 

@@ -8,8 +8,8 @@ use Rattle.std.proofs.Math.Seq.{slice, length-slice}
 use Rattle.model.proofs.Laws.Bools.{or_cases}
 use Rattle.parse_keys.specs.Entries.{Valid}
 use Rattle.parse_filter.specs.Chains.{companion_of, signed_entry, has, joined_to, from_of, to_of, is_else, signed_part, part_of, entries_in, top_of, Chains}
-use Rattle.parse_filter.specs.ChainLaws.{down, entries_at, entries_none}
-use Rattle.parse_filter.specs.Members.{has_append, map_from, has_place}
+use Rattle.parse_filter.proofs.ChainLaws.{down, entries_at, entries_none}
+use Rattle.parse_filter.proofs.Members.{has_append, map_from, has_place}
 use Rattle.parse_filter.specs.Marks.{MarkedAs}
 use Rattle.parse_filter.specs.declared.Marked.{Marked}
 

@@ -18,8 +18,8 @@ use Rattle.parse_keys.specs.Turns.{by_parity, req_even, req_odd, turn_req, turn_
 use Rattle.parse_keys.specs.Tables.{Companions}
 use Rattle.parse_filter.specs.Chains.{companion_of, has}
 use Rattle.parse_filter.specs.Filter.{stay, filtered, companion_codes, negated_codes}
-use Rattle.parse_filter.specs.Members.{has_self, has_later}
-use Rattle.parse_filter.specs.Companions.{filtered_has}
+use Rattle.parse_filter.proofs.Members.{has_self, has_later}
+use Rattle.parse_filter.proofs.Companions.{filtered_has}
 use Rattle.model.proofs.Laws.Normal.{same_move, both_ways_lem, neg_neg, settled_member, extend_member, extend_sorted}
 use Rattle.model.proofs.Laws.Bools.{or_cases, or_left, or_right}
 

@@ -6,7 +6,7 @@ use Rattle.std.proofs.lemmas.Bool.{not-false}
 use Rattle.model.proofs.Laws.Bools.{or_left}
 use Rattle.parse_filter.specs.Chains.{companion_of, has}
 use Rattle.parse_filter.specs.Filter.{stay, filtered, unmet, HeldAs}
-use Rattle.parse_filter.specs.Members.{has_append, has_stay, stay_append, has_self, has_later}
+use Rattle.parse_filter.proofs.Members.{has_append, has_stay, stay_append, has_self, has_later}
 
 -- what is kept: an entry of the set, whose companion is not in the set
 pub filtered_has : (xs : List ℕ) (companion : ℕ → ℕ) (e : ℕ) → has e (filtered xs companion) ≡ not (has (companion e) xs) && has e xs
