@@ -21,7 +21,8 @@ use Rattle.reclaim_record.specs.Demand.{Given}
 use Rattle.reclaim_record.proofs.Stands.{LongBorn}
 use Rattle.capi.specs.declared.Ran.{Ran}
 use Rattle.capi.specs.Answers.{loader_by, ran_as}
-use Rattle.library.specs.Delivered.{Asked, AsPromised, Made, compile, means_of, given_by, made, reclaim, shop_of, shop_long}
+use Rattle.library.specs.Delivered.{Asked, AsPromised, Made, compile, given_by, made, reclaim, shop_of}
+use Rattle.library.proofs.Delivered.{means_of, shop_long}
 use Rattle.bill_model.specs.Tariff.{Tariff, tariff_refusal}
 use Rattle.bill_model.specs.Bill.{leaves}
 use Rattle.bill_model.specs.Sorting.{bill_by_item}

@@ -22,7 +22,9 @@ use Rattle.reclaim_model.specs.Changes.{Change}
 use Rattle.reclaim_record.specs.Calls.{changes_in}
 use Rattle.reclaim_record.proofs.Stands.{LongBorn}
 use Rattle.engine.specs.Delivered as engine
-use Rattle.library.specs.Delivered.{AsPromised, Made, call_by, followed, made, promises}
+use Rattle.engine.proofs.Delivered as engine_laws
+use Rattle.library.specs.Delivered.{AsPromised, Made, made}
+use Rattle.library.proofs.Delivered.{call_by, followed, promises}
 use Rattle.lanes_model.specs.Flat.{Left, left_by, saves_in, saves_ok, walk_in, walk_refusal_in}
 use Rattle.lanes_model.proofs.Laws.Ends.{walk_ends_in}
 use Rattle.lanes_model.proofs.Laws.Walks.{saves_many, walk_passed_in}
@@ -83,7 +85,7 @@ module _ (h : Sheet) (k : Born) (xs : List Made) (long : LongBorn k) (promised :
   first = followed h k xs long promised
 
   second : Followed engine.made (changes_in h) (λ k t. k ≡ t) k k (map call_by xs) (map (λ x. engine.as_change x.asked) (map call_by xs))
-  second = engine.followed h k (map call_by xs) long (promises h k xs long promised)
+  second = engine_laws.followed h k (map call_by xs) long (promises h k xs long promised)
 
   served : (b b' : ℕ) (ys : List Slot) → now_at made k xs b ≡ some b' → last_at made k xs b ≡ some ys → Served h (after_all made k xs).memory b'
   served b b' ys n e =

@@ -31,5 +31,8 @@ pub extern "C" fn lk_bill(
 ) -> Billed
     ensures { BilledAs (bill_by_item (sheet_of attached.now (sheet_by atcs timer5 timer10 timer15)) (save_of items.now held.now flags.now times.now vars.now) (tariff_of prices.now discount) basket.now) result.refusal result.total to_items.old to_items.new to_slots.old to_slots.new to_coins.old to_coins.new }
 {
-    capi_bill::lk_bill(attached, atcs, timer5, timer10, timer15, items, held, flags, times, vars, prices, discount, basket, to_items, to_slots, to_coins)
+    capi_bill::lk_bill(
+        attached, atcs, timer5, timer10, timer15, items, held, flags, times, vars, prices,
+        discount, basket, to_items, to_slots, to_coins,
+    )
 }

@@ -20,9 +20,9 @@ ghost use Rattle.shop_with_slots.specs.Twenty.{twenty};
 ghost use Rattle.capi_values.specs.Values.{counts_by, sheet_by};
 ghost use Rattle.capi.specs.Answers.{counts_in, loader_by, read_as, ran_as, previewed_as};
 
+use capi::{Kept, Previewed, Ran, Written};
 use memory::{BLOCKS, Births, BlockWords, CommandWords, NodeWords, Values};
 use shop::{Codes, SLOTS};
-use capi::{Kept, Written, Previewed, Ran};
 
 // The script of an image. A refused read hands out nothing: the arrays are zero then. An image carries no birth marks, so these and the count of compiles are 0 either way (02, A.2).
 #[unsafe(no_mangle)]
@@ -81,7 +81,10 @@ pub extern "C" fn lk_run(
 ) -> Ran
     ensures { ran_as result vars.new ≡ run_in (sheet_of attached.now (sheet_by atcs timer5 timer10 timer15)) (memory_of ws.now val.now cw.now bw.now (counts_by nodes commands blocks)) start (save_of items.now held.now flags.now times.now vars.old) budget }
 {
-    capi::lk_run(attached, atcs, timer5, timer10, timer15, ws, val, cw, bw, nodes, commands, blocks, start, items, held, flags, times, vars, budget)
+    capi::lk_run(
+        attached, atcs, timer5, timer10, timer15, ws, val, cw, bw, nodes, commands, blocks, start,
+        items, held, flags, times, vars, budget,
+    )
 }
 
 // Compiles the shop that the arrays stand for and links it at block setup, for the disc where loader is 0, else for the demo. The blocks that it appends bear the new count of compiles. Refused, nothing is written and the counts are those handed in.
@@ -110,7 +113,10 @@ pub extern "C" fn lk_compile(
 ) -> Kept
     ensures { CompiledAs (sheet_of attached.now (sheet_by atcs timer5 timer10 timer15)) (born_of ws.old val.old cw.old bw.old (counts_by nodes commands blocks) births.old compiles) (call_of (loader_by loader) setup (shop_from (arrays_in items.now limits.now codes.now lens.now))) result.refusal (born_of ws.new val.new cw.new bw.new (counts_in result) births.new result.compiles) }
 {
-    capi::lk_compile(attached, atcs, timer5, timer10, timer15, ws, val, cw, bw, births, nodes, commands, blocks, compiles, loader, setup, items, limits, codes, lens)
+    capi::lk_compile(
+        attached, atcs, timer5, timer10, timer15, ws, val, cw, bw, births, nodes, commands, blocks,
+        compiles, loader, setup, items, limits, codes, lens,
+    )
 }
 
 // Takes back the blocks that no root reaches by next, else and command targets: the others keep their order and get the numbers from 0 on,
@@ -131,7 +137,9 @@ pub extern "C" fn lk_reclaim(
 ) -> Kept
     ensures { ReclaimedAs (born_of ws.old val.old cw.old bw.old (counts_by nodes commands blocks) births.old compiles) roots.now moved.old result.refusal (born_of ws.new val.new cw.new bw.new (counts_in result) births.new result.compiles) moved.new }
 {
-    capi::lk_reclaim(ws, val, cw, bw, births, nodes, commands, blocks, compiles, roots, moved)
+    capi::lk_reclaim(
+        ws, val, cw, bw, births, nodes, commands, blocks, compiles, roots, moved,
+    )
 }
 
 // The arrays of a shop from any number of slots, each with a row of codes. As many slots are given as there are items; what another slice
@@ -149,7 +157,9 @@ pub extern "C" fn lk_with_slots(
 )
     ensures { arrays_in to_items.new to_limits.new to_codes.new to_lens.new ≡ twenty (arrays_in items.now limits.now codes.now lens.now) }
 {
-    capi::lk_with_slots(items, limits, codes, lens, to_items, to_limits, to_codes, to_lens)
+    capi::lk_with_slots(
+        items, limits, codes, lens, to_items, to_limits, to_codes, to_lens,
+    )
 }
 
 // The shop that starts at block setup, into the arrays; refused, those of an empty shop.
@@ -175,7 +185,10 @@ pub extern "C" fn lk_parse(
 ) -> u8
     ensures { ParsedInto (parse_in (sheet_of attached.now (sheet_by atcs timer5 timer10 timer15)) (memory_of ws.now val.now cw.now bw.now (counts_by nodes commands blocks)) setup) result (arrays_in items.new limits.new codes.new lens.new) }
 {
-    capi::lk_parse(attached, atcs, timer5, timer10, timer15, ws, val, cw, bw, nodes, commands, blocks, setup, items, limits, codes, lens)
+    capi::lk_parse(
+        attached, atcs, timer5, timer10, timer15, ws, val, cw, bw, nodes, commands, blocks, setup,
+        items, limits, codes, lens,
+    )
 }
 
 // What the shop that the arrays stand for means under a save.
@@ -198,5 +211,8 @@ pub extern "C" fn lk_preview(
 ) -> Previewed
     ensures { previewed_as result ≡ previewed_of (preview_call (sheet_of attached.now (sheet_by atcs timer5 timer10 timer15)) (slots_of (shop_from (arrays_in items.now limits.now codes.now lens.now))) (save_of counts.now held.now flags.now times.now vars.now)) }
 {
-    capi::lk_preview(attached, atcs, timer5, timer10, timer15, items, limits, codes, lens, counts, held, flags, times, vars)
+    capi::lk_preview(
+        attached, atcs, timer5, timer10, timer15, items, limits, codes, lens, counts, held, flags,
+        times, vars,
+    )
 }

@@ -24,5 +24,7 @@ pub extern "C" fn lk_settings(
 ) -> Settings
     ensures { result ≡ settings_of (settings_call (sheet_of attached.now (sheet_by atcs timer5 timer10 timer15)) (slot_of (slot_in item limit codes.now len))) }
 {
-    capi_settings::lk_settings(attached, atcs, timer5, timer10, timer15, item, limit, codes, len)
+    capi_settings::lk_settings(
+        attached, atcs, timer5, timer10, timer15, item, limit, codes, len,
+    )
 }

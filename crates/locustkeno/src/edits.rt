@@ -33,7 +33,10 @@ pub extern "C" fn lk_edit(
 ) -> u8
     ensures { record { refusal = result; arrays = arrays_in items.new limits.new codes.new lens.new } ≡ arrays_edited (table_of rights.now) (sheet_of attached.now (sheet_by atcs timer5 timer10 timer15)) (arrays_in items.old limits.old codes.old lens.old) user slot field (contents item limit entries.now len) }
 {
-    capi_rights::lk_edit(attached, atcs, timer5, timer10, timer15, rights, items, limits, codes, lens, user, slot, field, item, limit, entries, len)
+    capi_rights::lk_edit(
+        attached, atcs, timer5, timer10, timer15, rights, items, limits, codes, lens, user, slot,
+        field, item, limit, entries, len,
+    )
 }
 
 // The arrays of a shop become those of the shop as the user sees it: the words of a slot with the right to see stay, those of every other

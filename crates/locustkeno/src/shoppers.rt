@@ -38,5 +38,8 @@ pub extern "C" fn lk_shopper(
 ) -> Shopped
     ensures { left_as result answers.new coins.new (save_of items.new held.new flags.now times.now vars.new) ≡ left_by (shopping_call (sheet_of attached.now (sheet_by atcs timer5 timer10 timer15)) (slots_of (shop_from (arrays_in wares.now limits.now codes.now lens.now))) (save_of items.old held.old flags.now times.now vars.old) (tariff_of prices.now discount) money wishes.now) answers.old coins.old }
 {
-    capi_shopper::lk_shopper(attached, atcs, timer5, timer10, timer15, wares, limits, codes, lens, items, held, flags, times, vars, prices, discount, money, wishes, answers, coins)
+    capi_shopper::lk_shopper(
+        attached, atcs, timer5, timer10, timer15, wares, limits, codes, lens, items, held, flags,
+        times, vars, prices, discount, money, wishes, answers, coins,
+    )
 }

@@ -24,5 +24,7 @@ pub extern "C" fn lk_check(
 ) -> Checked
     ensures { result ≡ checked_of (check_call (sheet_of attached.now (sheet_by atcs timer5 timer10 timer15)) (slots_of (shop_from (arrays_in items.now limits.now codes.now lens.now)))) }
 {
-    capi_signed::lk_check(attached, atcs, timer5, timer10, timer15, items, limits, codes, lens)
+    capi_signed::lk_check(
+        attached, atcs, timer5, timer10, timer15, items, limits, codes, lens,
+    )
 }

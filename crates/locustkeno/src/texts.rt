@@ -6,9 +6,9 @@ ghost use Rattle.shop_arrays.specs.Arrays.{arrays_in, arrays_of, items_of};
 ghost use Rattle.text_model.specs.Text.{read_text};
 ghost use Rattle.capi_text.specs.Calls.{read_call, few, print_call};
 
+use capi_text::TextRead;
 use shop::{Codes, SLOTS};
 use slots_text::Text;
-use capi_text::TextRead;
 
 // The shop of a text into its arrays. Refused, they are as they were.
 #[unsafe(no_mangle)]

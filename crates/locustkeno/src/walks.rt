@@ -7,9 +7,9 @@ ghost use Rattle.lanes_model.specs.Flat.{walk_in, left_by};
 ghost use Rattle.capi_values.specs.Values.{sheet_by, counts_by};
 ghost use Rattle.capi_lanes.specs.Answers.{left_as};
 
+use capi_lanes::Walked;
 use lanes_expr::LANES;
 use memory::{BlockWords, CommandWords, NodeWords, Values};
-use capi_lanes::Walked;
 
 // Runs the blocks from setup on for that many saves, whose parts lie one behind another, with a budget of 4,096 each. Every save's refusal and count go to its place in two arrays, whose places past the last save are left alone. Refused, nothing is written.
 #[unsafe(no_mangle)]
@@ -38,5 +38,8 @@ pub extern "C" fn lk_run_all(
 ) -> Walked
     ensures { left_as result refusals.new entered.new vars.new ≡ left_by (walk_in (sheet_of attached.now (sheet_by atcs timer5 timer10 timer15)) (memory_of ws.now val.now cw.now bw.now (counts_by nodes commands blocks)) setup saves (save_of items.now held.now flags.now times.now vars.old)) refusals.old entered.old vars.old }
 {
-    capi_lanes::lk_run_all(attached, atcs, timer5, timer10, timer15, ws, val, cw, bw, nodes, commands, blocks, setup, saves, items, held, flags, times, vars, refusals, entered)
+    capi_lanes::lk_run_all(
+        attached, atcs, timer5, timer10, timer15, ws, val, cw, bw, nodes, commands, blocks, setup,
+        saves, items, held, flags, times, vars, refusals, entered,
+    )
 }

@@ -22,7 +22,8 @@ use Rattle.compile.specs.Answer.{call_of, CompiledAs}
 use Rattle.reclaim_record.proofs.Stands.{LongBorn}
 use Rattle.reclaim_record.proofs.Compiles.{passed_in}
 use Rattle.capi.specs.Answers.{loader_by}
-use Rattle.library.specs.Delivered.{delivered, left_by, shop_of, shop_long}
+use Rattle.library.specs.Delivered.{left_by, shop_of}
+use Rattle.library.proofs.Delivered.{delivered, shop_long}
 use Rattle.moves_model.proofs.Again.{shifted}
 use Rattle.moves_model.proofs.Shifted.{shop_shifted}
 use Rattle.moves_model.proofs.Settles.{shop_again}

@@ -14,7 +14,8 @@ use Rattle.model.proofs.Laws.Lists.{none≢some}
 use Rattle.reclaim_record.proofs.Stands.{LongBorn}
 use Rattle.capi.specs.declared.Ran.{Ran}
 use Rattle.capi.specs.Answers.{ran_as}
-use Rattle.library.specs.Delivered.{Asked, compile, reclaim, Made, AsPromised, delivered, given_by, left_by, made, shop_long}
+use Rattle.library.specs.Delivered.{Asked, compile, reclaim, Made, AsPromised, given_by, left_by, made}
+use Rattle.library.proofs.Delivered.{delivered, shop_long}
 use Rattle.moves_model.specs.OneMore.{OneMore, Differ}
 use Rattle.moves_model.proofs.Differs.{means_differ}
 

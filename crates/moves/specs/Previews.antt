@@ -18,7 +18,8 @@ use Rattle.preview.specs.Accepted.{counts_are, items_are, with_all}
 use Rattle.shop_arrays.specs.Arrays.{Arrays}
 use Rattle.capi.specs.declared.Previewed.{Previewed}
 use Rattle.capi.specs.Answers.{previewed_as}
-use Rattle.library.specs.Delivered.{shop_of, shop_long}
+use Rattle.library.specs.Delivered.{shop_of}
+use Rattle.library.proofs.Delivered.{shop_long}
 use Rattle.moves_model.specs.OneMore.{Lower, OneMore, same, stocks}
 use Rattle.moves_model.proofs.Held.{after_lower, slot_near}
 

@@ -21,7 +21,8 @@ use Rattle.settings.specs.declared.Settings.{Settings}
 use Rattle.settings.specs.Answer.{settings_of}
 use Rattle.capi.specs.declared.Ran.{Ran}
 use Rattle.capi.specs.Answers.{ran_as}
-use Rattle.library.specs.Delivered.{AsPromised, Made, means_of, made}
+use Rattle.library.specs.Delivered.{AsPromised, Made, made}
+use Rattle.library.proofs.Delivered.{means_of}
 
 -- lk_settings answered q for the slot x, without a refusal: each number is the plain count over all combinations
 pub record Counted (h : Sheet) (x : Slot) (q : Settings) : Type 0 where

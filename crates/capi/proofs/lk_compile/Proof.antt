@@ -4,7 +4,13 @@ use Rattle.capi.proofs.lk_compile.Statement.{statement}
 use Rattle.capi.proofs.lk_compile.Tie as tie
 
 returns : tie.Need-returns
-returns c = rw c.kept_by.ensures (rw (c.before.before.before.before.before.before.before.before.before.before.sheet-by.ensures, c.before.before.before.before.before.before.before.before.before.counts-by.ensures, c.before.before.before.loader-by.ensures) at c.before.before.compile-arrays.ensures)
+returns c = rw c.kept_by.ensures (rw (c.sheet_by-sheet.ensures, c.counts_by-counts.ensures, c.loader_by.ensures) at c.compile_arrays-r.ensures)
 
-pub lk-compile-spec : {M : Type 1} → statement M
-lk-compile-spec = tie.close (tie.spec (λ c κs. search rules) (λ c κs. search rules) (λ c κs. search rules) (λ c κs. search rules) (λ c κs. search rules) returns)
+pub lk_compile_spec : {M : Type 1} → statement M
+lk_compile_spec = tie.close (tie.spec
+    (λ c κs. search rules)
+    (λ c κs. search rules)
+    (λ c κs. search rules)
+    (λ c κs. search rules)
+    (λ c κs. search rules)
+    returns)

@@ -4,7 +4,11 @@ use Rattle.capi.proofs.lk_parse.Statement.{statement}
 use Rattle.capi.proofs.lk_parse.Tie as tie
 
 returns : tie.Need-returns
-returns c = rw (c.before.before.before.before.before.before.sheet-by.ensures, c.before.before.before.before.before.counts-by.ensures) at c.parse-arrays.ensures
+returns c = rw (c.sheet_by-sheet.ensures, c.counts_by-counts.ensures) at c.parse_arrays.ensures
 
-pub lk-parse-spec : {M : Type 1} → statement M
-lk-parse-spec = tie.close (tie.spec (λ c κs. search rules) (λ c κs. search rules) (λ c κs. search rules) returns)
+pub lk_parse_spec : {M : Type 1} → statement M
+lk_parse_spec = tie.close (tie.spec
+    (λ c κs. search rules)
+    (λ c κs. search rules)
+    (λ c κs. search rules)
+    returns)

@@ -5,7 +5,11 @@ use Rattle.capi.proofs.lk_preview.Statement.{statement}
 use Rattle.capi.proofs.lk_preview.Tie as tie
 
 returns : tie.Need-returns
-returns c = c.previewed-by.ensures ∙ rw c.before.before.sheet-by.ensures at c.before.preview-arrays.ensures
+returns c = c.previewed_by.ensures ∙ rw c.sheet_by-sheet.ensures at c.preview_arrays-r.ensures
 
-pub lk-preview-spec : {M : Type 1} → statement M
-lk-preview-spec = tie.close (tie.spec (λ c κs. search rules) (λ c κs. search rules) (λ c κs. search rules) returns)
+pub lk_preview_spec : {M : Type 1} → statement M
+lk_preview_spec = tie.close (tie.spec
+    (λ c κs. search rules)
+    (λ c κs. search rules)
+    (λ c κs. search rules)
+    returns)

@@ -12,21 +12,21 @@ use Rattle.capi.proofs.lk_read.Tie as tie
 abbrev defined : tie.Start → Outcome
 defined s = read_into (empty_in s.args.ws.now s.args.val.now s.args.cw.now s.args.bw.now) (read_image s.args.bytes.now)
 
-returns : tie.Need-returns
+returns : tie.Need-returns-in-Read
 returns c =
-    let d = c.before.before.before.before in
+    let d = c.before.before in
     let s = d.before.before.before.before.before.before.before.before in
-    rw c.kept_by.ensures (read_fine _ _ _ _ _ {o = defined s} _ d.read-script.ensures c.before.before.r.given.1, d.before.before.before.before.before.start-anew.ensures, refl)
+    rw c.kept_by.ensures (read_fine _ _ _ _ _ {o = defined s} _ d.read_script-r.ensures c.in-Read.is, d.start_anew.ensures, refl)
 
-returns-2 : tie.Need-returns-2
+returns-2 : tie.Need-returns-in-No
 returns-2 c =
-    let d = c.before.before.before.before.before in
+    let d = c.before.before.before in
     let s = d.before.before.before.before.before.before.before.before in
-    rw (c.kept-by2.ensures, c.before.counts-by.ensures)
-    (read_refused _ _ _ _ _ (empty_in s.args.ws.now s.args.val.now s.args.cw.now s.args.bw.now) s.args.bytes.now _ d.read-script.ensures c.before.before.before.r2.given.1, d.before.before.before.before.before.start-anew.ensures, refl)
+    rw (c.kept_by-in-No.ensures, c.counts_by.ensures)
+    (read_refused _ _ _ _ _ (empty_in s.args.ws.now s.args.val.now s.args.cw.now s.args.bw.now) s.args.bytes.now _ d.read_script-r.ensures c.in-No.is, d.start_anew.ensures, refl)
 
-pub lk-read-spec : {M : Type 1} → statement M
-lk-read-spec =
+pub lk_read_spec : {M : Type 1} → statement M
+lk_read_spec =
     tie.close
     (tie.spec
     (λ c κs. search rules)

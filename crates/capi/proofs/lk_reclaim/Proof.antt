@@ -4,7 +4,11 @@ use Rattle.capi.proofs.lk_reclaim.Statement.{statement}
 use Rattle.capi.proofs.lk_reclaim.Tie as tie
 
 returns : tie.Need-returns
-returns c = let s = c.before.before.before.before.before.before.before.before.before.before.before in rw c.kept_by.ensures (rw c.before.before.before.before.before.before.before.before.before.counts-by.ensures at (c.before.before.reclaim.ensures s.args.compiles))
+returns c = let s = c.before.before.before.before.before.before.before.before.before.before.before in rw c.kept_by.ensures (rw c.counts_by-counts.ensures at (c.reclaim-r.ensures s.args.compiles))
 
-pub lk-reclaim-spec : {M : Type 1} → statement M
-lk-reclaim-spec = tie.close (tie.spec (λ c κs. search rules) (λ c κs. search rules) (λ c κs. search rules) returns)
+pub lk_reclaim_spec : {M : Type 1} → statement M
+lk_reclaim_spec = tie.close (tie.spec
+    (λ c κs. search rules)
+    (λ c κs. search rules)
+    (λ c κs. search rules)
+    returns)

@@ -4,7 +4,12 @@ use Rattle.capi.proofs.lk_run.Statement.{statement}
 use Rattle.capi.proofs.lk_run.Tie as tie
 
 returns : tie.Need-returns
-returns c = rw (c.before.before.before.before.sheet-by.ensures, c.before.before.before.counts-by.ensures) at c.before.run.ensures
+returns c = rw (c.sheet_by-sheet.ensures, c.counts_by-counts.ensures) at c.run-r.ensures
 
-pub lk-run-spec : {M : Type 1} → statement M
-lk-run-spec = tie.close (tie.spec (λ c κs. search rules) (λ c κs. search rules) (λ c κs. search rules) (λ c. search rules) returns)
+pub lk_run_spec : {M : Type 1} → statement M
+lk_run_spec = tie.close (tie.spec
+    (λ c κs. search rules)
+    (λ c κs. search rules)
+    (λ c κs. search rules)
+    (λ c. search rules)
+    returns)

@@ -4,7 +4,11 @@ use Rattle.capi.proofs.lk_write.Statement.{statement}
 use Rattle.capi.proofs.lk_write.Tie as tie
 
 returns : tie.Need-returns
-returns c = rw c.before.before.before.before.counts-by.ensures at c.before.before.write-script.ensures
+returns c = rw c.counts_by-counts.ensures at c.write_script-w.ensures
 
-pub lk-write-spec : {M : Type 1} → statement M
-lk-write-spec = tie.close (tie.spec (λ c κs. search rules) (λ c κs. search rules) (λ c. search rules) returns)
+pub lk_write_spec : {M : Type 1} → statement M
+lk_write_spec = tie.close (tie.spec
+    (λ c κs. search rules)
+    (λ c κs. search rules)
+    (λ c. search rules)
+    returns)

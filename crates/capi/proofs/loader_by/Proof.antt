@@ -11,8 +11,10 @@ other : (n : ℕ) → (n ≡ 0 → ⊥) → Demo ≡ loader_by n
 other zero d = absurd (d refl)
 other (suc n) d = refl
 
-returns-2 : tie.Need-returns-2
-returns-2 c = other c.before.args.number c.match.rest.1
+returns-2 : tie.Need-returns-in_default
+returns-2 c = other c.args.number c.in_default.in_default-own.rest.1
 
-pub loader-by-spec : {M : Type 1} → statement M
-loader-by-spec = tie.close (tie.spec (λ c. search rules) returns-2)
+pub loader_by_spec : {M : Type 1} → statement M
+loader_by_spec = tie.close (tie.spec
+    (λ c. search rules)
+    returns-2)

@@ -22,13 +22,13 @@ sheet s = sheet_of s.args.attached.now s.args.sheet
 
 -- the arrays as they were cleared, as the walk leaves them, and as they were cleared after it
 abbrev cleared : tie.After-clear_arrays → Arrays
-cleared c = let l = c.clear_arrays.new in arrays_in l.0 l.1.0 l.1.1.0 l.1.1.1.0
+cleared c = let l = c.clear_arrays.new in arrays_in l.items l.limits l.codes l.lens
 
 abbrev walked : tie.After-walk-w → Arrays
-walked c = let l = c.walk-w.new.1.1.1.1 in arrays_in l.0 l.1.0 l.1.1.0 l.1.1.1.0
+walked c = let l = c.walk-w.new in arrays_in l.items l.limits l.codes l.lens
 
 abbrev cleared2 : tie.After-clear_arrays-then-w-ne0 → Arrays
-cleared2 c = let l = c.clear_arrays-then-w-ne0.new in arrays_in l.0 l.1.0 l.1.1.0 l.1.1.1.0
+cleared2 c = let l = c.clear_arrays-then-w-ne0.new in arrays_in l.items l.limits l.codes l.lens
 
 -- no check refuses
 passes : (c : tie.Else-refused-ne0) → let s = c.before.before.before.before.before.before.before.before in call_in (sheet s) (memory s) s.args.setup.0 ≡ 0
@@ -45,30 +45,24 @@ walk-requires c κs =
     let c1 = c.before.before.before.before in
     let c2 = c1.before.before in
     let c3 = c2.before.before.before.before.before.before in
-    let s = c3 in
-    let p = call_passed (sheet s) (memory s) s.args.setup.0 (passes (c1)) in
+    let p = call_passed (sheet c3) (memory c3) c3.args.setup.0 (passes c1) in
     ((record { blocks = p.blocks; rest = p.rest; is = p.judged }, ap shop_from {x = cleared c2} c2.clear_arrays.ensures ∙ shop_none), p.inside)
 
 returns-2 : tie.Need-returns-then-w-ne0
 returns-2 c =
-    let c1 = c.before.before.before.before.before in
-    let c2 = c1.before.before in
-    let c3 = c2.before.before.before.before.before in
+    let c3 = c.before.before.before.before.before.before.before.before.before.before.before.before in
     let c4 = c3.before.before.before.before.before.before.before.before in
-    let s = c4 in
-    let w = c2.walk-w.ensures (sheet s) (record { items = items_counted s.args.attached.now s.args.sheet; atcs = atcs_counted s.args.attached.now s.args.sheet }) in
-    parse_stopped (sheet s) (memory s) s.args.setup.0 _ (passes (c3)) w.answer c1.if-w-ne0.true (cleared2 c) c.clear_arrays-then-w-ne0.ensures
+    let w = c.walk-w.ensures (sheet c4) (record { items = items_counted c4.args.attached.now c4.args.sheet; atcs = atcs_counted c4.args.attached.now c4.args.sheet }) in
+    parse_stopped (sheet c4) (memory c4) c4.args.setup.0 _ (passes c3) w.answer c.if-w-ne0.true (cleared2 c) c.clear_arrays-then-w-ne0.ensures
 
 returns-3 : tie.Need-returns
 returns-3 c =
-    let c1 = c.before.before.before.before.before in
-    let c2 = c1.before.before in
+    let c2 = c.before.before.before in
     let c3 = c2.before.before.before.before.before in
-    let c4 = c3.before.before.before.before in
-    let s = c4 in
-    let o = c1.if2.false in
-    let w = c2.walk.ensures (sheet s) (record { items = items_counted s.args.attached.now s.args.sheet; atcs = atcs_counted s.args.attached.now s.args.sheet }) in
-    parse_read (sheet s) (memory s) s.args.setup.0 _ (walked c2) (passes (c3)) w.answer o (w.slots o) c.sizes.ensures (w.good o)
+    let c4 = c3.before.before.before.before.before.before.before.before in
+    let o = c.if-w-ne0.false in
+    let w = c.walk-w.ensures (sheet c4) (record { items = items_counted c4.args.attached.now c4.args.sheet; atcs = atcs_counted c4.args.attached.now c4.args.sheet }) in
+    parse_read (sheet c4) (memory c4) c4.args.setup.0 _ (walked c2) (passes c3) w.answer o (w.slots o) c.sizes.ensures (w.good o)
 
 pub parse_arrays_spec : {M : Type 1} → statement M
 parse_arrays_spec =

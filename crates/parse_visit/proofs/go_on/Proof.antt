@@ -27,11 +27,10 @@ add-t34 : tie.Need-overflow_add-result-2
 add-t34 c = omega (arith, c.requires.0.1.0)
 
 returns-2 : tie.Need-returns
-returns-2 c =
-    (
-      (λ seen alive f hold low. left_joined c.args.ws.now c.args.val.now _ _ _ _ _ _ f hold low c.requires.1.0 _ _ _ _ _ _ (c.reads_on.ensures.yes c.if-not-reads_on.false).1.0 c.join-j.ensures _ _ _ _ (omega arith) (omega arith)),
-      (c.block_word.ensures, c.block_word-2.ensures),
-    )
+returns-2 c = (
+  (λ seen alive f hold low. left_joined c.args.ws.now c.args.val.now _ _ _ _ _ _ f hold low c.requires.1.0 _ _ _ _ _ _ (c.reads_on.ensures.yes c.if-not-reads_on.false).1.0 c.join-j.ensures _ _ _ _ (omega arith) (omega arith)),
+  (c.block_word.ensures, c.block_word-2.ensures),
+)
 
 pub go_on_spec : {M : Type 1} → statement M
 go_on_spec =

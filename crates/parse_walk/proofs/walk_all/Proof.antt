@@ -238,8 +238,7 @@ loop-less c =
 loop-again : tie.Need-loop-depth-preserved invariant-loop decreases-loop
 loop-again c =
     let c11 = c.before.before.before.before.before.before.before.before.before.before.before.before.before.before.before.before.before.before.before.before.before.before.before.before.before in
-    let c13 = c11.before.before.before.before.before.before.before.before.before.before.before.before.before.before.before.before.before in
-    (
+    let c13 = c11.before.before.before.before.before.before.before.before.before.before.before.before.before.before.before.before.before in (
       turns c13.loop-depth.invariant.0 c13.top_unmarked-top.ensures c13.if-top-eq0.false refl refl (coded c13) c13.loop-depth.invariant.1 {t' = tablesLeft c11} {marks' = marksLeft c11} {s' = slotsLeft c11}
           (c11.visit-v.ensures c13.loop-depth.invariant.0.conditions c13.loop-depth.invariant.0.holding) c.if-w-ne0.false c.push-depth.ensures (omega (arith, c11.if-stack-d.false))
           c.stack-1.given,

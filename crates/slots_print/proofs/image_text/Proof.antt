@@ -5,28 +5,28 @@ use borrow.Author.Rules.{rules}
 use Rattle.slots_print.proofs.image_text.Statement.{statement}
 use Rattle.slots_print.proofs.image_text.Tie as tie
 
-returns : tie.Need-returns
+returns : tie.Need-returns-in-Read
 returns c =
-    let k = c.before.before.before.before.before.before.before in
+    let k = c.before.before.before.before.before in
     let a = k.before.before in
-    let l = a.before.before.before.before.before in
-    let s = l.before.before.before.before.before.before in
+    let l = a.before.before.before in
+    let s = l in
     printed_as
     (image_parsed s.args.input.now s.args.h s.args.attached.now s.requires _ _ _ _ _ _ _ _ _ a.read-script.ensures l.known-arrays.ensures k.k.given.0.0 k.k.given.1)
-    c.parsed-text.ensures
+    c.parsed_text.ensures
 
-returns-2 : tie.Need-returns-2
+returns-2 : tie.Need-returns-in-No
 returns-2 c =
     let k = c.before.before.before in
-    let a = k.before.before in
+    let a = k.before in
     let l = a.before.before.before.before.before in
-    let s = l.before.before.before.before.before.before in
+    let s = l.before.before in
     printed_as
-    (image_no s.args.input.now s.args.h s.args.attached.now s.requires _ _ _ _ _ _ _ _ _ a.read-script.ensures k.k2.given.0.0 k.k2.given.1)
-    (printed_refused _ c.Put-refused.ensures)
+    (image_no s.args.input.now s.args.h s.args.attached.now s.requires _ _ _ _ _ _ _ _ _ a.read_script-k.ensures k.in-No.e k.in-No.is)
+    (printed_refused _ c.put_refused.ensures)
 
-pub image-text-spec : {M : Type 1} → statement M
-image-text-spec =
+pub image_text_spec : {M : Type 1} → statement M
+image_text_spec =
     tie.close
     (tie.spec
     (λ c κs. search rules)

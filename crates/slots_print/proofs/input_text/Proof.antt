@@ -8,29 +8,29 @@ use borrow.Author.Rules.{rules}
 use Rattle.slots_print.proofs.input_text.Statement.{statement}
 use Rattle.slots_print.proofs.input_text.Tie as tie
 
-returns : tie.Need-returns
-returns c = printed_as (sym (slots_long c.before.before.before.before.args.input.now (omega arith))) (printed_refused 3 c.Put-refused.ensures)
+returns : tie.Need-returns-then-input-gt-INPUT
+returns c = printed_as (sym (slots_long c.args.input.now (omega arith))) (printed_refused 3 c.put_refused.ensures)
 
-returns-2 : tie.Need-returns-2
+returns-2 : tie.Need-returns-then-h-ne0
 returns-2 c =
     let a = c.before.before.before.before in
     let s = a.before.before.before.before in
     printed_as
-    (sym (slots_head_no s.args.input.now (omega (arith, a.before.before.if1.false)) _ (was_refused s.args.input.now s.args.attached.now a.read-heading.result _ a.read-heading.ensures.0 c.before.before.if2.true)))
-    (printed_refused _ c.put-refused2.ensures)
+    (sym (slots_head_no s.args.input.now (omega (arith, a.if-input-gt-INPUT.false)) _ (was_refused s.args.input.now s.args.attached.now a.read_heading-h.result _ a.read_heading-h.ensures.0 c.if-h-ne0.true)))
+    (printed_refused _ c.put_refused-then-h-ne0.ensures)
 
-script-text-requires : tie.Need-script-text-requires
+script-text-requires : tie.Need-script_text-requires
 script-text-requires c κs =
     let a = c.before.before.before.before in
-    let s = a.before.before.before.before in
+    let s = a.before.before.before in
     record {
-      short = omega (arith, a.before.before.if1.false);
+      short = omega (arith, a.if-input-gt-INPUT.false);
       lent = a.read-heading.ensures.1.lent;
-      read = was_read s.args.input.now s.args.attached.now a.read-heading.result _ a.read-heading.ensures.0 c.before.before.if2.false;
+      read = was_read s.args.input.now s.args.attached.now a.read-heading.result _ a.read-heading.ensures.0 c.if-h-ne0.false;
     }
 
-pub input-text-spec : {M : Type 1} → statement M
-input-text-spec =
+pub input_text_spec : {M : Type 1} → statement M
+input_text_spec =
     tie.close
     (tie.spec
     (λ c κs. search rules)

@@ -21,25 +21,25 @@ parsed s =
     s.args.h.setup
 
 -- the answer of the parse has twenty slots
-size : (c : tie.After-parse) → length c.parse.result.shop.slots ≡ 20
+size : (c : tie.After-parse-p) → length c.parse-p.result.shop.slots ≡ 20
 size c = search (length_mapped, rules)
 
-slice-aggregate-parse : tie.Need-slice-aggregate-parse
-slice-aggregate-parse c = let s = c.before.before.before.before in sym (length-take-le s.args.h.items s.args.attached.now s.requires)
+slice-aggregate-parse : tie.Need-slice_bounds-parse-end
+slice-aggregate-parse c = let s = c.before.before.before in sym (length-take-le s.args.h.items s.args.attached.now s.requires)
 
-returns : tie.Need-returns
-returns c = let a = c.before.before.before.before in printed_as (text_refused {p = parsed a.before.before.before.before.before} a.parse.ensures c.before.before.if1.true) (printed_refused _ c.Put-refused.ensures)
+returns : tie.Need-returns-then-p-ne0
+returns c = let a = c.before.before.before.before in printed_as (text_refused {p = parsed a.before.before.before.before} a.parse-p.ensures c.if-p-ne0.true) (printed_refused _ c.put_refused.ensures)
 
-put-slots-requires : tie.Need-put-slots-requires
-put-slots-requires c κs = let a = c.before.before.before.before in few_each a.parse.result.shop a.parse.ensures.good
+put-slots-requires : tie.Need-put_slots-requires
+put-slots-requires c κs = let a = c.before.before.before.before in few_each a.parse-p.result.shop a.parse-p.ensures.good
 
-returns-2 : tie.Need-returns-2
+returns-2 : tie.Need-returns
 returns-2 c =
     let a = c.before.before.before.before.before in
-    printed_as (text_lines {p = parsed a.before.before.before.before.before} a.parse.ensures c.before.before.before.if1.false) (printed_lines a.parse.result.shop (size a) a.parse.ensures.good c.put-slots.ensures)
+    printed_as (text_lines {p = parsed a.before.before.before.before} a.parse-p.ensures c.if-p-ne0.false) (printed_lines a.parse-p.result.shop (size a) a.parse-p.ensures.good c.put_slots.ensures)
 
-pub parsed-text-spec : {M : Type 1} → statement M
-parsed-text-spec =
+pub parsed_text_spec : {M : Type 1} → statement M
+parsed_text_spec =
     tie.close
     (tie.spec
     (λ c. search rules)

@@ -3,14 +3,14 @@ use Rattle.std.proofs.Common.{◌-◌, ◌≤◌, rules}
 use Rattle.calls_cases.proofs.calls.requirements.Statement.{statement}
 use Rattle.calls_cases.proofs.calls.requirements.Tie as tie
 
-abbrev invariant-loop : tie.invariant-loop
+abbrev invariant-loop : tie.invariant-loop-i
 invariant-loop n t₀ codes i₀ t i = i ≤ n
 
-abbrev decreases-loop : tie.decreases-loop
+abbrev decreases-loop : tie.decreases-loop-i
 decreases-loop n t₀ codes i₀ t i = n - i
 
-pub requirements-spec : {M : Type 1} → statement M
-requirements-spec =
+pub requirements_spec : {M : Type 1} → statement M
+requirements_spec =
     tie.close
     (tie.spec
     invariant-loop

@@ -3,14 +3,14 @@ use Rattle.std.proofs.Common.{◌-◌, rules}
 use Rattle.calls_cases.proofs.calls.sevens.Statement.{statement}
 use Rattle.calls_cases.proofs.calls.sevens.Tie as tie
 
-abbrev invariant-loop : tie.invariant-loop
+abbrev invariant-loop : tie.invariant-loop-i
 invariant-loop a n i₀ i = Unit {0}
 
-abbrev decreases-loop : tie.decreases-loop
+abbrev decreases-loop : tie.decreases-loop-i
 decreases-loop a n i₀ i = 65600 - i
 
-pub sevens-spec : {M : Type 1} → statement M
-sevens-spec =
+pub sevens_spec : {M : Type 1} → statement M
+sevens_spec =
     tie.close
     (tie.spec
     invariant-loop

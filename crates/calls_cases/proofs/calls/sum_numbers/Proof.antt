@@ -3,14 +3,14 @@ use Rattle.std.proofs.Common.{◌-◌, ◌≤◌, length, rules}
 use Rattle.calls_cases.proofs.calls.sum_numbers.Statement.{statement}
 use Rattle.calls_cases.proofs.calls.sum_numbers.Tie as tie
 
-abbrev invariant-loop : tie.invariant-loop
+abbrev invariant-loop : tie.invariant-loop-i
 invariant-loop s from h₀ i₀ h i = i ≤ length s
 
-abbrev decreases-loop : tie.decreases-loop
+abbrev decreases-loop : tie.decreases-loop-i
 decreases-loop s from h₀ i₀ h i = length s - i
 
-pub sum-numbers-spec : {M : Type 1} → statement M
-sum-numbers-spec =
+pub sum_numbers_spec : {M : Type 1} → statement M
+sum_numbers_spec =
     tie.close
     (tie.spec
     invariant-loop

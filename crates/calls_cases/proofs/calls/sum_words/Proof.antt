@@ -3,14 +3,14 @@ use Rattle.std.proofs.Common.{◌-◌, ◌≤◌, length, rules}
 use Rattle.calls_cases.proofs.calls.sum_words.Statement.{statement}
 use Rattle.calls_cases.proofs.calls.sum_words.Tie as tie
 
-abbrev invariant-loop : tie.invariant-loop
+abbrev invariant-loop : tie.invariant-loop-i
 invariant-loop s from h₀ i₀ h i = i ≤ length s
 
-abbrev decreases-loop : tie.decreases-loop
+abbrev decreases-loop : tie.decreases-loop-i
 decreases-loop s from h₀ i₀ h i = length s - i
 
-pub sum-words-spec : {M : Type 1} → statement M
-sum-words-spec =
+pub sum_words_spec : {M : Type 1} → statement M
+sum_words_spec =
     tie.close
     (tie.spec
     invariant-loop

@@ -3,14 +3,14 @@ use Rattle.std.proofs.Common.{◌-◌, ◌≤◌, rules}
 use Rattle.calls_cases.proofs.changes.once.Statement.{statement}
 use Rattle.calls_cases.proofs.changes.once.Tie as tie
 
-abbrev invariant-loop : tie.invariant-loop
+abbrev invariant-loop : tie.invariant-loop-i
 invariant-loop a image₀ from last at₀ i₀ image at i = i ≤ 200
 
-abbrev decreases-loop : tie.decreases-loop
+abbrev decreases-loop : tie.decreases-loop-i
 decreases-loop a image₀ from last at₀ i₀ image at i = 201 - i
 
-pub once-spec : {M : Type 1} → statement M
-once-spec =
+pub once_spec : {M : Type 1} → statement M
+once_spec =
     tie.close
     (tie.spec
     invariant-loop

@@ -3,14 +3,14 @@ use Rattle.std.proofs.Common.{◌≡◌, length, rules}
 use Rattle.calls_cases.proofs.changes.rows.Statement.{statement}
 use Rattle.calls_cases.proofs.changes.rows.Tie as tie
 
-abbrev invariant-loop : tie.invariant-loop
+abbrev invariant-loop : tie.invariant-loop-left
 invariant-loop here words₀ from size a₀ at₀ left₀ words a at left = length words ≡ length words₀
 
-abbrev decreases-loop : tie.decreases-loop
+abbrev decreases-loop : tie.decreases-loop-left
 decreases-loop here words₀ from size a₀ at₀ left₀ words a at left = left
 
-pub rows-spec : {M : Type 1} → statement M
-rows-spec =
+pub rows_spec : {M : Type 1} → statement M
+rows_spec =
     tie.close
     (tie.spec
     invariant-loop

@@ -3,10 +3,10 @@ use Rattle.std.proofs.Common.{◌-◌, rules}
 use Rattle.calls_cases.proofs.reclaims.fill.Statement.{statement}
 use Rattle.calls_cases.proofs.reclaims.fill.Tie as tie
 
-abbrev invariant-loop : tie.invariant-loop
+abbrev invariant-loop : tie.invariant-loop-i
 invariant-loop a roots₀ n root₀ i₀ roots root i = Unit {0}
 
-abbrev decreases-loop : tie.decreases-loop
+abbrev decreases-loop : tie.decreases-loop-i
 decreases-loop a roots₀ n root₀ i₀ roots root i = n - i
 
 pub fill_spec : {M : Type 1} → statement M
