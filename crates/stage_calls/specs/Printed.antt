@@ -63,17 +63,19 @@ module _ (s ks : List ℕ) (r : Headed) (ks' : List ℕ) (head : HeadReadBy s ks
   -- ---- both read
 
   module _ (read : k.refusal ≡ 0) where
-    as_read : outcome (Read (counts_in k)) b.ws b.val b.cw b.bw ≡ read_into (empty a) (read_image (drop r.at s))
-    unfolding read_as outcome
-    as_read = rw read at image.0
-
-    as_parsed : slots s ≡ parsed_text (parse_in (head_in r ks').sheet (kept b k) r.setup)
-    as_parsed =
-        let z = read_stands a.ws a.val a.cw a.bw long b.ws b.val b.cw b.bw (drop r.at s) (counts_in k) as_read in
-        slots_parsed s given.short (head_in r ks') (drop r.at s) given.read z.blocks z.rest z.read
-        ∙ sym (ap parsed_text (z.parses (head_in r ks').sheet r.setup))
+    text_is : slots s ≡ parsed_text (parse_in (head_in r ks').sheet (kept b k) r.setup) → (n : ℕ) (x : Arrays) → ParsedInto (parse_in (head_in r ks').sheet (kept b k) r.setup) n x → slots s ≡ answer_text n (slots_of (shop_from x))
+    text_is e zero x p = e ∙ sym (text_lines p.stands refl)
+    text_is e (suc n) x p = e ∙ sym (text_refused p.stands (λ e. omega arith))
 
     -- n and x are what lk_parse answered and left in the arrays of a shop
     pub printed : (n : ℕ) (x : Arrays) → ParsedInto (parse_in (head_in r ks').sheet (kept b k) r.setup) n x → slots s ≡ answer_text n (slots_of (shop_from x))
-    printed zero x p = as_parsed ∙ sym (text_lines p.stands refl)
-    printed (suc n) x p = as_parsed ∙ sym (text_refused p.stands (λ e. omega arith))
+    unfolding read_as outcome
+    printed n x p =
+        let as_read : outcome (Read (counts_in k)) b.ws b.val b.cw b.bw ≡ read_into (empty a) (read_image (drop r.at s)) = rw read at image.0 in
+        let z = read_stands a.ws a.val a.cw a.bw long b.ws b.val b.cw b.bw (drop r.at s) (counts_in k) as_read in
+        text_is
+        (slots_parsed s given.short (head_in r ks') (drop r.at s) given.read z.blocks z.rest z.read
+        ∙ sym (ap parsed_text (z.parses (head_in r ks').sheet r.setup)))
+        n
+        x
+        p

@@ -5,14 +5,14 @@ use borrow.Author.Rules.{rules}
 use Rattle.replay.proofs.all_lists.Statement.{statement}
 use Rattle.replay.proofs.all_lists.Tie as tie
 
-abbrev invariant-loop : tie.invariant-loop
+abbrev invariant-loop : tie.invariant-loop-i
 invariant-loop s at ws₀ val₀ cw₀ bw₀ births₀ n t₀ i₀ ws val cw bw births t i = (i ≤ n.value) × Fair i t
 
-abbrev decreases-loop : tie.decreases-loop
+abbrev decreases-loop : tie.decreases-loop-i
 decreases-loop s at ws₀ val₀ cw₀ bw₀ births₀ n t₀ i₀ ws val cw bw births t i = n.value - i
 
-pub all-lists-spec : {M : Type 1} → statement M
-all-lists-spec =
+pub all_lists_spec : {M : Type 1} → statement M
+all_lists_spec =
     tie.close
     (tie.spec
     invariant-loop

@@ -6,11 +6,11 @@ use borrow.Author.Rules.{rules}
 use Rattle.replay.proofs.compiles.Statement.{statement}
 use Rattle.replay.proofs.compiles.Tie as tie
 
-slice-aggregate-all-compiles : tie.Need-slice-aggregate-all-compiles
+slice-aggregate-all-compiles : tie.Need-slice_bounds-all_compiles-end
 slice-aggregate-all-compiles c = sym (length-take-le _ _ (omega arith))
 
-pub compiles-spec : {M : Type 1} → statement M
-compiles-spec =
+pub compiles_spec : {M : Type 1} → statement M
+compiles_spec =
     tie.close
     (tie.spec
     (λ c. search rules)

@@ -4,14 +4,14 @@ use borrow.Author.Rules.{rules}
 use Rattle.replay.proofs.entries_at.Statement.{statement}
 use Rattle.replay.proofs.entries_at.Tie as tie
 
-abbrev invariant-loop : tie.invariant-loop
+abbrev invariant-loop : tie.invariant-loop-i
 invariant-loop s n codes₀ p₀ i₀ codes p i = i ≤ n.value
 
-abbrev decreases-loop : tie.decreases-loop
+abbrev decreases-loop : tie.decreases-loop-i
 decreases-loop s n codes₀ p₀ i₀ codes p i = n.value - i
 
-pub entries-at-spec : {M : Type 1} → statement M
-entries-at-spec =
+pub entries_at_spec : {M : Type 1} → statement M
+entries_at_spec =
     tie.close
     (tie.spec
     invariant-loop

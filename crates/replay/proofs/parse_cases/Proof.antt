@@ -5,14 +5,14 @@ use borrow.Author.Rules.{rules}
 use Rattle.replay.proofs.parse_cases.Statement.{statement}
 use Rattle.replay.proofs.parse_cases.Tie as tie
 
-abbrev invariant-loop : tie.invariant-loop
+abbrev invariant-loop : tie.invariant-loop-i
 invariant-loop s n t₀ i₀ t i = (i ≤ n.value) × Fair i t
 
-abbrev decreases-loop : tie.decreases-loop
+abbrev decreases-loop : tie.decreases-loop-i
 decreases-loop s n t₀ i₀ t i = n.value - i
 
-pub parse-cases-spec : {M : Type 1} → statement M
-parse-cases-spec =
+pub parse_cases_spec : {M : Type 1} → statement M
+parse_cases_spec =
     tie.close
     (tie.spec
     invariant-loop

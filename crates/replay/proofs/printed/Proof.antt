@@ -9,20 +9,20 @@ use Rattle.replay.proofs.printed.Statement.{statement}
 use Rattle.replay.proofs.printed.Tie as tie
 
 -- the text lies in the array
-size : (c : tie.After-slots) → length c.slots.new.1.0 ≡ 16384
-size c = ap length c.slots.ensures.wrote.is ∙ simp length-sets (search rules)
+size : (c : tie.After-slots-m) → length c.slots-m.new.1.0 ≡ 16384
+size c = ap length c.slots-m.ensures.wrote.is ∙ simp length-sets (search rules)
 
-inside : (c : tie.After-slots) → c.slots.result ≤ length c.slots.new.1.0
-inside c = omega (arith, size c, c.slots.ensures.fits)
+inside : (c : tie.After-slots-m) → c.slots-m.result ≤ length c.slots-m.new.1.0
+inside c = omega (arith, size c, c.slots-m.ensures.fits)
 
-array-share-prefix-out : tie.Need-array-share-prefix-out
+array-share-prefix-out : tie.Need-slice_bounds-out-end
 array-share-prefix-out c = inside c
 
-slice-aggregate-same : tie.Need-slice-aggregate-same
+slice-aggregate-same : tie.Need-slice_bounds-same-end
 slice-aggregate-same c = sym (length-take-le _ _ (inside c.before))
 
-pub printed-spec : {M : Type 1} → statement M
-printed-spec =
+pub printed_spec : {M : Type 1} → statement M
+printed_spec =
     tie.close
     (tie.spec
     (λ c κs. search rules)

@@ -4,14 +4,14 @@ use borrow.Author.Rules.{rules}
 use Rattle.replay.proofs.shop_at.Statement.{statement}
 use Rattle.replay.proofs.shop_at.Tie as tie
 
-abbrev invariant-loop : tie.invariant-loop
+abbrev invariant-loop : tie.invariant-loop-i
 invariant-loop s at n shop₀ p₀ i₀ shop p i = i ≤ n.value
 
-abbrev decreases-loop : tie.decreases-loop
+abbrev decreases-loop : tie.decreases-loop-i
 decreases-loop s at n shop₀ p₀ i₀ shop p i = n.value - i
 
-pub shop-at-spec : {M : Type 1} → statement M
-shop-at-spec =
+pub shop_at_spec : {M : Type 1} → statement M
+shop_at_spec =
     tie.close
     (tie.spec
     invariant-loop

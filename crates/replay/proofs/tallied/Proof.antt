@@ -16,20 +16,20 @@ step t k m first at f e s = record { all = refl; some = omega (arith, f.some, s)
 adds : (n : ℕ) {b : Bool} (d : Bool) → b ≡ d → n + one d ≡ n + one b
 adds n d h = ap (λ e. n + one e) (sym h)
 
-returns : tie.Need-returns
+returns : tie.Need-returns-then-case
 returns c =
     let s = c.before.before.before.before.before in
     let t = s.args.t in
-    (step t s.args.case.compiles (t.same + 1) t.first s.args.case.at s.requires.1 s.requires.2 (omega arith), adds t.same true c.before.if1.true)
+    (step t s.args.case.compiles (t.same + 1) t.first s.args.case.at s.requires.1 s.requires.2 (omega arith), adds t.same true c.if-case.true)
 
-returns-2 : tie.Need-returns-2
+returns-2 : tie.Need-returns
 returns-2 c =
     let s = c.before.before.before.before.before in
     let t = s.args.t in
-    (step t s.args.case.compiles t.same c.first_of.result s.args.case.at s.requires.1 s.requires.2 (omega arith), omega (arith, adds t.same false c.before.if1.false))
+    (step t s.args.case.compiles t.same c.first_of.result s.args.case.at s.requires.1 s.requires.2 (omega arith), omega (arith, adds t.same false c.if-case.false))
 
-pub tallied-spec : {M : Type 1} → statement M
-tallied-spec =
+pub tallied_spec : {M : Type 1} → statement M
+tallied_spec =
     tie.close
     (tie.spec
     (λ c. search rules)

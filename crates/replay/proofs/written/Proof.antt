@@ -5,14 +5,14 @@ use borrow.Author.Rules.{rules}
 use Rattle.replay.proofs.written.Statement.{statement}
 use Rattle.replay.proofs.written.Tie as tie
 
-slice-reshare-prefix-same : tie.Need-slice-reshare-prefix-same
+slice-reshare-prefix-same : tie.Need-slice_bounds-same-end
 slice-reshare-prefix-same c = search rules
 
-slice-aggregate-same : tie.Need-slice-aggregate-same
+slice-aggregate-same : tie.Need-slice_bounds-same-end-2
 slice-aggregate-same c = sym (length-take-le _ _ (slice-reshare-prefix-same c.before))
 
-pub written-spec : {M : Type 1} → statement M
-written-spec =
+pub written_spec : {M : Type 1} → statement M
+written_spec =
     tie.close
     (tie.spec
     (λ c κs. search rules)

@@ -9,16 +9,16 @@ use Rattle.slots.proofs.main.Statement.{statement}
 use Rattle.slots.proofs.main.Tie as tie
 
 -- the text lies in the array
-size : (c : tie.After-slots) → length c.slots.new.1.0 ≡ 16384
-size c = ap length c.slots.ensures.wrote.is ∙ simp length-sets (search rules)
+size : (c : tie.After-slots-m) → length c.slots-m.new.out ≡ 16384
+size c = ap length c.slots-m.ensures.wrote.is ∙ simp length-sets (search rules)
 
-inside : (c : tie.After-slots) → c.slots.result ≤ length c.slots.new.1.0
-inside c = omega (arith, size c, c.slots.ensures.fits)
+inside : (c : tie.After-slots-m) → c.slots-m.result ≤ length c.slots-m.new.out
+inside c = omega (arith, size c, c.slots-m.ensures.fits)
 
-array-share-prefix-out : tie.Need-array-share-prefix-out
+array-share-prefix-out : tie.Need-slice_bounds-out-end
 array-share-prefix-out c = inside c
 
-slice-aggregate-write-all : tie.Need-slice-aggregate-write-all
+slice-aggregate-write-all : tie.Need-slice_bounds-write_all-end
 slice-aggregate-write-all c = sym (length-take-le _ _ (inside c.before))
 
 pub main_spec : {M : Type 1} → statement M

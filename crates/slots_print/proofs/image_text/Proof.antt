@@ -7,22 +7,14 @@ use Rattle.slots_print.proofs.image_text.Tie as tie
 
 returns : tie.Need-returns-in-Read
 returns c =
-    let k = c.before.before.before.before.before in
-    let a = k.before.before in
-    let l = a.before.before.before in
-    let s = l in
     printed_as
-    (image_parsed s.args.input.now s.args.h s.args.attached.now s.requires _ _ _ _ _ _ _ _ _ a.read-script.ensures l.known-arrays.ensures k.k.given.0.0 k.k.given.1)
+    (image_parsed c.args.input.now c.args.h c.args.attached.now c.requires _ _ _ _ _ _ _ _ _ c.read_script-k.ensures c.known_arrays.ensures c.in-Read.counts c.in-Read.is)
     c.parsed_text.ensures
 
 returns-2 : tie.Need-returns-in-No
 returns-2 c =
-    let k = c.before.before.before in
-    let a = k.before in
-    let l = a.before.before.before.before.before in
-    let s = l.before.before in
     printed_as
-    (image_no s.args.input.now s.args.h s.args.attached.now s.requires _ _ _ _ _ _ _ _ _ a.read_script-k.ensures k.in-No.e k.in-No.is)
+    (image_no c.args.input.now c.args.h c.args.attached.now c.requires _ _ _ _ _ _ _ _ _ c.read_script-k.ensures c.in-No.e c.in-No.is)
     (printed_refused _ c.put_refused.ensures)
 
 pub image_text_spec : {M : Type 1} → statement M

@@ -13,20 +13,16 @@ returns c = printed_as (sym (slots_long c.args.input.now (omega arith))) (printe
 
 returns-2 : tie.Need-returns-then-h-ne0
 returns-2 c =
-    let a = c.before.before.before.before in
-    let s = a.before.before.before.before in
     printed_as
-    (sym (slots_head_no s.args.input.now (omega (arith, a.if-input-gt-INPUT.false)) _ (was_refused s.args.input.now s.args.attached.now a.read_heading-h.result _ a.read_heading-h.ensures.0 c.if-h-ne0.true)))
+    (sym (slots_head_no c.args.input.now (omega (arith, c.if-input-gt-INPUT.false)) _ (was_refused c.args.input.now c.args.attached.now c.read_heading-h.result _ c.read_heading-h.ensures.0 c.if-h-ne0.true)))
     (printed_refused _ c.put_refused-then-h-ne0.ensures)
 
 script-text-requires : tie.Need-script_text-requires
 script-text-requires c κs =
-    let a = c.before.before.before.before in
-    let s = a.before.before.before in
     record {
-      short = omega (arith, a.if-input-gt-INPUT.false);
-      lent = a.read-heading.ensures.1.lent;
-      read = was_read s.args.input.now s.args.attached.now a.read-heading.result _ a.read-heading.ensures.0 c.if-h-ne0.false;
+      short = omega (arith, c.if-input-gt-INPUT.false);
+      lent = c.read_heading-h.ensures.1.lent;
+      read = was_read c.args.input.now c.args.attached.now c.read_heading-h.result _ c.read_heading-h.ensures.0 c.if-h-ne0.false;
     }
 
 pub input_text_spec : {M : Type 1} → statement M
