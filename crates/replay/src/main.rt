@@ -100,7 +100,7 @@ fn main() {
 }
 
 // An input that fills the room may be longer than it.
-fn read_input(room: &mut [u8]) {
+fn read_input(room: &mut [u8; 655360]) {
     let n = io::read_full(STDIN, room);
     if room.len() <= n {
         malformed();

@@ -8,9 +8,9 @@ use std::io::Write;
 use std::path::{Path, PathBuf};
 use std::process::{Command, Stdio};
 
-/// Where `rt check slots` puts the program.
+/// Where `rt run` in `crates/slots` puts the program.
 fn program() -> PathBuf {
-    Path::new(env!("CARGO_MANIFEST_DIR")).join("../../target/bin/slots")
+    Path::new(env!("CARGO_MANIFEST_DIR")).join("../../crates/slots/out/slots")
 }
 
 /// Runs a program on an input, its output unread.
@@ -19,7 +19,7 @@ fn run(program: &Path, input: &[u8]) {
         .stdin(Stdio::piped())
         .stdout(Stdio::null())
         .spawn()
-        .expect("the program is there: `rt check slots` makes it");
+        .expect("the program is there: `rt run` in `crates/slots` makes it");
     let mut pipe = child.stdin.take().expect("it was piped");
     // A program that reads nothing may be gone before all is written.
     let _ = pipe.write_all(input);

@@ -9,10 +9,10 @@ use Rattle.replay.proofs.printed.Statement.{statement}
 use Rattle.replay.proofs.printed.Tie as tie
 
 -- the text lies in the array
-size : (c : tie.After-slots-m) → length c.slots-m.new.1.0 ≡ 16384
+size : (c : tie.After-slots-m) → length c.slots-m.new.out ≡ 16384
 size c = ap length c.slots-m.ensures.wrote.is ∙ simp length-sets (search rules)
 
-inside : (c : tie.After-slots-m) → c.slots-m.result ≤ length c.slots-m.new.1.0
+inside : (c : tie.After-slots-m) → c.slots-m.result ≤ length c.slots-m.new.out
 inside c = omega (arith, size c, c.slots-m.ensures.fits)
 
 array-share-prefix-out : tie.Need-slice_bounds-out-end

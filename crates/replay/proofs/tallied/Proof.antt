@@ -18,15 +18,13 @@ adds n d h = ap (λ e. n + one e) (sym h)
 
 returns : tie.Need-returns-then-case
 returns c =
-    let s = c.before.before.before.before.before in
-    let t = s.args.t in
-    (step t s.args.case.compiles (t.same + 1) t.first s.args.case.at s.requires.1 s.requires.2 (omega arith), adds t.same true c.if-case.true)
+    let t = c.args.t in
+    (step t c.args.case.compiles (t.same + 1) t.first c.args.case.at c.requires.1 c.requires.2 (omega arith), adds t.same true c.if-case.true)
 
 returns-2 : tie.Need-returns
 returns-2 c =
-    let s = c.before.before.before.before.before in
-    let t = s.args.t in
-    (step t s.args.case.compiles t.same c.first_of.result s.args.case.at s.requires.1 s.requires.2 (omega arith), omega (arith, adds t.same false c.if-case.false))
+    let t = c.args.t in
+    (step t c.args.case.compiles t.same c.first_of.result c.args.case.at c.requires.1 c.requires.2 (omega arith), omega (arith, adds t.same false c.if-case.false))
 
 pub tallied_spec : {M : Type 1} → statement M
 tallied_spec =

@@ -9,7 +9,7 @@ slice-reshare-prefix-same : tie.Need-slice_bounds-same-end
 slice-reshare-prefix-same c = search rules
 
 slice-aggregate-same : tie.Need-slice_bounds-same-end-2
-slice-aggregate-same c = sym (length-take-le _ _ (slice-reshare-prefix-same c.before))
+slice-aggregate-same c = sym (length-take-le _ _ (slice-reshare-prefix-same c))
 
 pub written_spec : {M : Type 1} → statement M
 written_spec =
