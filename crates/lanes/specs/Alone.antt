@@ -12,7 +12,7 @@ use Rattle.model.specs.Script.{Block, Script}
 use Rattle.model.specs.Judge.{script_refusal}
 use Rattle.model.specs.Run.{Outcome, next, done, halt, step, Ran, run}
 use Rattle.lanes_model.specs.Falls.{Falls}
-use Rattle.lanes_model.proofs.Lanes.{State, at, ended, moved, Walk, walk, walk_all, ran_of}
+use Rattle.lanes_model.specs.Lanes.{State, at, ended, moved, Walk, walk, walk_all, ran_of}
 use Rattle.lanes_model.proofs.Laws.Walks.{by_lanes, lanes_run}
 
 -- what the walk of one save with those variables, whose run is x, leaves

@@ -12,7 +12,7 @@ use Rattle.model.specs.Run.{Ran, step}
 use Rattle.model.specs.Memory.{Memory, script_of}
 use Rattle.memory.specs.RecordLaws.{length_blocks_in}
 use Rattle.lanes_model.specs.Flat.{part, save_in, saves_from}
-use Rattle.lanes_model.proofs.Lanes.{State, at, Lane, moved, is_at, step_state, step_lane, any_at, Walk, one_read, walk, start_lane, walk_all, ran_of}
+use Rattle.lanes_model.specs.Lanes.{State, at, Lane, moved, is_at, step_state, step_lane, any_at, Walk, one_read, walk, start_lane, walk_all, ran_of}
 use Rattle.lanes_expr.specs.Lanes.{Lies, Stand}
 use Rattle.lanes_expr.specs.Each.{Each}
 use Rattle.lanes_block.specs.Ways.{Absent, Countable, Visited, state_of, state_in}

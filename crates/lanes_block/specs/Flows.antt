@@ -10,7 +10,7 @@ use Rattle.model.specs.Script.{Command, set_variable, if_else, Block}
 use Rattle.model.specs.Run.{Outcome, next, halt, follow, store, or_halt, execute, step}
 use Rattle.model.specs.Memory.{coded_in, command_in, commands_in, link_in}
 use Rattle.lanes_model.specs.Flat.{part}
-use Rattle.lanes_model.proofs.Lanes.{moved}
+use Rattle.lanes_model.specs.Lanes.{moved}
 use Rattle.lanes_expr.specs.Lanes.{lane_value, first_stop, Valued, Stand}
 use Rattle.memory.specs.RecordLaws.{next_command}
 use Rattle.lanes_block.specs.declared.Way.{Way}

@@ -9,7 +9,7 @@ use Rattle.model.specs.Expr.{Expr, ok, eval}
 use Rattle.model.specs.Script.{Command, Block}
 use Rattle.model.specs.Run.{Outcome, next, done, halt, store, execute, step}
 use Rattle.lanes_model.specs.Flat.{part}
-use Rattle.lanes_model.proofs.Lanes.{State, at, ended, moved}
+use Rattle.lanes_model.specs.Lanes.{State, at, ended, moved}
 use Rattle.lanes_expr.specs.Lanes.{lane_value, first_stop}
 use Rattle.lanes_block.specs.declared.Way.{Way}
 use Rattle.lanes_block.specs.declared.Exit.{Exit}

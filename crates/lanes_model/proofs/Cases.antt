@@ -17,7 +17,7 @@ use Rattle.model.specs.declared.Op1.TheVariants.{Flag, Item}
 use Rattle.reclaim_model.specs.Rename.{links_of, targets}
 use Rattle.lanes_model.specs.Falls.{falls, sweep}
 use Rattle.lanes_model.specs.Walk.{Walked, trail, walk_call, walk_checks, walk_refusal}
-use Rattle.lanes_model.proofs.Lanes.{walk, walk_all}
+use Rattle.lanes_model.specs.Lanes.{walk, walk_all}
 use Rattle.lanes_model.proofs.Laws.Walks.{by_lanes, walk_call_lem}
 
 -- ---- what links to lower numbers only

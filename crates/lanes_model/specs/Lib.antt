@@ -1,3 +1,4 @@
 pub mod Falls
 pub mod Walk
 pub mod Flat
+pub mod Lanes

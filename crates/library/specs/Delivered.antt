@@ -1,5 +1,5 @@
 -- Demand 3 over the calls of the library: any list of lk_compile and lk_reclaim as they were made and answered, at any block numbers and for any loaders, then lk_run, lk_parse and lk_preview as they were answered. Each call comes in by its own promise. Assumes nothing.
-use Rattle.std.specs.Prelude.{◌≡◌, true, ◌≢◌, List, [], ℕ, ◌≤◌, ◌<◌, ℤ}
+use Rattle.std.specs.Prelude.{◌≡◌, true, ◌≢◌, List, [], ℕ, suc, ◌≤◌, ◌<◌, ℤ}
 use Rattle.std.proofs.Math.Option.{none, some}
 use Rattle.model.specs.Limits.{run_blocks}
 use Rattle.model.specs.Refusal.{accepted, born_later}

@@ -24,7 +24,7 @@ use Rattle.reclaim_record.proofs.Compiles.{passed_in}
 use Rattle.capi.specs.Answers.{loader_by}
 use Rattle.library.specs.Delivered.{left_by, shop_of}
 use Rattle.library.proofs.Delivered.{delivered, shop_long}
-use Rattle.moves_model.proofs.Again.{shifted}
+use Rattle.moves_model.specs.Again.{shifted}
 use Rattle.moves_model.proofs.Shifted.{shop_shifted}
 use Rattle.moves_model.proofs.Settles.{shop_again}
 use Rattle.moves.specs.Rounds.{Compiled, ReadBack, Round, Rounds, appended_by, calls_of}

@@ -14,7 +14,7 @@ use Rattle.model.specs.Script.{Block}
 use Rattle.model.specs.Compile.{acquired_expr, blocks_for, enable_blocks, join_tests, last_of, limit_blocks, shop_blocks, slot_blocks, slots_blocks, test, unique_blocks}
 use Rattle.reclaim_model.specs.Rename.{rename_block}
 use Rattle.reclaim_model.proofs.Laws.Renames.{rename_same, rename_twice}
-use Rattle.moves_model.proofs.Again.{shifted}
+use Rattle.moves_model.specs.Again.{shifted}
 
 -- ---- by one, which computes: every number of the compiler is so many above End
 

@@ -5,7 +5,7 @@ pub mod Survivors
 pub mod Reclaimed
 pub mod Renames
 pub mod Moved
-pub mod Answers
+pub mod Survives
 pub mod Twice
 pub mod Born
 pub mod Lower

@@ -26,7 +26,7 @@ use Rattle.shop.specs.Codes.{sorted_narrow}
 use Rattle.shop.specs.Slots.{slot_narrow}
 use Rattle.shop_arrays.specs.Arrays.{Arrays, shop_from, slot_at}
 use Rattle.shop_arrays.specs.Slots.{slot_in_lem, slots_long}
-use Rattle.signed_model.proofs.Saves.{Faithful, witness}
+use Rattle.signed_model.specs.Saves.{Faithful, witness}
 use Rattle.signed_model.proofs.Rule.{left_of, normal_left}
 use Rattle.signed_model.proofs.Witness.{Tells}
 use Rattle.signed_model.proofs.Places.{First}

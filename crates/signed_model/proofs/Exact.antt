@@ -18,7 +18,7 @@ use Rattle.model.proofs.Laws.Checks.{and_right}
 use Rattle.model.proofs.Laws.Saves.{Kept, save_kept}
 use Rattle.model.specs.Refusal.{check, bad_save}
 use Rattle.faithful_model.specs.Faithful.{is_faithful}
-use Rattle.signed_model.proofs.Saves.{Faithful, can_hold, witness_for}
+use Rattle.signed_model.specs.Saves.{Faithful, can_hold, witness_for}
 use Rattle.faithful_model.specs.Lists.{all_member, all_of}
 use Rattle.signed_model.proofs.Holds.{find, hold_fails}
 use Rattle.signed_model.proofs.Rule.{left_was, left_of, normal_left, normal_meaning, rule_faithful, slot_meaning}

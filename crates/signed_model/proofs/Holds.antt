@@ -11,7 +11,7 @@ use Rattle.model.specs.Requirement.{Requirement, haveItem, missingItem, haveAtc,
 use Rattle.model.specs.Meaning.{held, holds, all_hold}
 use Rattle.model.proofs.Laws.Sets.{same_refl}
 use Rattle.faithful_model.specs.Lists.{all_member, all_of}
-use Rattle.signed_model.proofs.Saves.{table}
+use Rattle.signed_model.specs.Saves.{table}
 
 -- if not of all, then there is one of which it does not hold
 pub record Without (p : Requirement → Bool) (xs : List Requirement) : Type 0 where

@@ -1,4 +1,3 @@
-pub mod Saves
 pub mod Holds
 pub mod Rule
 pub mod Witness

@@ -15,7 +15,7 @@ use Rattle.model.proofs.Laws.Checks.{and_left, and_right}
 use Rattle.model.proofs.Laws.Runs.{same_req_true, rate_false}
 use Rattle.model.proofs.Laws.Sets.{member_keep, same_refl, member_sorted}
 use Rattle.faithful_model.specs.Faithful.{is_faithful, no_pair}
-use Rattle.signed_model.proofs.Saves.{Faithful}
+use Rattle.signed_model.specs.Saves.{Faithful}
 use Rattle.faithful_model.specs.Lists.{all_member}
 use Rattle.moves_model.proofs.Settles.{limit_again, limit_one}
 use Rattle.signed_model.proofs.Holds.{holds_neg, hold_member, hold_of}

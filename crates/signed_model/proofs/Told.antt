@@ -15,7 +15,7 @@ use Rattle.model.specs.Normal.{acquired_of, normal}
 use Rattle.model.proofs.Laws.Checks.{and_left, and_right}
 use Rattle.model.proofs.Laws.Sets.{member_keep}
 use Rattle.faithful_model.specs.Faithful.{faithful_filled, faithful_for, is_faithful, no_pair}
-use Rattle.signed_model.proofs.Saves.{Faithful, bit, can_hold, table, witness, witness_for}
+use Rattle.signed_model.specs.Saves.{Faithful, bit, can_hold, table, witness, witness_for}
 use Rattle.signed_model.proofs.Rule.{rule_faithful}
 use Rattle.signed_model.proofs.Witness.{Tells, and-false, witness_tells}
 use Rattle.signed_model.proofs.Exact.{faithful_rule, slot_can}

@@ -19,7 +19,7 @@ use Rattle.model.specs.Normal.{acquired_of, normal}
 use Rattle.model.proofs.Laws.Checks.{and_left, and_right}
 use Rattle.model.proofs.Laws.Bools.{never_true}
 use Rattle.faithful_model.specs.Faithful.{is_faithful, no_pair}
-use Rattle.signed_model.proofs.Saves.{bit, can_hold, table, witness, witness_for}
+use Rattle.signed_model.specs.Saves.{bit, can_hold, table, witness, witness_for}
 use Rattle.faithful_model.specs.Lists.{all_member}
 use Rattle.signed_model.proofs.Holds.{Without, find, hold_fails, hold_of, holds_neg, table_all, table_at, table_default, table_length}
 use Rattle.signed_model.proofs.Rule.{left_of, left_own, left_was, normal_left, normal_meaning, slot_meaning}

@@ -17,7 +17,7 @@ use Rattle.reclaim_model.proofs.Laws.Reached.{root, onward}
 use Rattle.reclaim_model.specs.Rename.{Every}
 use Rattle.lanes_model.specs.Falls.{Link, LedTo, Falls}
 use Rattle.lanes_model.specs.Walk.{any, beyond, trail, count_below}
-use Rattle.lanes_model.proofs.Lanes.{State, at, ended, Lane, moved, is_at, step_state, step_lane, any_at, Walk, one_read, walk, start_lane, walk_all}
+use Rattle.lanes_model.specs.Lanes.{State, at, ended, Lane, moved, is_at, step_state, step_lane, any_at, Walk, one_read, walk, start_lane, walk_all}
 use Rattle.lanes_model.proofs.Laws.Steps.{step_link, not_again}
 use Rattle.lanes_model.proofs.Laws.Runs.{ahead, ahead_step, ahead_some, ahead_less, visit_is}
 

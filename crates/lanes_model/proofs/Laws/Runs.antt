@@ -13,7 +13,7 @@ use Rattle.model.specs.Run.{Outcome, next, done, halt, step, Ran, one_more, run,
 use Rattle.model.proofs.Laws.Bools.{or_no}
 use Rattle.reclaim_model.proofs.Laws.Reached.{root, onward}
 use Rattle.lanes_model.specs.Falls.{Link, LedTo, Falls}
-use Rattle.lanes_model.proofs.Lanes.{State, at, ended, Lane, moved, is_at, step_state, step_lane, any_at, Walk, one_read, walk, start_lane, walk_all, ran_of}
+use Rattle.lanes_model.specs.Lanes.{State, at, ended, Lane, moved, is_at, step_state, step_lane, any_at, Walk, one_read, walk, start_lane, walk_all, ran_of}
 use Rattle.lanes_model.proofs.Laws.Steps.{step_link, not_again}
 
 -- ---- one lane by itself

@@ -19,7 +19,7 @@ use Rattle.memory.specs.Transfer.{accepted_script}
 use Rattle.lanes_model.specs.Falls.{Falls, Link, falls}
 use Rattle.lanes_model.specs.Walk.{Walked, blocks_entered, walk_call, walk_checks, walk_ok, walk_refusal}
 use Rattle.lanes_model.specs.Flat.{lengths_ok, saves_in, saves_from, saves_ok, walk_in, walk_refusal_in}
-use Rattle.lanes_model.proofs.Lanes.{ran_of, walk_all}
+use Rattle.lanes_model.specs.Lanes.{ran_of, walk_all}
 use Rattle.lanes_model.proofs.Laws.Falls.{falls_paths}
 use Rattle.lanes_model.proofs.Laws.Steps.{link_inside}
 use Rattle.lanes_model.proofs.Laws.Runs.{walk_runs}

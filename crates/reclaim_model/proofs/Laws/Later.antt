@@ -24,7 +24,7 @@ use Rattle.reclaim_model.specs.Changes.{BornScript, birth_at, compile_refusal_bo
 use Rattle.reclaim_model.proofs.Laws.Born.{Borne, passed_born, ordinal, appended_borne, birth_kept, birth_new, birth_left, grown}
 use Rattle.reclaim_model.proofs.Laws.Reached.{mark_in, reached_long}
 use Rattle.reclaim_model.proofs.Laws.Survivors.{left_from_lem}
-use Rattle.reclaim_model.proofs.Laws.Answers.{checks_survive}
+use Rattle.reclaim_model.proofs.Laws.Survives.{checks_survive}
 use Rattle.reclaim_model.proofs.Laws.Carried.{appended_judged}
 use Rattle.reclaim_model.proofs.Laws.Mixed.{by_answer, borne_left, borne_once, survives}
 
