@@ -40,7 +40,7 @@ carried : (ws : List ℕ) (vs : List ℤ) (k : Known) (b i b' i' : ℕ) (g g' : 
 carried ws vs k b i b' i' g g' r ks ls ks' kd' cs' ls' s f x = record {
   added = λ z. let a = x.added z in
       record { place = a.place; grown = a.grown; long = a.long; up = a.up; few = a.few; same = a.same; entries = λ h n q. rw (f h n) (a.entries h n q) };
-  no_room_lem = λ z h n q. rw (f h n) (x.no_room_lem z h n q);
+  no_room = λ z h n q. rw (f h n) (x.no_room z h n q);
 }
 
 nothing_added : (ws : List ℕ) (vs : List ℤ) (k : Known) (b i : ℕ) (g : Finds) (r : ℕ) (ks ls ks' kd' cs' : List ℕ) → Place ks' kd' cs' ls r → Grown ks (keys_of r) ks' (keys_of r)
@@ -55,7 +55,7 @@ nothing_added ws vs k b i g r ks ls ks' kd' cs' p w f = record {
     same = λ j l. refl;
     entries = λ h n q. rw (f h n q) refl;
   };
-  no_room_lem = λ z. absurd (place_room ks' kd' cs' ls r p z);
+  no_room = λ z. absurd (place_room ks' kd' cs' ls r p z);
 }
 
 module _ (ws : List ℕ) (vs : List ℤ) (k : Known) (b i : ℕ) (neg : Bool) (r : ℕ) (ks ls : List ℕ) where
@@ -74,7 +74,7 @@ module _ (ws : List ℕ) (vs : List ℤ) (k : Known) (b i : ℕ) (neg : Bool) (r
       pub join_full : mid ≡ full → ReadCondition ws vs k b i (λ h e. gathered h e neg) r ks ls ks1 kd1 cs1 ls1 full
       join_full z = record {
         added = λ w. absurd (w refl);
-        no_room_lem = λ w h n y u v. x.no_room_lem z h n y (omega (arith, counted h n)) (omega (arith, counted h n));
+        no_room = λ w h n y u v. x.no_room z h n y (omega (arith, counted h n)) (omega (arith, counted h n));
       }
 
       module _ (ks2 kd2 cs2 ls2 : List ℕ) (s : ℕ) (o : mid ≡ full → ⊥) (y : ReadCondition ws vs k i q (all neg) mid ks1 ls1 ks2 kd2 cs2 ls2 s) where
@@ -96,10 +96,10 @@ module _ (ws : List ℕ) (vs : List ℤ) (k : Known) (b i : ℕ) (neg : Bool) (r
                 (listing_stays ks1 (keys_of mid) ks2 (keys_of s) ls1 ls2 (used_of mid) a.grown a.same (used_of r) (gathered h (tree_below (nodes_in ws vs n) i l) neg) (first.entries h n t))
                 (a.entries h n t));
           };
-          no_room_lem = λ z h n t u v.
+          no_room = λ z h n t u v.
               let c = counted h n in
               let m = listing_length ks1 (keys_of mid) ls1 (used_of r) (gathered h (tree_below (nodes_in ws vs n) i l) neg) (used_of mid) (first.entries h n t) in
-              y.no_room_lem z h n t (omega (arith, first.long)) (omega (arith, first.few, first.grown.long));
+              y.no_room z h n t (omega (arith, first.long)) (omega (arith, first.few, first.grown.long));
         }
 
     pub read_not : toggles d ≡ true → (l : ℕ) (ks' kd' cs' ls' : List ℕ) (s : ℕ) → l ≡ get_or ws (3 * i + 1) 0
@@ -146,14 +146,14 @@ module _ (ws : List ℕ) (vs : List ℤ) (k : Known) (b i : ℕ) (neg : Bool) (r
   pub leaf_keys : w.word ≡ no_room → ReadCondition ws vs k b i (λ h e. alone h e neg) r ks ls ks' kd' cs' ls full
   leaf_keys z = record {
     added = λ e. absurd (e refl);
-    no_room_lem = λ e h n q u v. omega (arith, x.full z, one_wanted (signed neg) (parse_requirement h (tree_below (nodes_in ws vs n) b i)) (x.wants z h n q));
+    no_room = λ e h n q u v. omega (arith, x.full z, one_wanted (signed neg) (parse_requirement h (tree_below (nodes_in ws vs n) b i)) (x.wants z h n q));
   }
 
   module _ (nz : w.word ≡ 0 → ⊥) (nr : w.word ≡ no_room → ⊥) (at : ℕ) (ea : at ≡ used_of r) where
     pub leaf_list : length ls ≤ at → ReadCondition ws vs k b i (λ h e. alone h e neg) r ks ls ks' kd' cs' ls full
     leaf_list l = record {
       added = λ e. absurd (e refl);
-      no_room_lem = λ e h n q u v. omega (arith, one_found ks' w.count w.word (asked h n) (x.leaf nr h n q) nz);
+      no_room = λ e h n q u v. omega (arith, one_found ks' w.count w.word (asked h n) (x.leaf nr h n q) nz);
     }
 
     pub leaf_one : (s : ℕ) → at < length ls → s ≡ w.count * wide16 + at + 1 → ReadCondition ws vs k b i (λ h e. alone h e neg) r ks ls ks' kd' cs' (set ls at w.word) s
@@ -171,5 +171,5 @@ module _ (ws : List ℕ) (vs : List ℤ) (k : Known) (b i : ℕ) (neg : Bool) (r
             same = λ j u. get_or-set_other ls at j w.word 0 (λ f. omega arith);
             entries = λ h n q. rw (ek, eu, ← ea) (one_listed ks' w.count ls at w.word (asked h n) l (x.leaf nr h n q) nz);
           };
-          no_room_lem = λ z. absurd (omega (arith, x.tables.room, x.tables.small));
+          no_room = λ z. absurd (omega (arith, x.tables.room, x.tables.small));
         }

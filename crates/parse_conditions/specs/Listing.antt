@@ -49,4 +49,4 @@ NoRoom ws vs k b i g r ks ls = OfNode ws vs k b i (λ h e. used_of r + length (g
 
 pub record ReadCondition (ws : List ℕ) (vs : List ℤ) (k : Known) (b i : ℕ) (g : Finds) (r : ℕ) (ks ls ks' kd' cs' ls' : List ℕ) (s : ℕ) : Type 0 where
   pub added : (s ≡ full → ⊥) → Added ws vs k b i g r ks ls ks' kd' cs' ls' s
-  pub no_room_lem : s ≡ full → NoRoom ws vs k b i g r ks ls
+  pub no_room : s ≡ full → NoRoom ws vs k b i g r ks ls

@@ -20,7 +20,7 @@ read-condition-requires c κs =
 
 returns-2 : tie.Need-returns-then-r
 returns-2 c = record {
-  full = λ q l. rw (c.place-p.ensures, c.index_of-i.ensures, c.index_of-n.ensures) at (c.read_condition-r.ensures.no_room_lem c.if-r.true);
+  full = λ q l. rw (c.place-p.ensures, c.index_of-i.ensures, c.index_of-n.ensures) at (c.read_condition-r.ensures.no_room c.if-r.true);
   read = λ d. absurd (d (rw c.answered-then-r.ensures));
   limit = rw c.answered-then-r.ensures;
 }
