@@ -23,7 +23,7 @@ use Rattle.shop.specs.Shapes.{sheet_of}
 use Rattle.image_write.specs.Call.{wrote, length_of}
 use Rattle.slots_sheet.specs.Outcome.{Head, read_head}
 use Rattle.slots_heading.specs.Bytes.{entry_of, head_bytes, head_by, write_head, head_length}
-use Rattle.slots_heading.specs.RoundTrip.{entry_back, written_read, read_then_written, read_judged}
+use Rattle.slots_heading.proofs.RoundTrip.{entry_back, written_read, read_then_written, read_judged}
 use Rattle.capi_values.specs.Values.{sheet_by}
 use Rattle.capi_stage.specs.declared.Headed.{Headed}
 use Rattle.capi_stage.specs.declared.Written.{Written}

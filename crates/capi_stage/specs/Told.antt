@@ -11,7 +11,7 @@ use Rattle.shop.specs.Shapes.{sheet_of}
 use Rattle.slots_sheet.specs.declared.Heading.{Heading}
 use Rattle.slots_sheet.specs.Outcome.{Head, read_head, no_heading, head_of, by, into, outcome, read_into, Within}
 use Rattle.slots_heading.specs.Bytes.{entry_of}
-use Rattle.slots_heading.specs.RoundTrip.{entry_number}
+use Rattle.slots_heading.proofs.RoundTrip.{entry_number}
 use Rattle.capi_stage.specs.declared.Headed.{Headed}
 use Rattle.capi_stage.specs.Answers.{stage_head, told, no_head, told_of, head_told}
 

@@ -3,15 +3,16 @@ use Rattle.std.specs.Prelude.{◌≡◌, List, ◌++◌, ℕ, zero, suc, ◌+◌
 use Rattle.std.proofs.Math.Path.{refl, sym, ap, ap₂}
 use Rattle.std.proofs.Common.{◌∙◌, arith, length-set, drop_at}
 use Rattle.std.proofs.Math.ListN.{drop}
+use Rattle.std.proofs.Math.Option.{some}
 use Rattle.std.proofs.lemmas.List.{set-append_left}
 use Rattle.model.specs.Sheet.{Sheet}
 use Rattle.model.specs.Script.{Block, Script}
 use Rattle.model.specs.Judge.{script_refusal}
-use Rattle.model.specs.Lists.{Along}
+use Rattle.model.specs.Lists.{Along, after_all, last_at, now_at}
 use Rattle.model.specs.Memory.{script_of}
 use Rattle.model.specs.Compile.{Call, appended, compile_checks, compile_refusal, fresh_blocks, shop_blocks}
 use Rattle.model.specs.Normal.{normal_shop}
-use Rattle.model.specs.RecordCalls.{Born, compile_refusal_in, compiled_in}
+use Rattle.model.specs.RecordCalls.{Born, compile_refusal_in, compiled_in, parse_in}
 use Rattle.model.specs.Record.{judged_record}
 use Rattle.model.proofs.Laws.Refused.{accepts}
 use Rattle.memory.specs.RecordLaws.{proper_record}
@@ -19,15 +20,16 @@ use Rattle.memory.specs.Transfer.{accepted_script, blocks_counted, compile_trans
 use Rattle.preview.specs.Accepted.{with_all}
 use Rattle.shop_arrays.specs.Arrays.{Arrays, shop_from}
 use Rattle.compile.specs.Answer.{call_of, CompiledAs}
+use Rattle.parse.specs.Answer.{ParsedInto}
 use Rattle.reclaim_record.proofs.Stands.{LongBorn}
 use Rattle.reclaim_record.proofs.Compiles.{passed_in}
 use Rattle.capi.specs.Answers.{loader_by}
-use Rattle.library.specs.Delivered.{left_by, shop_of}
+use Rattle.library.specs.Delivered.{left_by, made, shop_of}
 use Rattle.library.proofs.Delivered.{delivered, shop_long}
 use Rattle.moves_model.specs.Again.{shifted}
 use Rattle.moves_model.proofs.Shifted.{shop_shifted}
 use Rattle.moves_model.proofs.Settles.{shop_again}
-use Rattle.moves.specs.Rounds.{Compiled, ReadBack, Round, Rounds, appended_by, calls_of}
+use Rattle.moves.specs.Rounds.{Compiled, Round, Rounds, appended_by, calls_of}
 
 -- ---- what an accepted compile appended
 
@@ -64,16 +66,15 @@ module _ (h : Sheet) where
       ∙ ap₂ (shop_blocks h) (blocks_counted k.memory) (with_all (shop_of x.shop) (shop_long x.shop))
 
   -- what is read back is the normal form
-  read_normal : (x : Round) (t : Arrays) → Compiled h x → ReadBack h x t → shop_of t ≡ normal_shop h (shop_of x.shop)
-  read_normal x t c r = ((delivered h x.start (calls_of x) c.long c.promised).parses x.setup r.block (shop_of x.shop) r.now r.last r.answer t r.parsed).1
+  read_normal : (x : Round) (t : Arrays) → Compiled h x → (b : ℕ) → now_at made x.start (calls_of x) x.setup ≡ some b → last_at made x.start (calls_of x) x.setup ≡ some (shop_of x.shop)
+      → (n : ℕ) → ParsedInto (parse_in h (after_all made x.start (calls_of x)).memory b) n t → shop_of t ≡ normal_shop h (shop_of x.shop)
+  read_normal x t c b now last n parsed = ((delivered h x.start (calls_of x) c.long c.promised).parses x.setup b (shop_of x.shop) now last n t parsed).1
 
   module _ (round : ℕ → Round) (last : ℕ) (rs : Rounds h round last) where
-    -- the shop of every compile from the second on
-    settled_shop : (k : ℕ) → k < last → shop_of (round (suc k)).shop ≡ normal_shop h (shop_of (round 0).shop)
-    settled_shop zero l = read_normal (round 0) (round 1).shop (rs.compiled 0 (omega arith)) (rs.next 0 l)
-    settled_shop (suc k) l =
-        read_normal (round (suc k)) (round (suc (suc k))).shop (rs.compiled (suc k) (omega arith)) (rs.next (suc k) l)
-        ∙ ap (normal_shop h) (settled_shop k (omega arith)) ∙ shop_again h (shop_of (round 0).shop)
+    -- the shop of every compile from the second on, where each is the normal form of the one before
+    settled_shop : ((k : ℕ) → k < last → shop_of (round (suc k)).shop ≡ normal_shop h (shop_of (round k).shop)) → (k : ℕ) → k < last → shop_of (round (suc k)).shop ≡ normal_shop h (shop_of (round 0).shop)
+    settled_shop each zero l = each 0 l
+    settled_shop each (suc k) l = each (suc k) l ∙ ap (normal_shop h) (settled_shop each k (omega arith)) ∙ shop_again h (shop_of (round 0).shop)
 
     -- round 0 is the shop's own compile. Of any two later ones, the one on the script with d blocks more appends the same blocks, links shifted by d
     pub appended_again : (j k d : ℕ) → 1 ≤ j → j ≤ last → 1 ≤ k → k ≤ last → (round k).start.memory.count ≡ (round j).start.memory.count + d
@@ -82,7 +83,9 @@ module _ (h : Sheet) where
     appended_again (suc j) zero d p p' q q' e = absurd (omega arith)
     appended_again (suc j) (suc k) d p p' q q' e =
         let n = (round (suc j)).start.memory.count in
+        let each : (i : ℕ) → i < last → shop_of (round (suc i)).shop ≡ normal_shop h (shop_of (round i).shop) =
+        λ i l. let r = rs.next i l in read_normal (round i) (round (suc i)).shop (rs.compiled i (omega arith)) r.block r.now r.last r.answer r.parsed in
         appended_are (round (suc k)) (rs.compiled (suc k) q')
-        ∙ ap₂ (shop_blocks h) e (settled_shop k q' ∙ sym (settled_shop j p'))
+        ∙ ap₂ (shop_blocks h) e (settled_shop each k q' ∙ sym (settled_shop each j p'))
         ∙ shop_shifted h n d (shop_of (round (suc j)).shop)
         ∙ ap (shifted d) (sym (appended_are (round (suc j)) (rs.compiled (suc j) p')))

@@ -28,7 +28,8 @@ use Rattle.image_write.specs.Lengths.{most_bytes, record_short}
 use Rattle.reclaim_model.specs.Reclaim.{kept_blocks, moved_words, rank, roots_ok, survivors}
 use Rattle.reclaim_record.specs.Calls.{lives_in, kept_only_in, moved_in, reclaim_refusal_in, reclaimed_in}
 use Rattle.reclaim_record.proofs.Checks.{roots_first, refused_stays}
-use Rattle.reclaim_record.specs.Packed.{Packed, Route, route}
+use Rattle.reclaim_record.specs.Packed.{Packed}
+use Rattle.reclaim_record.proofs.Packed.{Route, route}
 use Rattle.reclaim_reach.specs.Words.{Safe}
 use Rattle.reclaim_reach.specs.Marks.{Reaching}
 use Rattle.reclaim_reach.specs.Judged.{marks_reached, safe}

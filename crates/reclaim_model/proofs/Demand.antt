@@ -25,7 +25,7 @@ use Rattle.model.proofs.Laws.SlotRuns.{Fits}
 use Rattle.reclaim_model.specs.Rename.{rename_block}
 use Rattle.reclaim_model.specs.Changes.{BornScript, birth_at, compile_refusal_born, compiled_born, Change, changes}
 use Rattle.reclaim_model.proofs.Laws.Born.{Borne, later_refused}
-use Rattle.reclaim_model.specs.Laws.RenamedRun.{run_renamed}
+use Rattle.reclaim_model.proofs.Laws.RenamedRun.{run_renamed}
 use Rattle.reclaim_model.proofs.Laws.RenamedParse.{parse_renamed}
 use Rattle.reclaim_model.proofs.Laws.Carried.{Carried, Kept}
 use Rattle.reclaim_model.proofs.Laws.Mixed.{carried_all_lem, birth_all}

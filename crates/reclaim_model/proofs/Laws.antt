@@ -14,3 +14,4 @@ pub mod Mixed
 pub mod Others
 pub mod Later
 pub mod Counted
+pub mod RenamedRun

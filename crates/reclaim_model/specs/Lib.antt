@@ -1,4 +1,3 @@
 pub mod Rename
 pub mod Reclaim
 pub mod Changes
-pub mod Laws

@@ -7,8 +7,8 @@ use Prim.Native.Nat.{ℕ, zero, suc, ◌+◌, ◌-◌, ◌*◌, ◌≤◌, ◌<�
 use native.Mathlib.Omega.{arith}
 use Rattle.model.specs.Limits.{block_limit, command_limit}
 use Rattle.model.specs.Memory.{link_in}
-use Rattle.reclaim_model.specs.Rename.{with_link, Every}
-use Rattle.reclaim_model.specs.Laws.RenamedRun.{IsLink, has_link, drop_link}
+use Rattle.reclaim_model.specs.Rename.{with_link, Every, IsLink}
+use Rattle.reclaim_model.proofs.Laws.RenamedRun.{has_link, drop_link}
 use Rattle.reclaim_reach.specs.Words.{names_block, target_by, target_at, targets_at, links_by, links_at, Low, SafeAt}
 use Rattle.reclaim_reach.specs.Queue.{Queue, queue_in, marked_all, Queued, marked_on, marked_off, free, queued_one}
 

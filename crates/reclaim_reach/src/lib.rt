@@ -4,9 +4,8 @@
 ghost use Rattle.std.specs.Prelude.{◌≡◌, false, [], ◌∷◌, ℕ, ◌+◌, ◌≤◌, ◌<◌, length, replicate};
 ghost use Rattle.model.specs.Limits.{block_limit, command_limit};
 ghost use Rattle.model.specs.Memory.{link_in};
-ghost use Rattle.reclaim_model.specs.Rename.{with_link, Every};
+ghost use Rattle.reclaim_model.specs.Rename.{with_link, Every, IsLink};
 ghost use Rattle.reclaim_model.specs.Reclaim.{roots_ok};
-ghost use Rattle.reclaim_model.specs.Laws.RenamedRun.{IsLink};
 ghost use Rattle.reclaim_reach.specs.Words.{Low, names_block, target_at, targets_at, links_at, SafeAt, Safe};
 ghost use Rattle.reclaim_reach.specs.Queue.{queue_in, Queued};
 ghost use Rattle.reclaim_reach.specs.Pieces.{Marking};

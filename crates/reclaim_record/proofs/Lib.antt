@@ -4,3 +4,4 @@ pub mod Checks
 pub mod Stands
 pub mod Moved
 pub mod Freed
+pub mod Packed

@@ -6,7 +6,7 @@ use mathlib.Core.List.{List, [], ◌∷◌, map, Memᴰ}
 use Rattle.model.specs.Script.{Block, block_at}
 use Rattle.reclaim_model.specs.Rename.{links_of}
 use Rattle.reclaim_model.proofs.Laws.Reached.{root, onward, every_at}
-use Rattle.reclaim_model.specs.Laws.RenamedRun.{Renamed}
+use Rattle.reclaim_model.proofs.Laws.RenamedRun.{Renamed}
 use Rattle.reclaim_model.proofs.Laws.Renames.{links_map}
 use Rattle.lanes_model.specs.Falls.{Link, LedTo, Falls}
 

@@ -28,7 +28,7 @@ use Rattle.reclaim_model.proofs.Laws.Carried.{Carried, Kept, appended_other, car
 use Rattle.reclaim_model.proofs.Laws.Mixed.{stands_all}
 use Rattle.reclaim_model.proofs.Laws.Reached.{root, onward, every_of}
 use Rattle.reclaim_model.proofs.Laws.Reclaimed.{reclaim_renamed}
-use Rattle.reclaim_model.specs.Laws.RenamedRun.{Renamed}
+use Rattle.reclaim_model.proofs.Laws.RenamedRun.{Renamed}
 use Rattle.reclaim_model.proofs.Laws.Renames.{rename_same}
 use Rattle.reclaim_model.proofs.Laws.Survivors.{rank_grows}
 use Rattle.reclaim_model.proofs.Laws.Twice.{in_map}

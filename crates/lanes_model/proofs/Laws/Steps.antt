@@ -10,10 +10,10 @@ use Rattle.model.specs.Expr.{Expr, two, one, imm16, imm32, other, Value, ok, sto
 use Rattle.model.specs.Script.{Command, return, goto, set_variable, set_other, if_else, end_if, other_command, Block, placeholder, code, data_block, block_at}
 use Rattle.model.specs.Run.{Outcome, next, done, halt, follow, store, or_halt, execute, enter, step, step_by}
 use Rattle.model.proofs.Laws.Sound.{SoundBlocks}
-use Rattle.reclaim_model.specs.Rename.{with_link, targets, links_of, Every}
+use Rattle.reclaim_model.specs.Rename.{with_link, targets, links_of, Every, IsLink}
 use Rattle.reclaim_model.proofs.Laws.Reached.{root, onward, every_at, every_of}
 use Rattle.reclaim_model.proofs.Laws.Reclaimed.{links_below, sound_at}
-use Rattle.reclaim_model.specs.Laws.RenamedRun.{IsLink, drop_link, has_link}
+use Rattle.reclaim_model.proofs.Laws.RenamedRun.{drop_link, has_link}
 use Rattle.lanes_model.specs.Falls.{Link, LedTo, Falls}
 
 -- ---- where a step leads

@@ -21,7 +21,7 @@ use Rattle.reclaim_model.specs.Changes.{BornScript, birth_at, compile_refusal_bo
 use Rattle.reclaim_model.specs.Rename.{targets, links_of, Every, rename_block}
 use Rattle.reclaim_model.specs.Reclaim.{rank}
 use Rattle.reclaim_model.proofs.Laws.Born.{Borne, passed_born, accepted_plain, ordinal, grown, birth_kept, birth_new, birth_left}
-use Rattle.reclaim_model.specs.Laws.RenamedRun.{Renamed}
+use Rattle.reclaim_model.proofs.Laws.RenamedRun.{Renamed}
 use Rattle.reclaim_model.proofs.Laws.RenamedParse.{Numbered}
 use Rattle.reclaim_model.proofs.Laws.Reclaimed.{every_both, reclaim_renamed, reclaim_numbered, reclaim_judged}
 use Rattle.reclaim_model.proofs.Laws.Renames.{links_map, every_map, rename_twice, rename_same}

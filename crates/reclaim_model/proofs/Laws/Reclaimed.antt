@@ -15,10 +15,10 @@ use Rattle.model.proofs.Laws.Checks.{first_passed, passed}
 use Rattle.model.proofs.Laws.Image.{FitsLink}
 use Rattle.model.proofs.Laws.Sound.{SoundCommand, SoundCommands, SoundBlock, SoundBlocks, Held}
 use Rattle.model.proofs.Laws.Judged.{accepted_held, held_accepted}
-use Rattle.reclaim_model.specs.Rename.{target, with_link, targets, links_of, Every, rename_link, rename_command, rename_block}
+use Rattle.reclaim_model.specs.Rename.{target, with_link, targets, links_of, Every, rename_link, rename_command, rename_block, IsLink}
 use Rattle.reclaim_model.specs.Reclaim.{roots_ok, survivors, rank, kept_blocks}
 use Rattle.reclaim_model.specs.Changes.{BornScript, lives, kept_only, reclaim_refusal, reclaimed}
-use Rattle.reclaim_model.specs.Laws.RenamedRun.{Renamed, IsLink, has_link, drop_link}
+use Rattle.reclaim_model.proofs.Laws.RenamedRun.{Renamed, has_link, drop_link}
 use Rattle.reclaim_model.proofs.Laws.RenamedParse.{Numbered}
 use Rattle.reclaim_model.proofs.Laws.Reached.{mark_on, mark_in, reached_long, reached_closed}
 use Rattle.reclaim_model.proofs.Laws.Survivors.{length_left, rank_most, rank_in, rank_apart, left_at, sum_left}

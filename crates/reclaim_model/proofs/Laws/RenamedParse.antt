@@ -11,10 +11,10 @@ use Rattle.model.specs.Expr.{Expr}
 use Rattle.model.specs.Sheet.{Sheet}
 use Rattle.model.specs.Script.{Command, return, goto, set_variable, set_other, if_else, end_if, other_command, Block, placeholder, code, data_block, block_at}
 use Rattle.model.specs.Parse.{State, Scan, refuse, scan, scan_one, scanned, visited, passed_over, parse_block, parse, start}
-use Rattle.reclaim_model.specs.Rename.{with_link, targets, links_of, Every, rename_link, rename_command, rename_block}
+use Rattle.reclaim_model.specs.Rename.{with_link, targets, links_of, Every, rename_link, rename_command, rename_block, IsLink}
 use Rattle.model.proofs.Laws.Marks.{unmarked, unmarked_replicate}
 use Rattle.model.proofs.Laws.Places.{all_one}
-use Rattle.reclaim_model.specs.Laws.RenamedRun.{Renamed, IsLink, has_link, drop_link}
+use Rattle.reclaim_model.proofs.Laws.RenamedRun.{Renamed, has_link, drop_link}
 use Rattle.reclaim_model.proofs.Laws.Walked.{on_links, on_block, parse_skip, parse_step, went, visit_falls}
 
 -- a scan reads no link

@@ -14,7 +14,7 @@ use Rattle.model.specs.Parse.{State, after_checks, parse, parse_call, parse_chec
 use Rattle.reclaim_model.specs.Rename.{rename_block}
 use Rattle.reclaim_model.specs.Reclaim.{rank}
 use Rattle.reclaim_model.specs.Changes.{BornScript, lives, kept_only, reclaim_refusal, reclaimed}
-use Rattle.reclaim_model.specs.Laws.RenamedRun.{run_renamed}
+use Rattle.reclaim_model.proofs.Laws.RenamedRun.{run_renamed}
 use Rattle.reclaim_model.proofs.Laws.RenamedParse.{parse_renamed}
 use Rattle.reclaim_model.proofs.Laws.Reclaimed.{reclaim_passed, reclaim_done, reclaim_renamed, reclaim_numbered, reclaim_judged}
 

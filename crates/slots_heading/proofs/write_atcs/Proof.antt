@@ -4,7 +4,8 @@ use native.Mathlib.Omega.{arith}
 use lib.ListN.{length}
 use Rattle.image_numbers.specs.Stored.{stored_length}
 use Rattle.image_write.specs.Loop.{Going, go_start, go_room, go_next, go_end}
-use Rattle.slots_heading.specs.Steps.{entries_bytes, entries_pieces}
+use Rattle.slots_heading.specs.Steps.{entries_bytes}
+use Rattle.slots_heading.proofs.Steps.{entries_pieces}
 use borrow.Author.Rules.{rules}
 use Rattle.slots_heading.proofs.write_atcs.Statement.{statement}
 use Rattle.slots_heading.proofs.write_atcs.Tie as tie

@@ -3,7 +3,7 @@ use mathlib.Core.Path.{refl, sym, ◌∙◌}
 use native.Mathlib.Omega.{arith}
 use borrow.Author.Tests.{not-true, not-false}
 use Rattle.image_numbers.specs.Stored.{stored_length}
-use Rattle.slots_heading.specs.Steps.{items_few, call_no, call_short, call_room, call_fine}
+use Rattle.slots_heading.proofs.Steps.{items_few, call_no, call_short, call_room, call_fine}
 use borrow.Author.Rules.{rules}
 use Rattle.slots_heading.proofs.write_heading.Statement.{statement}
 use Rattle.slots_heading.proofs.write_heading.Tie as tie

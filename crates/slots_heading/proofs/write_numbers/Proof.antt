@@ -1,6 +1,7 @@
 -- `slots_heading::write_numbers` meets its contract. Assumes nothing.
 use Rattle.image_numbers.specs.Stored.{stored_on, stored_as, room_as, room_first, room_next}
-use Rattle.slots_heading.specs.Steps.{timers_bytes, halves}
+use Rattle.slots_heading.specs.Steps.{timers_bytes}
+use Rattle.slots_heading.proofs.Steps.{halves}
 use borrow.Author.Rules.{rules}
 use Rattle.slots_heading.proofs.write_numbers.Statement.{statement}
 use Rattle.slots_heading.proofs.write_numbers.Tie as tie
