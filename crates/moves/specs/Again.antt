@@ -29,7 +29,7 @@ use Rattle.library.proofs.Delivered.{delivered, shop_long}
 use Rattle.moves_model.specs.Again.{shifted}
 use Rattle.moves_model.proofs.Shifted.{shop_shifted}
 use Rattle.moves_model.proofs.Settles.{shop_again}
-use Rattle.moves.specs.Rounds.{Compiled, Round, Rounds, appended_by, calls_of}
+use Rattle.moves.specs.Rounds.{Compiled, ReadBack, Round, Rounds, appended_by, calls_of}
 
 -- ---- what an accepted compile appended
 
@@ -66,15 +66,24 @@ module _ (h : Sheet) where
       ∙ ap₂ (shop_blocks h) (blocks_counted k.memory) (with_all (shop_of x.shop) (shop_long x.shop))
 
   -- what is read back is the normal form
-  read_normal : (x : Round) (t : Arrays) → Compiled h x → (b : ℕ) → now_at made x.start (calls_of x) x.setup ≡ some b → last_at made x.start (calls_of x) x.setup ≡ some (shop_of x.shop)
+  normal_read : (x : Round) (t : Arrays) → Compiled h x → (b : ℕ) → now_at made x.start (calls_of x) x.setup ≡ some b → last_at made x.start (calls_of x) x.setup ≡ some (shop_of x.shop)
       → (n : ℕ) → ParsedInto (parse_in h (after_all made x.start (calls_of x)).memory b) n t → shop_of t ≡ normal_shop h (shop_of x.shop)
-  read_normal x t c b now last n parsed = ((delivered h x.start (calls_of x) c.long c.promised).parses x.setup b (shop_of x.shop) now last n t parsed).1
+  normal_read x t c b now last n parsed = ((delivered h x.start (calls_of x) c.long c.promised).parses x.setup b (shop_of x.shop) now last n t parsed).1
+
+  read_normal : (x : Round) (t : Arrays) → Compiled h x → ReadBack h x t → shop_of t ≡ normal_shop h (shop_of x.shop)
+  read_normal x t c r = normal_read x t c r.block r.now r.last r.answer r.parsed
+
+  -- where each shop is the normal form of the one before
+  settled_by : (shops : ℕ → Arrays) (last : ℕ) → ((k : ℕ) → k < last → shop_of (shops (suc k)) ≡ normal_shop h (shop_of (shops k))) → (k : ℕ) → k < last → shop_of (shops (suc k)) ≡ normal_shop h (shop_of (shops 0))
+  settled_by shops last each zero l = each 0 l
+  settled_by shops last each (suc k) l = each (suc k) l ∙ ap (normal_shop h) (settled_by shops last each k (omega arith)) ∙ shop_again h (shop_of (shops 0))
 
   module _ (round : ℕ → Round) (last : ℕ) (rs : Rounds h round last) where
-    -- the shop of every compile from the second on, where each is the normal form of the one before
-    settled_shop : ((k : ℕ) → k < last → shop_of (round (suc k)).shop ≡ normal_shop h (shop_of (round k).shop)) → (k : ℕ) → k < last → shop_of (round (suc k)).shop ≡ normal_shop h (shop_of (round 0).shop)
-    settled_shop each zero l = each 0 l
-    settled_shop each (suc k) l = each (suc k) l ∙ ap (normal_shop h) (settled_shop each k (omega arith)) ∙ shop_again h (shop_of (round 0).shop)
+    -- the shop of every compile from the second on
+    settled_shop : (k : ℕ) → k < last → shop_of (round (suc k)).shop ≡ normal_shop h (shop_of (round 0).shop)
+    settled_shop =
+        settled_by (λ i. (round i).shop) last
+        (λ i l. let r = rs.next i l in normal_read (round i) (round (suc i)).shop (rs.compiled i (omega arith)) r.block r.now r.last r.answer r.parsed)
 
     -- round 0 is the shop's own compile. Of any two later ones, the one on the script with d blocks more appends the same blocks, links shifted by d
     pub appended_again : (j k d : ℕ) → 1 ≤ j → j ≤ last → 1 ≤ k → k ≤ last → (round k).start.memory.count ≡ (round j).start.memory.count + d
@@ -83,9 +92,10 @@ module _ (h : Sheet) where
     appended_again (suc j) zero d p p' q q' e = absurd (omega arith)
     appended_again (suc j) (suc k) d p p' q q' e =
         let n = (round (suc j)).start.memory.count in
-        let each : (i : ℕ) → i < last → shop_of (round (suc i)).shop ≡ normal_shop h (shop_of (round i).shop) =
-        λ i l. let r = rs.next i l in read_normal (round i) (round (suc i)).shop (rs.compiled i (omega arith)) r.block r.now r.last r.answer r.parsed in
+        let settled =
+        settled_by (λ i. (round i).shop) last
+        (λ i l. let r = rs.next i l in normal_read (round i) (round (suc i)).shop (rs.compiled i (omega arith)) r.block r.now r.last r.answer r.parsed) in
         appended_are (round (suc k)) (rs.compiled (suc k) q')
-        ∙ ap₂ (shop_blocks h) e (settled_shop each k q' ∙ sym (settled_shop each j p'))
+        ∙ ap₂ (shop_blocks h) e (settled k q' ∙ sym (settled j p'))
         ∙ shop_shifted h n d (shop_of (round (suc j)).shop)
         ∙ ap (shifted d) (sym (appended_are (round (suc j)) (rs.compiled (suc j) p')))

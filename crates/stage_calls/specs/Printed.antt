@@ -63,19 +63,26 @@ module _ (s ks : List ℕ) (r : Headed) (ks' : List ℕ) (head : HeadReadBy s ks
   -- ---- both read
 
   module _ (read : k.refusal ≡ 0) where
-    text_is : slots s ≡ parsed_text (parse_in (head_in r ks').sheet (kept b k) r.setup) → (n : ℕ) (x : Arrays) → ParsedInto (parse_in (head_in r ks').sheet (kept b k) r.setup) n x → slots s ≡ answer_text n (slots_of (shop_from x))
-    text_is e zero x p = e ∙ sym (text_lines p.stands refl)
-    text_is e (suc n) x p = e ∙ sym (text_refused p.stands (λ e. omega arith))
+    -- what the text is, by what was read
+    parsed_by : outcome (Read (counts_in k)) b.ws b.val b.cw b.bw ≡ read_into (empty a) (read_image (drop r.at s)) → slots s ≡ parsed_text (parse_in (head_in r ks').sheet (kept b k) r.setup)
+    parsed_by as_read =
+        let z = read_stands a.ws a.val a.cw a.bw long b.ws b.val b.cw b.bw (drop r.at s) (counts_in k) as_read in
+        slots_parsed s given.short (head_in r ks') (drop r.at s) given.read z.blocks z.rest z.read
+        ∙ sym (ap parsed_text (z.parses (head_in r ks').sheet r.setup))
+
+    text_by : slots s ≡ parsed_text (parse_in (head_in r ks').sheet (kept b k) r.setup) → (n : ℕ) (x : Arrays) → ParsedInto (parse_in (head_in r ks').sheet (kept b k) r.setup) n x → slots s ≡ answer_text n (slots_of (shop_from x))
+    text_by e zero x p = e ∙ sym (text_lines p.stands refl)
+    text_by e (suc n) x p = e ∙ sym (text_refused p.stands (λ e. omega arith))
+
+    as_read : outcome (Read (counts_in k)) b.ws b.val b.cw b.bw ≡ read_into (empty a) (read_image (drop r.at s))
+    unfolding read_as outcome
+    as_read = rw read at image.0
+
+    as_parsed : slots s ≡ parsed_text (parse_in (head_in r ks').sheet (kept b k) r.setup)
+    unfolding read_as outcome
+    as_parsed = parsed_by (rw read at image.0)
 
     -- n and x are what lk_parse answered and left in the arrays of a shop
     pub printed : (n : ℕ) (x : Arrays) → ParsedInto (parse_in (head_in r ks').sheet (kept b k) r.setup) n x → slots s ≡ answer_text n (slots_of (shop_from x))
     unfolding read_as outcome
-    printed n x p =
-        let as_read : outcome (Read (counts_in k)) b.ws b.val b.cw b.bw ≡ read_into (empty a) (read_image (drop r.at s)) = rw read at image.0 in
-        let z = read_stands a.ws a.val a.cw a.bw long b.ws b.val b.cw b.bw (drop r.at s) (counts_in k) as_read in
-        text_is
-        (slots_parsed s given.short (head_in r ks') (drop r.at s) given.read z.blocks z.rest z.read
-        ∙ sym (ap parsed_text (z.parses (head_in r ks').sheet r.setup)))
-        n
-        x
-        p
+    printed = text_by (parsed_by (rw read at image.0))
