@@ -1,5 +1,6 @@
 pub mod Limits
 pub mod Refusal
+pub mod Refusals
 pub mod Signed
 pub mod Save
 pub mod Expr

@@ -1,6 +1,9 @@
 // The kinds of expression, the numbers and the loader that the definitions and the code share.
 #![tactic(auto)]
 
+ghost use Rattle.std.specs.Prelude.{◌≡◌};
+ghost use Rattle.model.specs.Refusals.{refusal_number, refusal_in};
+
 // The numbers of 32 bits; those of 16 bits, half of them, and the least signed one.
 pub const WIDE: u64 = 4294967296;
 
@@ -77,4 +80,56 @@ pub struct AtcId(pub u16);
 pub enum Loader {
     Disc,
     Demo,
+}
+
+// Why a call refuses, each reason with the number that documents 01 and 02 give it.
+#[derive(Clone, Copy, Debug, PartialEq, Eq)]
+pub enum Refusal {
+    BadSheet = 1,
+    BadImage = 2,
+    OverLimit = 3,
+    TooDeep = 4,
+    NoSuchLink = 5,
+    NotBlock = 6,
+    NotCode = 7,
+    BadShop = 8,
+    NoRoom = 9,
+    ParseNotCode = 10,
+    ParseTooMany = 11,
+    BadSave = 12,
+    MetOther = 13,
+    NoNext = 14,
+    BudgetSpent = 15,
+    SliceShort = 16,
+    BornLater = 17,
+    BadRoots = 18,
+    DemoFull = 19,
+    NoUser = 20,
+    NoRight = 21,
+    BadWalk = 22,
+    NoFlag = 23,
+    BadTariff = 24,
+    BadBasket = 25,
+    TooManyWishes = 26,
+    NoSuchWish = 27,
+    BadMoney = 28,
+}
+
+impl Refusal {
+    // Its number, for callers that take numbers.
+    pub fn number(self) -> u8
+        ensures { result ≡ refusal_number self }
+    {
+        self as u8
+    }
+}
+
+// The number of the refusal of a call that has no other answer, 0 where it accepts.
+pub fn refusal_in(answer: Result<(), Refusal>) -> u8
+    ensures { result ≡ refusal_in answer }
+{
+    match answer {
+        Ok(()) => 0,
+        Err(refusal) => refusal.number(),
+    }
 }
