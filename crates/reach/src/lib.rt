@@ -6,7 +6,7 @@ ghost use Rattle.model.specs.Limits.{block_limit};
 ghost use Rattle.reach.specs.Dfs.{entry, to};
 ghost use Rattle.reach.specs.Stacks.{is_code_at, top_of, ways, Pushed};
 
-use memory::{BLOCKS, BlockWords, index_of};
+use memory::{BLOCKS, BlockWords};
 use model::{BlockNo, Link};
 
 // The number of a condition, 0 for none: what an entry of the stack holds beside its block.
@@ -18,10 +18,7 @@ fn is_marked(marks: &[bool; BLOCKS], nb: u16, b: u16) -> bool
     requires { nb ≤ block_limit }
     ensures { result ≡ get_or (take nb marks.now) b false }
 {
-    if b < nb {
-        return marks[index_of(b)];
-    }
-    false
+    b < nb && marks[usize::from(b)]
 }
 
 // The depth of the stack without the marked entries at its top.
@@ -29,12 +26,10 @@ pub fn top_unmarked(marks: &[bool; BLOCKS], stack: &[u16], nb: u16, depth: usize
     requires { (nb ≤ block_limit) × (2 * depth ≤ length stack.now) }
     ensures { result ≡ top_of (take nb marks.now) stack.now depth }
 {
-    let mut d = depth;
-    while 0 < d {
-        if !is_marked(marks, nb, stack[2 * (d - 1)]) {
-            return d;
+    for d in (0..depth).rev() {
+        if !is_marked(marks, nb, stack[2 * d]) {
+            return d + 1;
         }
-        d -= 1;
     }
     0
 }
@@ -76,10 +71,5 @@ pub fn is_code(bw: &BlockWords, nb: u16, b: BlockNo) -> bool
     requires { nb ≤ block_limit }
     ensures { result ≡ is_code_at bw.now nb b.0 }
 {
-    let n = b.0;
-    if nb as u32 <= n {
-        return false;
-    }
-    let i = n as usize;
-    bw[5 * i] == 1
+    b.0 < u32::from(nb) && bw[5 * b.0 as usize] == 1
 }
