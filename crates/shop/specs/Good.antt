@@ -1,5 +1,5 @@
 -- Slots as parsing keeps them: at most entry_limit requirements in rising order, each by its code, and zeros past them. Assumes nothing.
-use Rattle.std.specs.Prelude.{◌≡◌, refl, true, List, [], map, ℕ, zero, suc, ◌≤◌, ◌<◌, pos, length, get_or, replicate}
+use Rattle.std.specs.Prelude.{◌≡◌, refl, true, List, [], map, ℕ, zero, suc, ◌≤◌, ◌<◌, pos, length, get_or, replicate, None}
 use Rattle.std.proofs.Common.{sym, ◌∙◌, arith}
 use Rattle.std.proofs.Math.Path.{ap, subst}
 use Rattle.std.proofs.Math.ListN.{length-map}
@@ -10,14 +10,12 @@ use Rattle.model.specs.Parse.{few_entries}
 use Rattle.model.proofs.Laws.Sets.{Sorted}
 use Rattle.shop_codes.specs.Codes.{code_of, requirement_of, AllNarrow}
 use Rattle.shop.specs.Shapes.{entries, slot_of, no_slot, no_shop}
-use Rattle.shop.specs.Sets.{held, reqs_of, reqs_in}
+use Rattle.shop.specs.Sets.{Reqs, held, reqs_of, reqs_in}
 use Rattle.shop.specs.SetLaws.{held_set, set_entries}
 use Rattle.shop_codes.specs.Laws.{codes_stand}
 use Rattle.shop.specs.Slots.{entries_length}
 use Rattle.shop.specs.declared.Slot.{Slot}
-use Rattle.shop.specs.declared.SlotItem.TheVariants.{Nothing}
 use Rattle.shop.specs.declared.Shop.{Shop}
-use Rattle.shop.specs.declared.Reqs.{Reqs}
 
 -- the set that a slot holds
 abbrev pub own_reqs : Slot → Reqs
@@ -30,7 +28,7 @@ pub record GoodSlot (x : Slot) : Type 0 where
 
 -- what a read past the array would give
 abbrev pub beyond : Slot
-beyond = record { item = Nothing; limit = pos 0; requirements = []; len = 0 }
+beyond = record { item = None; limit = pos 0; requirements = []; len = 0 }
 
 pub record GoodShop (s : Shop) : Type 0 where
   pub each : (j : ℕ) → j < slot_count → GoodSlot (get_or s.slots j beyond)

@@ -1,6 +1,6 @@
 -- What the values of the code stand for: slots, shops and sheets. Assumes nothing: these are definitions.
-use Rattle.std.specs.Prelude.{Bool, ◌&&◌, List, [], ◌∷◌, map, ℕ, zero, suc, leb, length, get_or, set, replicate, pos}
-use Rattle.std.proofs.Math.Option.{Option, none, some}
+use Rattle.std.specs.Prelude.{Bool, ◌&&◌, List, [], ◌∷◌, map, ℕ, zero, suc, leb, length, get_or, set, replicate, pos, Option, Some, None}
+use Rattle.std.proofs.Math.Option as Math
 use Rattle.model.specs.Limits.{entry_limit, slot_count}
 use Rattle.shop_codes.specs.Codes.{requirement_of}
 use Rattle.model.specs.Shop
@@ -9,10 +9,8 @@ use Rattle.model.specs.Sheet
 use Rattle.model.specs.Sheet.{all}
 use Rattle.model.specs.Printer.{atc_entry}
 use Rattle.shop.specs.declared.Sheet.{Sheet}
-use Rattle.shop.specs.declared.SlotItem.{SlotItem}
-use Rattle.shop.specs.declared.SlotItem.TheVariants.{Nothing, Of}
-use Rattle.shop.specs.declared.ItemAtc.{ItemAtc}
-use Rattle.shop.specs.declared.ItemAtc.TheVariants as ItemAtc
+use Rattle.model.specs.declared.ItemId.{ItemId}
+use Rattle.model.specs.declared.AtcId.{AtcId}
 use Rattle.shop.specs.declared.Slot.{Slot}
 use Rattle.shop.specs.declared.Shop.{Shop}
 use Rattle.shop.specs.declared.Timer.{Timer}
@@ -24,9 +22,9 @@ entries zero cs = []
 entries (suc n) [] = 0 ∷ entries n []
 entries (suc n) (c ∷ cs) = c ∷ entries n cs
 
-abbrev pub item_of : SlotItem → Option ℕ
-item_of Nothing = none
-item_of (Of w) = some w.0
+abbrev pub item_of : Option ItemId → Math.Option ℕ
+item_of None = Math.none
+item_of (Some w) = Math.some w.0
 
 unfoldable pub slot_of : Slot → Shop.Slot
 slot_of x = record { item = item_of x.item; limit = x.limit; requirements = map requirement_of (entries x.len x.requirements) }
@@ -36,7 +34,7 @@ abbrev pub entries_ok : Sheet.Sheet → List ℕ → Bool
 entries_ok h cs = leb (length (map requirement_of cs)) entry_limit && all (req_known h) (map requirement_of cs)
 
 -- .. and of a slot, by its item and the codes
-abbrev pub parts_ok : Sheet.Sheet → SlotItem → List ℕ → Bool
+abbrev pub parts_ok : Sheet.Sheet → Option ItemId → List ℕ → Bool
 parts_ok h o cs = item_known h (item_of o) && entries_ok h cs
 
 unfoldable pub slots_of : Shop → List Shop.Slot
@@ -50,9 +48,9 @@ sheet_of ks h = record { atc_of = map atc_entry ks; atc_count = h.atcs; timer5 =
 abbrev pub atc_at : List ℕ → ℕ → ℕ
 atc_at ks i = get_or ks i 0
 
-abbrev pub atc_is : ItemAtc → Option ℕ
-atc_is ItemAtc.Nothing = none
-atc_is (ItemAtc.Of a) = some a.0
+abbrev pub atc_is : Option AtcId → Math.Option ℕ
+atc_is None = Math.none
+atc_is (Some a) = Math.some a.0
 
 abbrev pub timer_is : Timer → Shop.Timer
 timer_is Plain = Shop.plain
@@ -71,7 +69,7 @@ rate_word Shop.fifteen = 67
 
 -- the empty slot: no item, limit 0, no requirements
 abbrev pub no_slot : Slot
-no_slot = record { item = Nothing; limit = pos 0; requirements = replicate entry_limit 0; len = 0 }
+no_slot = record { item = None; limit = pos 0; requirements = replicate entry_limit 0; len = 0 }
 
 abbrev pub no_shop : Shop
 no_shop = record { slots = replicate slot_count no_slot }
