@@ -1,8 +1,7 @@
 -- Which shop four arrays of numbers stand for, and the arrays of a shop. Assumes nothing: these are definitions.
-use Rattle.std.specs.Prelude.{cond, List, [], ◌∷◌, ◌++◌, map, ℕ, zero, suc, ◌*◌, ltb, ℤ, pos, negsuc, get_or, take, drop}
+use Rattle.std.specs.Prelude.{cond, List, [], ◌∷◌, ◌++◌, map, ℕ, zero, suc, ◌*◌, ltb, ℤ, pos, negsuc, get_or, take, drop, Option, Some, None}
+use Rattle.model.specs.declared.ItemId.{ItemId}
 use Rattle.model.specs.Limits.{entry_limit, slot_count}
-use Rattle.shop.specs.declared.SlotItem.{SlotItem}
-use Rattle.shop.specs.declared.SlotItem.TheVariants.{Nothing, Of}
 use Rattle.shop.specs.declared.Slot.{Slot}
 use Rattle.shop.specs.declared.Shop.{Shop}
 
@@ -11,10 +10,10 @@ abbrev pub no_such_item : ℕ
 no_such_item = 65535
 
 -- -1 is no item; a number that no item can have stands for an item that no sheet has, so that check 8 refuses it
-unfoldable pub item_from : ℤ → SlotItem
-item_from (pos n) = Of (record { 0 = cond (ltb no_such_item n) no_such_item n })
-item_from (negsuc zero) = Nothing
-item_from (negsuc (suc n)) = Of (record { 0 = no_such_item })
+unfoldable pub item_from : ℤ → Option ItemId
+item_from (pos n) = Some (record { 0 = cond (ltb no_such_item n) no_such_item n })
+item_from (negsuc zero) = None
+item_from (negsuc (suc n)) = Some (record { 0 = no_such_item })
 
 -- a shop as four arrays: an item, a limit and how many requirements for each slot, and entry_limit codes of requirements for each
 pub record Arrays : Type 0 where
@@ -49,9 +48,9 @@ shop_from a = record { slots = slots_from a 0 slot_count }
 
 -- ---- to arrays
 
-abbrev pub item_to : SlotItem → ℤ
-item_to Nothing = negsuc 0
-item_to (Of w) = pos w.0
+abbrev pub item_to : Option ItemId → ℤ
+item_to None = negsuc 0
+item_to (Some w) = pos w.0
 
 abbrev pub items_of : Shop → List ℤ
 items_of s = map (λ (x : Slot). item_to x.item) s.slots

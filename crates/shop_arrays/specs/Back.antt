@@ -1,5 +1,5 @@
 -- The arrays of the shop that arrays stand for are those arrays, unless a slot has the item that every number which no item can have stands for. Assumes nothing.
-use Rattle.std.specs.Prelude.{◌≡◌, refl, List, [], ◌++◌, map, ℕ, zero, suc, ◌+◌, ◌*◌, ◌≤◌, ◌<◌, ℤ, pos, negsuc, length, get_or, take, drop}
+use Rattle.std.specs.Prelude.{◌≡◌, refl, List, [], ◌++◌, map, ℕ, zero, suc, ◌+◌, ◌*◌, ◌≤◌, ◌<◌, ℤ, pos, negsuc, length, get_or, take, drop, Some}
 use Rattle.std.proofs.Math.Path.{sym}
 use Rattle.std.proofs.Common.{ap, ◌∙◌, arith, take-add, drop-drop, ext_get_or, lt-ltb, le-ltb}
 use Rattle.std.proofs.Math.Decide.{dec_le}
@@ -8,7 +8,6 @@ use Rattle.std.proofs.Math.ListN.{get_or-map}
 use Rattle.std.proofs.Math.Seq.{take_all}
 use Rattle.model.specs.Limits.{slot_count, entry_limit}
 use Rattle.shop.specs.Shapes.{no_shop}
-use Rattle.shop.specs.declared.SlotItem.TheVariants.{Of}
 use Rattle.shop.specs.declared.Slot.{Slot}
 use Rattle.shop_arrays.specs.Arrays.{Arrays, arrays_in, no_such_item, item_from, item_to, slot_at, slots_from, shop_from, rows, arrays_of}
 use Rattle.shop_arrays.specs.Slots.{slots_long, slot_in_lem, no_arrays}
@@ -24,7 +23,7 @@ pub none_back : no_arrays ≡ arrays_of no_shop
 unfolding arrays_of
 none_back = refl
 
-number_back : (z : ℤ) → (item_from z ≡ Of (record { 0 = no_such_item }) → ⊥) → item_to (item_from z) ≡ z
+number_back : (z : ℤ) → (item_from z ≡ Some (record { 0 = no_such_item }) → ⊥) → item_to (item_from z) ≡ z
 unfolding item_from
 number_back (pos n) d = by (dec_le n no_such_item)
   where
@@ -36,7 +35,7 @@ number_back (negsuc (suc n)) d = absurd (d refl)
 
 -- what a column holds past its end
 past : Slot
-past = record { item = Of (record { 0 = 0 }); limit = pos 0; requirements = []; len = 0 }
+past = record { item = Some (record { 0 = 0 }); limit = pos 0; requirements = []; len = 0 }
 
 column : {B : Type 0} (f : Slot → B) (a : Arrays) (l : List B) → length l ≡ slot_count → ((j : ℕ) → j < slot_count → f (slot_at a j) ≡ get_or l j (f past)) → map f (shop_from a).slots ≡ l
 column f a l e h =
@@ -64,7 +63,7 @@ module _ (a : Arrays) (full : Full a) where
   unfolding shop_from
   rows_back = rows_from a 0 slot_count ∙ take_all (entry_limit * slot_count) a.codes (omega (arith, full.codes))
 
-  pub arrays_back : ((j : ℕ) → j < slot_count → (slot_at a j).item ≡ Of (record { 0 = no_such_item }) → ⊥) → a ≡ arrays_of (shop_from a)
+  pub arrays_back : ((j : ℕ) → j < slot_count → (slot_at a j).item ≡ Some (record { 0 = no_such_item }) → ⊥) → a ≡ arrays_of (shop_from a)
   unfolding arrays_of slot_at past
   arrays_back d =
       sym
