@@ -9,7 +9,7 @@ ghost use Rattle.shop_codes.specs.Codes.{requirement_of};
 ghost use Rattle.shop.specs.Shapes.{entries, slot_of, slots_of};
 ghost use Rattle.shop_arrays.specs.Arrays.{arrays_in, slot_at, shop_from};
 
-use shop::{Codes, ENTRIES, SLOTS, SlotItem};
+use shop::{Codes, ENTRIES, SLOTS};
 use shop_arrays::{item_at, sizes};
 use shop_codes::{Subject, subject_of};
 
@@ -68,8 +68,8 @@ fn slot_inside(
     sizes(sold, limits, codes, lens);
     let item = item_at(sold, i);
     match item {
-        SlotItem::Nothing => true,
-        SlotItem::Of(_) => {
+        None => true,
+        Some(_) => {
             let all: &[u64] = codes;
             let start = ENTRIES * i;
             let end = start + ENTRIES;

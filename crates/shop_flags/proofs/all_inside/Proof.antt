@@ -5,7 +5,6 @@ use mathlib.Core.List.{List}
 use Prim.Native.Nat.{ℕ, ◌-◌, ◌<◌}
 use native.Mathlib.Omega.{arith}
 use lib.ListN.{length, get_or}
-use borrow.Author.Tests.{not-true, not-false}
 use Rattle.model.specs.Flags.{req_inside}
 use Rattle.shop_codes.specs.Codes.{requirement_of}
 use Rattle.shop.specs.Shapes.{entries}
