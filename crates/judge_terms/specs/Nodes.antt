@@ -1,5 +1,5 @@
 -- A node is judged as its image would be read. Assumes nothing.
-use Rattle.std.specs.Prelude.{◌≡◌, refl, Bool, cond}
+use Rattle.std.specs.Prelude.{◌≡◌, refl, Bool, cond, Ok, Err}
 use Rattle.std.proofs.Math.Bool.{true, false}
 use mathlib.Core.List.{List, ◌++◌, append_assoc}
 use Prim.Native.Nat.{ℕ, zero, suc, ◌+◌, ◌-◌, ◌≤◌, ◌<◌}
@@ -21,19 +21,19 @@ use Rattle.model.specs.declared.Op1.{Op1}
 use Rattle.model.specs.declared.Kind.{Kind}
 use Rattle.model.specs.declared.Kind.TheVariants.{Two, One, Imm16, Imm32, Other}
 use Rattle.image_numbers.specs.Lengths.{read_over, word_1, word_short}
-use Rattle.judge_terms.specs.Told.{Told, imm_judged}
+use Rattle.judge_terms.specs.Told.{Step, Told, imm_judged}
 use Rattle.judge_terms.specs.Pieces.{fine, none, good_of, no_of, moved, looser, wrapped, first_no, paired}
-use Rattle.judge_terms.specs.declared.Step.{Step}
-use Rattle.judge_terms.specs.declared.Step.TheVariants.{Fine, No}
+use Rattle.model.specs.declared.Refusal.{Refusal}
+use Rattle.model.specs.declared.Refusal.TheVariants.{BadImage, OverLimit, TooDeep}
 use Rattle.memory.specs.NodeLaws.{image_node, image_none}
 
 -- ---- an immediate
 
-pub imm_fine : (v l n at w u : ℕ) → u ≡ v → u < l → w ≡ length (word u) → Fine n (at + w) ≡ imm_judged v l n at
+pub imm_fine : (v l n at w u : ℕ) → u ≡ v → u < l → w ≡ length (word u) → Ok (n, at + w) ≡ imm_judged v l n at
 unfolding imm_judged
 imm_fine v l n at w u e h q = rw (← e, lt-ltb u l h, q)
 
-pub imm_no : (v l n at u : ℕ) → u ≡ v → l ≤ u → No 2 ≡ imm_judged v l n at
+pub imm_no : (v l n at u : ℕ) → u ≡ v → l ≤ u → Err BadImage ≡ imm_judged v l n at
 unfolding imm_judged
 imm_no v l n at u e h = rw (← e, le-ltb u l h)
 
@@ -61,11 +61,11 @@ module _ (l : ℕ) (s : List ℕ) where
 -- ---- what the judge finds
 
 module _ (ns : Nodes) (b i l n at o : ℕ) where
-  pub node_absent : b ≤ i → Told (read_expr l (64 - o) n) size (node_image ns b i) l 0 n at (No 2)
+  pub node_absent : b ≤ i → Told (read_expr l (64 - o) n) size (node_image ns b i) l 0 n at (Err BadImage)
   node_absent h = none (λ t. rw (image_none ns b i h) (read_bad l (word 19 ++ t) (64 - o) n (read_over 19 19 t (omega arith))))
 
   module _ (lt : i < b) where
-    pub node_unknown : 19 ≤ code_at ns i → Told (read_expr l (64 - o) n) size (node_image ns b i) l 0 n at (No 2)
+    pub node_unknown : 19 ≤ code_at ns i → Told (read_expr l (64 - o) n) size (node_image ns b i) l 0 n at (Err BadImage)
     node_unknown h = none (λ t. rw (image_node ns b i lt, append_assoc) (read_bad l (word (code_at ns i) ++ (follow_image (node_image ns) ns i (kind_of (code_at ns i)) ++ t)) (64 - o) n (read_over 19 (code_at ns i) _ h)))
 
     module _ (low : code_at ns i < 19) where
@@ -73,10 +73,10 @@ module _ (ns : Nodes) (b i l n at o : ℕ) where
       unfolding read_kind
       kind_read t = rw (image_node ns b i lt, append_assoc, read_word 19 (code_at ns i) (follow_image (node_image ns) ns i (kind_of (code_at ns i)) ++ t) low (omega arith))
 
-      pub node_over : l ≤ n → Told (read_expr l (64 - o) n) size (node_image ns b i) l 0 n at (No 3)
+      pub node_over : l ≤ n → Told (read_expr l (64 - o) n) size (node_image ns b i) l 0 n at (Err OverLimit)
       node_over h = none (λ t. read_full l (node_image ns b i ++ t) (64 - o) n _ _ (kind_read t) h)
 
-      pub node_deep : n < l → 64 ≤ o → Told (read_expr l (64 - o) n) size (node_image ns b i) l 0 n at (No 4)
+      pub node_deep : n < l → 64 ≤ o → Told (read_expr l (64 - o) n) size (node_image ns b i) l 0 n at (Err TooDeep)
       node_deep h g = let z : 64 - o ≡ 0 = omega arith in rw z (none (λ t. read_deep l (node_image ns b i ++ t) n _ _ (kind_read t) h))
 
 -- the nodes of an expression but the topmost
@@ -120,7 +120,7 @@ module _ (ns : Nodes) (b i l n at o : ℕ) (k : Kind) (W : Within ns b i l n o k
       let f = long in
       moved (read_expr l (64 - o) n) size (node_image ns b i) l 0 n at goes (λ e. omega (arith, inner_size e)) (omega arith) (omega arith) (omega arith) p
 
-  pub node_other : k ≡ Other → Told (read_expr l (64 - o) n) size (node_image ns b i) l 0 n at (Fine (n + 1) (at + 1))
+  pub node_other : k ≡ Other → Told (read_expr l (64 - o) n) size (node_image ns b i) l 0 n at (Ok (n + 1, at + 1))
   unfolding read_operands follow_image inner
   node_other kk =
       let d = W.room in
@@ -133,7 +133,7 @@ module _ (ns : Nodes) (b i l n at o : ℕ) (k : Kind) (W : Within ns b i l n o k
   number_told lim mk r e wd er = rw er (go (ltb (zig (value_at ns i)) lim) refl)
     where
       go : (t : Bool) → ltb (zig (value_at ns i)) lim ≡ t
-          → Told (λ s. onward (number lim s) (λ v u. got (mk v) u)) inner (word (zig (value_at ns i))) l 5 (n + 1) (at + 1) (cond t (Fine (n + 1) (at + 1 + length (word (zig (value_at ns i))))) (No 2))
+          → Told (λ s. onward (number lim s) (λ v u. got (mk v) u)) inner (word (zig (value_at ns i))) l 5 (n + 1) (at + 1) (cond t (Ok (n + 1, at + 1 + length (word (zig (value_at ns i))))) (Err BadImage))
       go true q =
           let d = W.room in
           fine (record {
@@ -163,14 +163,14 @@ module _ (ns : Nodes) (b i l n at o : ℕ) (k : Kind) (W : Within ns b i l n o k
       node_of (rw kk (looser l 5 (omega arith) (omega arith) (wrapped inner (one x) (λ a. refl) q)))
 
   -- two, of which the first is refused
-  pub node_two_no : {r : Step} {e : ℕ} (x : Op2) → k ≡ Two x → Told (read_expr l (64 - (o + 1)) (n + 1)) size (node_image ns i (left_at ns i)) l 0 (n + 1) (at + 1) r → r ≡ No e → Told (read_expr l (64 - o) n) size (node_image ns b i) l 0 n at (No e)
+  pub node_two_no : {r : Step} {e : Refusal} (x : Op2) → k ≡ Two x → Told (read_expr l (64 - (o + 1)) (n + 1)) size (node_image ns i (left_at ns i)) l 0 (n + 1) (at + 1) r → r ≡ Err e → Told (read_expr l (64 - o) n) size (node_image ns b i) l 0 n at (Err e)
   unfolding read_operands follow_image
   node_two_no {r} x kk p er =
       let up : suc n ≡ n + 1 = omega arith in
       let q : Told (read_expr l (64 - (o + 1)) (suc n)) size (node_image ns i (left_at ns i)) l 0 (n + 1) (at + 1) r = rw up p in
       node_of (rw kk (none (first_no (read_expr l (64 - (o + 1)) (suc n)) (node_image ns i (left_at ns i)) _ (node_image ns i (right_at ns i)) (no_of q er))))
 
-  pub node_two : {q r : Step} {m p : ℕ} (x : Op2) → k ≡ Two x → Told (read_expr l (64 - (o + 1)) (n + 1)) size (node_image ns i (left_at ns i)) l 0 (n + 1) (at + 1) q → q ≡ Fine m p
+  pub node_two : {q r : Step} {m p : ℕ} (x : Op2) → k ≡ Two x → Told (read_expr l (64 - (o + 1)) (n + 1)) size (node_image ns i (left_at ns i)) l 0 (n + 1) (at + 1) q → q ≡ Ok (m, p)
       → Told (read_expr l (64 - (o + 1)) m) size (node_image ns i (right_at ns i)) l 0 m p r → Told (read_expr l (64 - o) n) size (node_image ns b i) l 0 n at r
   unfolding read_operands follow_image inner
   node_two {q} {r} {m} {p} x kk P eq Q =

@@ -1,29 +1,29 @@
 -- Pieces of an image that are judged one after the other are judged together. Assumes nothing.
-use Rattle.std.specs.Prelude.{◌≡◌, refl, List, ◌++◌, ℕ, ◌+◌, ◌*◌, ◌≤◌, ◌<◌, length}
+use Rattle.std.specs.Prelude.{◌≡◌, refl, List, ◌++◌, ℕ, ◌+◌, ◌*◌, ◌≤◌, ◌<◌, length, Ok, Err}
 use Rattle.std.proofs.Common.{◌∙◌, append_assoc}
 use native.Mathlib.Omega.{arith}
 use Rattle.std.proofs.Math.ListN.{length-append}
 use Rattle.model.specs.Limits.{wide}
 use Rattle.model.specs.Reading.{Answer, got, refused, onward, number, word}
 use Rattle.model.proofs.Laws.Reading.{read_word}
-use Rattle.judge_terms.specs.Told.{Good, Says, Told}
-use Rattle.judge_terms.specs.declared.Step.{Step}
-use Rattle.judge_terms.specs.declared.Step.TheVariants.{Fine, No}
+use Rattle.model.specs.Refusals.{refusal_number}
+use Rattle.model.specs.declared.Refusal.{Refusal}
+use Rattle.judge_terms.specs.Told.{Step, Good, Says, Told}
 
 -- what a step says, by its case
-pub fine : {A : Type 0} {f : List ℕ → Answer A} {size : A → ℕ} {w : List ℕ} {l x n at m to : ℕ} → Good f size w l x n at m to → Told f size w l x n at (Fine m to)
+pub fine : {A : Type 0} {f : List ℕ → Answer A} {size : A → ℕ} {w : List ℕ} {l x n at m to : ℕ} → Good f size w l x n at m to → Told f size w l x n at (Ok (m, to))
 unfolding Says
 fine p = record { says = p }
 
-pub none : {A : Type 0} {f : List ℕ → Answer A} {size : A → ℕ} {w : List ℕ} {l x n at k : ℕ} → ((t : List ℕ) → f (w ++ t) ≡ refused k) → Told f size w l x n at (No k)
+pub none : {A : Type 0} {f : List ℕ → Answer A} {size : A → ℕ} {w : List ℕ} {l x n at : ℕ} {e : Refusal} → ((t : List ℕ) → f (w ++ t) ≡ refused (refusal_number e)) → Told f size w l x n at (Err e)
 unfolding Says
 none p = record { says = p }
 
-pub good_of : {A : Type 0} {f : List ℕ → Answer A} {size : A → ℕ} {w : List ℕ} {l x n at m to : ℕ} {r : Step} → Told f size w l x n at r → r ≡ Fine m to → Good f size w l x n at m to
+pub good_of : {A : Type 0} {f : List ℕ → Answer A} {size : A → ℕ} {w : List ℕ} {l x n at m to : ℕ} {r : Step} → Told f size w l x n at r → r ≡ Ok (m, to) → Good f size w l x n at m to
 unfolding Says
 good_of p e = rw e at p.says
 
-pub no_of : {A : Type 0} {f : List ℕ → Answer A} {size : A → ℕ} {w : List ℕ} {l x n at k : ℕ} {r : Step} → Told f size w l x n at r → r ≡ No k → (t : List ℕ) → f (w ++ t) ≡ refused k
+pub no_of : {A : Type 0} {f : List ℕ → Answer A} {size : A → ℕ} {w : List ℕ} {l x n at : ℕ} {e : Refusal} {r : Step} → Told f size w l x n at r → r ≡ Err e → (t : List ℕ) → f (w ++ t) ≡ refused (refusal_number e)
 unfolding Says
 no_of p e = rw e at p.says
 
@@ -36,14 +36,14 @@ module _ {A : Type 0} where
   moved {f} {size} {w} {l} {x} {n} {at} {r} g size' w' l' x' n' at' same en el eb es p = record { says = go r p.says }
     where
       go : (r : Step) → Says f size w l x n at r → Says g size' w' l' x' n' at' r
-      go (Fine m to) q =
+      go (Ok (m, to)) q =
           let c = q.counted in
           let o = q.low in
           let y = q.bytes in
           let s = q.short in
           let z = en q.value in
           record { value = q.value; reads = λ t. same t ∙ q.reads t; counted = omega arith; low = omega arith; bytes = omega arith; short = omega arith }
-      go (No k) q = λ t. same t ∙ q t
+      go (Err k) q = λ t. same t ∙ q t
 
   -- a code before what follows it
   pub headed : (h : ℕ → List ℕ → Answer A) {size : A → ℕ} {w : List ℕ} {l x n : ℕ} {r : Step} (at lim c y : ℕ) → c < lim → c < wide → y ≡ length (word c)
@@ -64,11 +64,11 @@ module _ {A B : Type 0} where
   wrapped {f} {size} {w} {l} {x} {n} {at} {r} size' mk e p = record { says = go r p.says }
     where
       go : (r : Step) → Says f size w l x n at r → Says (λ s. onward (f s) (λ a u. got (mk a) u)) size' w l x n at r
-      go (Fine m to) q =
+      go (Ok (m, to)) q =
           let c = q.counted in
           let z = e q.value in
           record { value = mk q.value; reads = λ t. rw (q.reads t); counted = omega arith; low = q.low; bytes = q.bytes; short = q.short }
-      go (No k) q = λ t. rw (q t)
+      go (Err k) q = λ t. rw (q t)
 
   -- where the first of two is refused
   pub first_no : (f : List ℕ → Answer A) (w : List ℕ) {k : ℕ} (g : A → List ℕ → Answer B) (v : List ℕ) → ((t : List ℕ) → f (w ++ t) ≡ refused k)
@@ -86,7 +86,7 @@ module _ {A B C : Type 0} where
   paired {f} {size} {w} {l} {x} {n} {at} {m} {p} P g {size₂} {w₂} {x₂} {r} size₃ mk e Q = record { says = go r Q.says }
     where
       go : (r : Step) → Says (g P.value) size₂ w₂ l x₂ m p r → Says (λ s. onward (f s) (λ a u. onward (g a u) (λ b v. got (mk a b) v))) size₃ (w ++ w₂) l (x + x₂) n at r
-      go (Fine o to) q =
+      go (Ok (o, to)) q =
           let a₁ = P.counted in
           let b₁ = P.bytes in
           let s₁ = P.short in
@@ -102,4 +102,4 @@ module _ {A B C : Type 0} where
             bytes = omega (arith, length-append w w₂);
             short = omega arith;
           }
-      go (No k) q = λ t. rw (append_assoc, P.reads (w₂ ++ t), q t)
+      go (Err k) q = λ t. rw (append_assoc, P.reads (w₂ ++ t), q t)

@@ -1,11 +1,12 @@
 -- What the functions of expressions promise: the answer is what reading the image gives, whatever follows it. Assumes nothing: these are definitions.
-use Rattle.std.specs.Prelude.{◌≡◌, cond, List, ◌++◌, ℕ, ◌+◌, ◌*◌, ◌≤◌, ltb, length}
+use Rattle.std.specs.Prelude.{◌≡◌, cond, List, ◌++◌, ℕ, ◌+◌, ◌*◌, ◌≤◌, ltb, length, Result, Ok, Err}
 use Rattle.memory.specs.declared.Counts.{Counts}
 use Rattle.model.specs.Limits.{node_limit, command_limit, block_limit, depth_limit}
 use Rattle.model.specs.Reading.{Answer, got, refused, word}
 use Rattle.model.specs.Image.{Limits, limits}
-use Rattle.judge_terms.specs.declared.Step.{Step}
-use Rattle.judge_terms.specs.declared.Step.TheVariants.{Fine, No}
+use Rattle.model.specs.Refusals.{refusal_number}
+use Rattle.model.specs.declared.Refusal.{Refusal}
+use Rattle.model.specs.declared.Refusal.TheVariants.{BadImage}
 
 -- ---- kept counts by value
 
@@ -39,6 +40,10 @@ pub record Walking (b l depth k at : ℕ) : Type 0 where
 
 -- ---- what they get
 
+-- the nodes counted and the bytes passed after a piece of the image, or why it is refused
+abbrev pub Step : Type 0
+Step = Result (ℕ × ℕ) Refusal
+
 -- f accepts the bytes w whatever follows them. The nodes of what it reads come on top of n and stay within l,
 -- the bytes on top of at, and there are six for each node and x besides at most
 pub record Good {A : Type 0} (f : List ℕ → Answer A) (size : A → ℕ) (w : List ℕ) (l x n at m to : ℕ) : Type 0 where
@@ -50,12 +55,12 @@ pub record Good {A : Type 0} (f : List ℕ → Answer A) (size : A → ℕ) (w :
   pub short : to + 6 * n ≤ at + 6 * m + x
 
 unfoldable pub Says : {A : Type 0} → (List ℕ → Answer A) → (A → ℕ) → List ℕ → ℕ → ℕ → ℕ → ℕ → Step → Type 0
-Says f size w l x n at (Fine m to) = Good f size w l x n at m to
-Says f size w l x n at (No k) = (t : List ℕ) → f (w ++ t) ≡ refused k
+Says f size w l x n at (Ok s) = Good f size w l x n at s.0 s.1
+Says f size w l x n at (Err e) = (t : List ℕ) → f (w ++ t) ≡ refused (refusal_number e)
 
--- f accepts the bytes w, or refuses them with the number that the step says, whatever follows them
+-- f accepts the bytes w, or refuses them for the reason that the step says, whatever follows them
 pub record Told {A : Type 0} (f : List ℕ → Answer A) (size : A → ℕ) (w : List ℕ) (l x n at : ℕ) (r : Step) : Type 0 where
   pub says : Says f size w l x n at r
 
 unfoldable pub imm_judged : ℕ → ℕ → ℕ → ℕ → Step
-imm_judged v l n at = cond (ltb v l) (Fine n (at + length (word v))) (No 2)
+imm_judged v l n at = cond (ltb v l) (Ok (n, at + length (word v))) (Err BadImage)
