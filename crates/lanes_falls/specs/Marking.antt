@@ -1,6 +1,6 @@
 -- Links marked one after the other as long as they are below a number, and what the loops keep. Assumes nothing.
 use Rattle.std.specs.Prelude.{◌≡◌, refl, Bool, true, false, ◌&&◌, List, [], ◌∷◌, ℕ, zero, suc, ◌+◌, ◌-◌, ◌*◌, ◌≤◌, ◌<◌, ltb, get_or, set}
-use Rattle.std.proofs.Common.{sym, ap, ◌∙◌, true≢false, arith, lt-ltb, le-ltb, ne_eqb}
+use Rattle.std.proofs.Common.{sym, ap, ◌∙◌, true≢false, arith, ne_eqb}
 use Rattle.std.proofs.Math.Option.{Option, none, some}
 use Rattle.model.specs.Limits.{command_limit}
 use Rattle.model.specs.Memory.{link_in}
@@ -23,19 +23,6 @@ Fits bw b = get_or bw (5 * b) 0 ≡ 1 → (j : ℕ) → j < get_or bw (5 * b + 2
 pub marking_none : (n : ℕ) (ms : List Bool) → Marking n [] ms true ms
 marking_none n ms = record { is = refl; marks = λ e. refl }
 
-pub marking_one : (n k i : ℕ) (ms : List Bool) → i ≡ k → k < n → Marking n (k ∷ []) ms true (set ms i true)
-marking_one n k i ms e l = record { is = rw (lt-ltb k n l); marks = λ t. rw e }
-
-pub marking_high : (n k : ℕ) (ms : List Bool) → n ≤ k → Marking n (k ∷ []) ms false ms
-marking_high n k ms l = record { is = rw (le-ltb k n l); marks = λ e. absurd (true≢false (sym e)) }
-
-pub link_none : (n w : ℕ) (ms : List Bool) → w ≡ 0 → Marking n (with_link (link_in w) []) ms true ms
-link_none n w ms e = rw e (marking_none n ms)
-
-pub link_some : (n w : ℕ) {ms ms' : List Bool} {r : Bool} → (w ≡ 0 → ⊥) → Marking n ((w - 1) ∷ []) ms r ms' → Marking n (with_link (link_in w) []) ms r ms'
-link_some n zero d g = absurd (d refl)
-link_some n (suc k) d g = let e : suc k - 1 ≡ k = omega arith in rw e at g
-
 module _ (cw : List ℕ) (i n : ℕ) {ms ms' : List Bool} {r : Bool} where
   -- Goto, If and EndIf
   pub target_some : (k : ℕ) → get_or cw (4 * i) 0 ≡ k → names_block k ≡ true → Marking n (get_or cw (4 * i + 3) 0 ∷ []) ms r ms' → Marking n (with_link (target_at cw i) []) ms r ms'
@@ -46,17 +33,15 @@ pub target_none : (cw : List ℕ) (i n : ℕ) (ms : List Bool) → (get_or cw (4
 unfolding target_by names_block
 target_none cw i n ms p q s = rw (ne_eqb _ 1 p, ne_eqb _ 3 q, ne_eqb _ 4 s) (marking_none n ms)
 
-pub names_goto : names_block 1 ≡ true
+-- of a kind that is one of them
+pub names_it : (k : ℕ) → ((k ≡ 1 → ⊥) → (k ≡ 3 → ⊥) → (k ≡ 4 → ⊥) → ⊥) → names_block k ≡ true
 unfolding names_block
-names_goto = refl
-
-pub names_if : names_block 3 ≡ true
-unfolding names_block
-names_if = refl
-
-pub names_end_if : names_block 4 ≡ true
-unfolding names_block
-names_end_if = refl
+names_it zero f = absurd (f (λ e. omega arith) (λ e. omega arith) (λ e. omega arith))
+names_it (suc zero) f = refl
+names_it (suc (suc zero)) f = absurd (f (λ e. omega arith) (λ e. omega arith) (λ e. omega arith))
+names_it (suc (suc (suc zero))) f = refl
+names_it (suc (suc (suc (suc zero)))) f = refl
+names_it (suc (suc (suc (suc (suc k))))) f = absurd (f (λ e. omega arith) (λ e. omega arith) (λ e. omega arith))
 
 -- ---- a link and those after it
 
@@ -107,17 +92,7 @@ pub record TargetsLeft (cw : List ℕ) (n first held f count i : ℕ) (ms₀ ms 
   pub rest : (r : Bool) (ms' : List Bool) → Marking n (targets_at cw (count - i) (f + i)) ms r ms' → Marking n (targets_at cw held first) ms₀ r ms'
 
 module _ (cw : List ℕ) (n first held f count : ℕ) (ms₀ : List Bool) where
-  pub targets_start : f ≡ first → count ≡ held → TargetsLeft cw n first held f count 0 ms₀ ms₀
-  targets_start e h = record {
-    from = e;
-    many = h;
-    rest = λ r ms' g. let a : count - 0 ≡ held = omega arith in let b : f + 0 ≡ first = omega arith in rw (a, b) at g;
-  }
-
   module _ (i : ℕ) {ms : List Bool} (s : TargetsLeft cw n first held f count i ms₀ ms) where
-    pub targets_room : i < count → ((j : ℕ) → j < held → first + j < command_limit) → f + i < command_limit
-    targets_room l h = omega (arith, h i (omega (arith, s.many)), s.from)
-
     targets_next : i < count → (r : Bool) (ms' : List Bool) → Marking n (with_link (target_at cw (f + i)) (targets_at cw (count - (i + 1)) (f + (i + 1)))) ms r ms' → Marking n (targets_at cw held first) ms₀ r ms'
     targets_next l r ms' g = s.rest r ms' (by (count - i) (omega arith) (f + (i + 1)) (omega arith) g)
       where

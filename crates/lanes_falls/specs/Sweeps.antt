@@ -30,9 +30,6 @@ module _ (cw bw : List ℕ) (blocks : ℕ) where
     pub low : n ≤ blocks
     pub is : sweep (blocks_of cw bw blocks) blocks ms₀ ≡ sweep (blocks_of cw bw blocks) n ms
 
-  pub sweeps_start : (ms : List Bool) → Sweeps blocks ms ms
-  sweeps_start ms = record { low = omega arith; is = refl }
-
   pub sweeps_done : (n : ℕ) (ms₀ ms : List Bool) → Sweeps n ms₀ ms → n ≤ 0 → true ≡ sweep (blocks_of cw bw blocks) blocks ms₀
   unfolding sweep
   sweeps_done zero ms₀ ms s l = sym s.is

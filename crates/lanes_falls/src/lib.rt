@@ -12,7 +12,7 @@ ghost use Rattle.lanes_model.specs.Falls.{falls, sweep};
 ghost use Rattle.lanes_falls.specs.Marking.{Marking, Fits};
 ghost use Rattle.lanes_falls.specs.Sweeps.{FallsFrom};
 
-use memory::{BLOCKS, BlockWords, CommandWords, Counts, index_of};
+use memory::{BLOCKS, BlockWords, CommandWords, Counts};
 use model::BlockNo;
 use reclaim_reach::Marks;
 
@@ -24,8 +24,7 @@ fn mark_below(marks: &mut Marks, k: u16, n: u16) -> bool
     if k >= n {
         return false;
     }
-    let i = index_of(k);
-    marks[i] = true;
+    marks[usize::from(k)] = true;
     true
 }
 
@@ -34,10 +33,7 @@ fn link_below(marks: &mut Marks, w: u16, n: u16) -> bool
     requires { n ≤ block_limit }
     ensures { Marking n (with_link (link_in w) []) marks.old result marks.new }
 {
-    if w == 0 {
-        return true;
-    }
-    mark_below(marks, w - 1, n)
+    w == 0 || mark_below(marks, w - 1, n)
 }
 
 // The target of command i, if it is a Goto, an If or an EndIf.
@@ -47,9 +43,7 @@ fn target_below(cw: &CommandWords, i: usize, marks: &mut Marks, n: u16) -> bool
 {
     let block = cw[4 * i + 3];
     match cw[4 * i] {
-        1 => mark_below(marks, block, n),
-        3 => mark_below(marks, block, n),
-        4 => mark_below(marks, block, n),
+        1 | 3 | 4 => mark_below(marks, block, n),
         _ => true,
     }
 }
@@ -59,14 +53,11 @@ fn targets_below(cw: &CommandWords, first: u16, held: u16, marks: &mut Marks, n:
     requires { (n ≤ block_limit) × ((j : ℕ) → j < held → first + j < command_limit) }
     ensures { Marking n (targets_at cw.now held first) marks.old result marks.new }
 {
-    let f = index_of(first);
-    let count = index_of(held);
-    let mut i: usize = 0;
-    while i < count {
-        if !target_below(cw, f + i, marks, n) {
+    let first = usize::from(first);
+    for i in 0..usize::from(held) {
+        if !target_below(cw, first + i, marks, n) {
             return false;
         }
-        i += 1;
     }
     true
 }
@@ -95,14 +86,10 @@ fn sweep_down(cw: &CommandWords, bw: &BlockWords, blocks: u16, marks: &mut Marks
     requires { Safe cw.now bw.now blocks }
     ensures { result ≡ sweep (blocks_of cw.now bw.now blocks) blocks marks.old }
 {
-    let mut n = blocks;
-    while n > 0 {
-        n -= 1;
-        let b = index_of(n);
-        if marks[b] {
-            if !links_below(cw, bw, b, marks, n) {
-                return false;
-            }
+    for n in (0..blocks).rev() {
+        let b = usize::from(n);
+        if marks[b] && !links_below(cw, bw, b, marks, n) {
+            return false;
         }
     }
     true
