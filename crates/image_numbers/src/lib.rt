@@ -7,63 +7,33 @@ ghost use Rattle.model.specs.Reading.{groups, number, word_to, word, zig, zag, r
 ghost use Rattle.image_numbers.specs.Told.{Told, ShortWord};
 ghost use Rattle.image_numbers.specs.Stored.{Stored, Room};
 
-// A number and the place after it.
-#[derive(Clone, Copy)]
-pub enum Num {
-    Got(u64, usize),
-    Bad,
-}
-
 // ---- reading
 
-// A byte behind a call: whoever counts with it owes no proof that it fits.
-fn wide_byte(b: u8) -> u64
-    ensures { result ≡ b }
-{
-    b as u64
-}
-
-// A number of at most f groups. A group with the high bit before 0 is not shortest.
-fn read_groups(s: &[u8], at: usize, f: u8) -> Num
+// A number of at most f groups, and the place after it. A group with the high bit before 0 is not shortest.
+fn read_groups(s: &[u8], at: usize, f: u8) -> Option<(u64, usize)>
     requires { f ≤ 5 }
     ensures { Told s.now result (groups f (drop at s.now)) }
 {
-    if f == 0 {
-        return Num::Bad;
+    if f == 0 || at >= s.len() {
+        return None;
     }
-    if at >= s.len() {
-        return Num::Bad;
-    }
-    let b = wide_byte(s[at]);
+    let b = u64::from(s[at]);
     if b < 128 {
-        return Num::Got(b, at + 1);
+        return Some((b, at + 1));
     }
-    let high = read_groups(s, at + 1, f - 1);
-    match high {
-        Num::Got(v, p) => {
-            if v == 0 {
-                return Num::Bad;
-            }
-            Num::Got(128 * v + (b - 128), p)
-        }
-        Num::Bad => Num::Bad,
+    let (v, p) = read_groups(s, at + 1, f - 1)?;
+    if v == 0 {
+        return None;
     }
+    Some((128 * v + (b - 128), p))
 }
 
-// A number below the limit. Five groups hold more than 32 bits: the limit is what makes one too wide.
-pub fn read_number(s: &[u8], at: usize, limit: u64) -> Num
+// A number below the limit, and the place after it. Five groups hold more than 32 bits: the limit is what makes one too wide.
+pub fn read_number(s: &[u8], at: usize, limit: u64) -> Option<(u64, usize)>
     ensures { Told s.now result (number limit (drop at s.now)) }
 {
-    let n = read_groups(s, at, 5);
-    match n {
-        Num::Got(v, p) => {
-            if v < limit {
-                return Num::Got(v, p);
-            }
-            Num::Bad
-        }
-        Num::Bad => Num::Bad,
-    }
+    let (v, p) = read_groups(s, at, 5)?;
+    if v < limit { Some((v, p)) } else { None }
 }
 
 // ---- signed numbers
