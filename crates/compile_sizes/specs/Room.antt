@@ -1,7 +1,6 @@
 -- Checks 9 and 19 by what a shop takes, over the limits of any loader. Assumes nothing.
-use Rattle.std.specs.Prelude.{◌≡◌, refl, Bool, true, false, ◌&&◌, List, [], ◌∷◌, ◌+◌, ◌≤◌, ◌<◌, leb, length}
+use Rattle.std.specs.Prelude.{◌≡◌, refl, Bool, true, false, ◌&&◌, List, [], ◌∷◌, ◌+◌, leb, length}
 use Rattle.std.proofs.Common.{sym, ap, ◌∙◌, arith, le-leb, leb-true}
-use Rattle.std.proofs.lemmas.Bool.{lt-leb}
 use Rattle.model.specs.declared.Loader.{Loader}
 use Rattle.model.specs.declared.Loader.TheVariants.{Disc, Demo}
 use Rattle.model.specs.Limits.{block_limit, command_limit}
@@ -13,12 +12,11 @@ use Rattle.model.specs.Image.{Limits, limits}
 use Rattle.model.specs.Compile.{shop_blocks, disc_limits, demo_limits, limits_of, has_room, room_refusal}
 use Rattle.model.proofs.Laws.Checks.{and_left, and_right}
 use Rattle.memory.specs.declared.Counts.{Counts}
-use Rattle.compile_sizes.specs.declared.Limits as code
 use Rattle.compile_sizes.specs.declared.Size.{Size}
 use Rattle.compile_sizes.specs.Sizes.{shop_size}
 use Rattle.compile_sizes.specs.Blocks.{shop_sized}
 
-abbrev pub limits_in : code.Limits → Limits
+abbrev pub limits_in : Size → Limits
 limits_in l = limits l.blocks l.commands l.nodes
 
 -- a script with the counts k has room for what takes r
@@ -30,20 +28,8 @@ room_within : (l : Limits) (h : Sheet) (xs : List Slot) (k : Counts) (r : Size) 
 unfolding has_room
 room_within l h xs k r e sc eb ec en = let s = shop_sized h k.blocks xs in rw (e, eb, ec, en, s.blocks, s.commands, s.nodes)
 
--- the limits one after the other
-module _ (l : Limits) (k : Counts) (r : Size) where
-  pub blocks_over_lem : l.blocks < k.blocks + r.blocks → within l k r ≡ false
-  blocks_over_lem p = rw (lt-leb (k.blocks + r.blocks) l.blocks p)
-
-  module _ (p : k.blocks + r.blocks ≤ l.blocks) where
-    pub commands_over : l.commands < k.commands + r.commands → within l k r ≡ false
-    commands_over q = rw (le-leb (k.blocks + r.blocks) l.blocks p, lt-leb (k.commands + r.commands) l.commands q)
-
-    pub nodes_decide : k.commands + r.commands ≤ l.commands → within l k r ≡ leb (k.nodes + r.nodes) l.nodes
-    nodes_decide q = rw (le-leb (k.blocks + r.blocks) l.blocks p, le-leb (k.commands + r.commands) l.commands q)
-
 -- as the code asks it, which has a loader's limits from a call
-pub asked : (l : code.Limits) (o : Loader) (k : Counts) (r : Size) (b t : Bool) → limits_in l ≡ limits_of o → b ≡ within (limits_in l) k r → b ≡ t → within (limits_of o) k r ≡ t
+pub asked : (l : Size) (o : Loader) (k : Counts) (r : Size) (b t : Bool) → limits_in l ≡ limits_of o → b ≡ within (limits_in l) k r → b ≡ t → within (limits_of o) k r ≡ t
 asked l o k r b t e p q = ap (λ (m : Limits). within m k r) (sym e) ∙ sym p ∙ q
 
 -- no limit of a loader is above the disc's

@@ -1,8 +1,8 @@
 -- A slot's size from what the shop's functions give, and the slots one after the other, the highest-numbered first. Assumes nothing.
-use Rattle.std.specs.Prelude.{◌≡◌, refl, List, ◌∷◌, map, length, take}
+use Rattle.std.specs.Prelude.{◌≡◌, List, ◌∷◌, map, length, take}
 use Rattle.std.proofs.Math.Path.{ap}
 use Rattle.std.proofs.Common.{◌∙◌, le-leb, drop_of_length-le}
-use Prim.Native.Nat.{ℕ, zero, suc, ◌+◌, ◌*◌, ◌-◌, ◌≤◌, ◌<◌}
+use Prim.Native.Nat.{ℕ, suc, ◌+◌, ◌*◌, ◌-◌, ◌≤◌, ◌<◌}
 use native.Mathlib.Omega.{arith}
 use Rattle.std.proofs.lemmas.Bool.{lt-leb}
 use Rattle.std.proofs.Math.ListN.{drop, get_or}
@@ -25,17 +25,7 @@ use Rattle.shop.specs.Codes.{sorted_narrow}
 use Rattle.shop.specs.SetLaws.{held_set, sorted_fits}
 use Rattle.shop.specs.Slots.{slot_narrow}
 use Rattle.compile_sizes.specs.declared.Size.{Size}
-use Rattle.compile_sizes.specs.Sizes.{AtMost, tests_nodes, sized, plus, hide_size, sold_size, unique_size, limit_size, filled_size, slot_size, return_size, shop_size}
-
--- ---- sizes with some requirements, however many
-
-pub sold_some : (n a : ℕ) → (n ≡ 0 → ⊥) → sold_size n a ≡ sized 4 9 (12 + a)
-sold_some zero a h = absurd (h refl)
-sold_some (suc n) a h = refl
-
-pub limit_some : (n v : ℕ) → (n ≡ 0 → ⊥) → limit_size n v ≡ sized 5 9 (20 + v - 1)
-limit_some zero v h = absurd (h refl)
-limit_some (suc n) v h = refl
+use Rattle.compile_sizes.specs.Sizes.{AtMost, tests_nodes, plus, hide_size, unique_size, limit_size, filled_size, slot_size, return_size, shop_size}
 
 -- ---- the set of a slot
 

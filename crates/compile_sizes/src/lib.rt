@@ -1,8 +1,9 @@
 // What the blocks of a shop take of a script, counted before anything is written, and checks 9 and 19.
 #![tactic(auto)]
 
-ghost use Rattle.std.specs.Prelude.{◌≡◌, ◌+◌, ◌≤◌, ◌<◌, map, length, take};
+ghost use Rattle.std.specs.Prelude.{◌≡◌, ◌+◌, ◌≤◌, ◌<◌, map, length};
 ghost use Rattle.model.specs.Limits.{entry_limit, slot_count, wide16};
+ghost use Rattle.model.specs.Refusals.{refusal_in};
 ghost use Rattle.model.specs.Script.{Script};
 ghost use Rattle.model.specs.Compile.{shop_blocks, limits_of, room_refusal};
 ghost use Rattle.shop_codes.specs.Codes.{requirement_of};
@@ -13,8 +14,8 @@ ghost use Rattle.compile_sizes.specs.Room.{limits_in, within};
 ghost use Rattle.compile_sizes.specs.Sizes.{AtMost, test_nodes, tests_nodes, tests_most, acquired_nodes, sized, plus, sold_size, enable_size, unique_size, limit_size, slot_size, shop_size};
 
 use memory::{BLOCKS, COMMANDS, Counts, NODES};
-use model::Loader;
-use shop::{Codes, ENTRIES, Row, SLOTS, Sheet, SlotItem, Timer, limit_of, timer_of};
+use model::{Loader, Refusal};
+use shop::{Codes, ENTRIES, SLOTS, Sheet, SlotItem, Timer, limit_of, timer_of};
 use shop_arrays::{item_at, sort_row};
 use shop_codes::{Subject, is_missing, subject_of};
 
@@ -38,8 +39,8 @@ const MOST_COMMANDS: u32 = 281;
 
 const MOST_NODES: u32 = (SLOTS * (43 + 5 * ENTRIES)) as u32;
 
-// What some blocks take: how many they are, and the commands and expression nodes in them.
-#[derive(Clone, Copy)]
+// What some blocks take, or a loader loads at most: how many they are, and the commands and expression nodes in them.
+#[derive(Clone, Copy, Debug, PartialEq, Eq)]
 pub struct Size {
     pub blocks: u32,
     pub commands: u32,
@@ -51,9 +52,9 @@ fn sized(blocks: u32, commands: u32, nodes: u32) -> Size
     ensures { result ≡ sized blocks commands nodes }
 {
     Size {
-        blocks: blocks,
-        commands: commands,
-        nodes: nodes,
+        blocks,
+        commands,
+        nodes,
     }
 }
 
@@ -75,30 +76,21 @@ fn plus(a: Size, b: Size) -> Size
 fn test_nodes(code: u64) -> u32
     ensures { (result ≡ test_nodes (requirement_of code)) × (result ≤ 4) }
 {
-    let about = subject_of(code);
-    match about {
-        Subject::Item(_) => 4,
-        Subject::Atc(_) => 4,
-        Subject::Flag(_) => {
-            if is_missing(code) {
-                return 3;
-            }
-            2
-        }
+    match subject_of(code) {
+        Subject::Item(_) | Subject::Atc(_) => 4,
+        Subject::Flag(_) if is_missing(code) => 3,
+        Subject::Flag(_) => 2,
     }
 }
 
-// The tests of the first len codes, each with the node that joins it to what stands before it.
-fn tests_nodes(codes: Row, len: u8) -> u32
-    requires { len ≤ entry_limit }
-    ensures { (result ≡ tests_nodes (map requirement_of (take len codes))) × (result ≤ tests_most) }
+// The tests of some codes, each with the node that joins it to what stands before it.
+fn tests_nodes(codes: &[u64]) -> u32
+    requires { length codes.now ≤ entry_limit }
+    ensures { (result ≡ tests_nodes (map requirement_of codes.now)) × (result ≤ tests_most) }
 {
-    let end = len as usize;
-    let mut nodes: u32 = 0;
-    let mut i = 0;
-    while i < end {
-        nodes += test_nodes(codes[i]) + 1;
-        i += 1;
+    let mut nodes = 0;
+    for code in codes {
+        nodes += test_nodes(*code) + 1;
     }
     nodes
 }
@@ -109,9 +101,7 @@ fn acquired_nodes(timer: Timer) -> u32
 {
     match timer {
         Timer::Plain => 4,
-        Timer::Five => 9,
-        Timer::Ten => 9,
-        Timer::Fifteen => 9,
+        Timer::Five | Timer::Ten | Timer::Fifteen => 9,
     }
 }
 
@@ -134,10 +124,8 @@ fn enable_size(timer: Timer, condition: u32) -> Size
     ensures { (result ≡ enable_size (timer_is timer) condition) × AtMost result (22 + tests_most) }
 {
     match timer {
-        Timer::Plain => sized(1, 1, condition),
         Timer::Five => sized(3, 5, 13 + condition),
-        Timer::Ten => sized(1, 1, condition),
-        Timer::Fifteen => sized(1, 1, condition),
+        Timer::Plain | Timer::Ten | Timer::Fifteen => sized(1, 1, condition),
     }
 }
 
@@ -182,7 +170,7 @@ fn slot_size(
         SlotItem::Of(w) => {
             let mut set = [0; ENTRIES];
             let len = sort_row(codes, lens, i, &mut set);
-            let tests = tests_nodes(set, len);
+            let tests = tests_nodes(&set[..usize::from(len)]);
             if limit_of(attached, sheet, w, limits[i]) <= 1 {
                 return unique_size(timer_of(sheet, w), len, tests);
             }
@@ -206,9 +194,7 @@ fn shop_size(
     ensures { (result ≡ shop_size (sheet_of attached.now sheet) (slots_of (shop_from (arrays_in items.now limits.now codes.now lens.now)))) × AtMost result wide16 }
 {
     let mut total = sized(1, 1, 0);
-    let mut i = SLOTS;
-    while 0 < i {
-        i -= 1;
+    for i in (0..SLOTS).rev() {
         let next = slot_size(attached, sheet, items, limits, codes, lens, i);
         total = plus(next, total);
     }
@@ -216,23 +202,16 @@ fn shop_size(
 }
 
 // What a loader loads at most.
-#[derive(Clone, Copy)]
-struct Limits {
-    blocks: u32,
-    commands: u32,
-    nodes: u32,
-}
-
-fn limits_of(loader: Loader) -> Limits
+fn limits_of(loader: Loader) -> Size
     ensures { limits_in result ≡ limits_of loader }
 {
     match loader {
-        Loader::Disc => Limits {
+        Loader::Disc => Size {
             blocks: BLOCK_LIMIT,
             commands: COMMAND_LIMIT,
             nodes: NODE_LIMIT,
         },
-        Loader::Demo => Limits {
+        Loader::Demo => Size {
             blocks: DEMO_BLOCKS,
             commands: DEMO_COMMANDS,
             nodes: DEMO_NODES,
@@ -241,17 +220,13 @@ fn limits_of(loader: Loader) -> Limits
 }
 
 // A script with the counts k has room for what takes s, by the limits of a loader.
-fn room(most: Limits, k: Counts, s: Size) -> bool
+fn room(most: Size, k: Counts, s: Size) -> bool
     requires { AtMost s wide16 }
     ensures { result ≡ within (limits_in most) k s }
 {
-    if most.blocks < k.blocks as u32 + s.blocks {
-        return false;
-    }
-    if most.commands < k.commands as u32 + s.commands {
-        return false;
-    }
-    k.nodes as u32 + s.nodes <= most.nodes
+    u32::from(k.blocks) + s.blocks <= most.blocks
+        && u32::from(k.commands) + s.commands <= most.commands
+        && u32::from(k.nodes) + s.nodes <= most.nodes
 }
 
 // Checks 9 and 19: the shop's blocks pass no limit of a script with the counts k, first by the disc's limits, then by those of the loader. No loader's limits are above the disc's, so that a shop is counted, once, only where not every shop has room.
@@ -264,21 +239,21 @@ pub fn check_room(
     limits: &[i16; SLOTS],
     codes: &Codes,
     lens: &[u8; SLOTS],
-) -> u8
+) -> Result<(), Refusal>
     requires { AllExact (shop_from (arrays_in items.now limits.now codes.now lens.now)) }
-    ensures { (sc : Script) → length sc.blocks ≡ k.blocks → sc.commands ≡ k.commands → sc.nodes ≡ k.nodes → result ≡ room_refusal loader sc (shop_blocks (sheet_of attached.now sheet) k.blocks (slots_of (shop_from (arrays_in items.now limits.now codes.now lens.now)))) }
+    ensures { (sc : Script) → length sc.blocks ≡ k.blocks → sc.commands ≡ k.commands → sc.nodes ≡ k.nodes → refusal_in result ≡ room_refusal loader sc (shop_blocks (sheet_of attached.now sheet) k.blocks (slots_of (shop_from (arrays_in items.now limits.now codes.now lens.now)))) }
 {
     let own = limits_of(loader);
     if room(own, k, sized(MOST_BLOCKS, MOST_COMMANDS, MOST_NODES)) {
-        return 0;
+        return Ok(());
     }
     let s = shop_size(attached, sheet, items, limits, codes, lens);
     let disc = limits_of(Loader::Disc);
     if !room(disc, k, s) {
-        return 9;
+        return Err(Refusal::NoRoom);
     }
     if !room(own, k, s) {
-        return 19;
+        return Err(Refusal::DemoFull);
     }
-    0
+    Ok(())
 }
