@@ -1,14 +1,11 @@
 -- What the requirement of a code is about, by its kind, and whether that has to be missing. Assumes nothing.
-use Rattle.std.specs.Prelude.{◌≡◌, refl, false, Bool, true, cond, [], ◌∷◌, List, ℕ, zero, suc, ◌+◌, ◌/◌, ◌%◌, ◌≤◌, ◌<◌, ℤ, negsuc, ◌-ℤ◌}
+use Rattle.std.specs.Prelude.{◌≡◌, refl, false, Bool, true, cond, [], ◌∷◌, List, ℕ, zero, suc, ◌+◌, ◌/◌, ◌%◌, ◌≤◌, ◌<◌, ℤ}
 use Rattle.std.proofs.Math.Path.{sym, ap}
-use Rattle.std.proofs.Common.{◌∙◌, arith, to_z}
-use Rattle.std.specs.Int.{w32}
-use Rattle.std.proofs.Math.Facts.{to_z_pos}
-use Rattle.model.specs.Limits.{most_items, wide, half32}
+use Rattle.std.proofs.Common.{◌∙◌, arith}
+use Rattle.model.specs.Limits.{most_items, wide}
 use Rattle.model.specs.Requirement.{Requirement, haveItem, missingItem, haveAtc, missingAtc, haveFlag, missingFlag, number, negate_req, keep}
 use Rattle.shop_codes.specs.Codes.{InRange, unshift, code_of, id_of, of_kind, requirement_of, Narrow, subject, is_missing, AllNarrow}
 use Rattle.shop_codes.specs.Laws.{code_narrow}
-use Rattle.model.proofs.Laws.Signed.{minus_one}
 
 -- ---- by the kind
 
@@ -93,9 +90,6 @@ subject_number (missingFlag f) = refl
 -- the number of what a code is about has 32 bits
 pub subject_low : (c : ℕ) (s : Requirement) → s ≡ subject (requirement_of c) → InRange (number s)
 subject_low c s e = rw (e, subject_number (requirement_of c)) (code_narrow c).fits
-
-pub turned : (k : ℕ) → k < half32 → negsuc 0 -ℤ to_z w32 k ≡ negsuc k
-turned k h = ap (λ (z : ℤ). negsuc 0 -ℤ z) (to_z_pos w32 h) ∙ minus_one k
 
 -- ---- the Missing of a Have
 

@@ -12,16 +12,19 @@ pub const KIND: u64 = 4294967296;
 // What 0 is moved up to.
 pub const ZERO: u64 = 2147483648;
 
-// .. and −1.
-const MINUS_ONE: u64 = 2147483647;
+// .. and as a number that may lie below it.
+const HALF: i64 = 2147483648;
 
 // Where the codes of HaveAtc and HaveFlag begin; those of HaveItem begin at 0.
 pub const HAVE_ATC: u64 = 8589934592;
 
 pub const HAVE_FLAG: u64 = 17179869184;
 
+// An id that no sheet has: the largest has 512 items.
+const ON_NO_SHEET: u32 = 512;
+
 // What a requirement is about, had or missing.
-#[derive(Clone, Copy)]
+#[derive(Clone, Copy, Debug, PartialEq, Eq)]
 pub enum Subject {
     Item(u32),
     Atc(u32),
@@ -36,15 +39,12 @@ pub fn kind_of(code: u64) -> u64
     code / KIND
 }
 
-// A number moved up, as an id. One below 0 is on no sheet, nor is 512.
+// A number moved up, as an id. One below 0 is on no sheet.
 fn id_in(m: u64) -> u32
     requires { m < wide }
     ensures { result ≡ id_of (unshift m) }
 {
-    if m < ZERO {
-        return 512;
-    }
-    (m - ZERO) as u32
+    m.checked_sub(ZERO).map_or(ON_NO_SHEET, |id| id as u32)
 }
 
 // .. and as a flag's number.
@@ -52,39 +52,28 @@ fn flag_in(m: u64) -> i32
     requires { m < wide }
     ensures { result ≡ unshift m }
 {
-    if m < ZERO {
-        let below = MINUS_ONE - m;
-        return -1 - (below as i32);
-    }
-    (m - ZERO) as i32
+    (m as i64 - HALF) as i32
 }
 
-// A code of no kind stands for item 512, which is on no sheet.
+// A code of no kind stands for an item that is on no sheet.
 pub fn subject_of(code: u64) -> Subject
     ensures { subject_is result ≡ subject (requirement_of code) }
 {
-    let kind = code / KIND;
     let m = code % KIND;
-    if kind < 2 {
-        return Subject::Item(id_in(m));
+    match code / KIND {
+        0..=1 => Subject::Item(id_in(m)),
+        2..=3 => Subject::Atc(id_in(m)),
+        4..=5 => Subject::Flag(flag_in(m)),
+        _ => Subject::Item(ON_NO_SHEET),
     }
-    if kind < 4 {
-        return Subject::Atc(id_in(m));
-    }
-    if kind < 6 {
-        return Subject::Flag(flag_in(m));
-    }
-    Subject::Item(512)
 }
 
 // The number of a requirement, an id or a flag's.
 pub fn number_of(code: u64) -> i32
     ensures { result ≡ number (requirement_of code) }
 {
-    let about = subject_of(code);
-    match about {
-        Subject::Item(i) => i as i32,
-        Subject::Atc(a) => a as i32,
+    match subject_of(code) {
+        Subject::Item(id) | Subject::Atc(id) => id as i32,
         Subject::Flag(f) => f,
     }
 }
@@ -93,13 +82,7 @@ pub fn number_of(code: u64) -> i32
 pub fn is_missing(code: u64) -> bool
     ensures { result ≡ is_missing (requirement_of code) }
 {
-    let kind = code / KIND;
-    match kind {
-        1 => true,
-        3 => true,
-        5 => true,
-        _ => false,
-    }
+    matches!(code / KIND, 1 | 3 | 5)
 }
 
 // ---- to a code
@@ -108,11 +91,7 @@ pub fn is_missing(code: u64) -> bool
 pub fn shifted(x: i32) -> u64
     ensures { (result ≡ shift x) × InRange x }
 {
-    let b = ints::to_bits(x) as u64;
-    if b < ZERO {
-        return b + ZERO;
-    }
-    b - ZERO
+    (i64::from(x) + HALF) as u64
 }
 
 // From the code of a Have to that of its Missing.
