@@ -1,4 +1,2 @@
-mod Signed
-mod Eval
-mod Numbers
-mod Packing
+pub mod Below
+pub mod Signed

@@ -1,5 +1,6 @@
 -- The sheet and the number of an Imm as the code has them, and that reading a negated condition is reading with the other sign. Assumes nothing.
-use Rattle.std.specs.Prelude.{◌≡◌, refl, Bool, true, false, not, cond, List, ℕ, ℤ}
+use Rattle.std.specs.Prelude as code
+use Rattle.std.specs.Prelude.{◌≡◌, refl, Bool, true, false, not, cond, List, ℕ, ℤ, None, Some}
 use Rattle.std.proofs.Common.{sym, ap, ◌∙◌}
 use Rattle.std.proofs.Math.Bool.{not-not}
 use Rattle.std.proofs.Math.Option.{Option, none, some}
@@ -11,17 +12,16 @@ use Rattle.model.specs.Parse.{value, map_req, if_zero, parse_requirement, add_re
 use Rattle.model.specs.declared.Op2.TheVariants.{Equal, NotEqual, Less, LessEqual, Greater, GreaterEqual, Add, Subtract, BitAnd, BitOr}
 use Rattle.model.specs.declared.Op1.TheVariants.{Not, Flag, Variable, Item, Atc, Time}
 use Rattle.model.proofs.Laws.Normal.{neg_neg}
-use Rattle.expr.specs.declared.MaybeNumber.{MaybeNumber}
-use Rattle.expr.specs.declared.MaybeNumber.TheVariants.{Is, Nothing}
 
 -- the sheet enters the code as its two counts
 pub record Has (h : Sheet) (n m : ℕ) : Type 0 where
   pub items : item_count h ≡ n
   pub atcs : h.atc_count ≡ m
 
-abbrev pub number_of : MaybeNumber → Option ℤ
-number_of Nothing = none
-number_of (Is z) = some z
+-- the number that the code found, if any
+abbrev pub number_of : code.Option ℤ → Option ℤ
+number_of None = none
+number_of (Some z) = some z
 
 -- ---- a negated condition: the parser needs no memory for it
 
