@@ -1,5 +1,5 @@
 -- A slot's size from what the shop's functions give, and the slots one after the other, the highest-numbered first. Assumes nothing.
-use Rattle.std.specs.Prelude.{◌≡◌, List, ◌∷◌, map, length, take}
+use Rattle.std.specs.Prelude.{◌≡◌, List, ◌∷◌, map, length, take, Some, None}
 use Rattle.std.proofs.Math.Path.{ap}
 use Rattle.std.proofs.Common.{◌∙◌, le-leb, drop_of_length-le}
 use Prim.Native.Nat.{ℕ, suc, ◌+◌, ◌*◌, ◌-◌, ◌≤◌, ◌<◌}
@@ -15,11 +15,9 @@ use Rattle.model.specs.Sheet as Model
 use Rattle.model.specs.Shop.{Timer, timer_of, limit_of}
 use Rattle.shop.specs.declared.Slot.{Slot}
 use Rattle.shop.specs.declared.Shop.{Shop}
-use Rattle.shop.specs.declared.Reqs.{Reqs}
-use Rattle.shop.specs.declared.SlotItem.TheVariants.{Nothing, Of}
 use Rattle.shop_codes.specs.Codes.{code_of, requirement_of}
 use Rattle.shop.specs.Shapes.{slot_of, slots_of}
-use Rattle.shop.specs.Sets.{Exact, reqs_of, sorted_reqs}
+use Rattle.shop.specs.Sets.{Exact, Reqs, reqs_of, sorted_reqs}
 use Rattle.shop_codes.specs.Laws.{codes_stand}
 use Rattle.shop.specs.Codes.{sorted_narrow}
 use Rattle.shop.specs.SetLaws.{held_set, sorted_fits}
@@ -45,7 +43,7 @@ module _ (x : Slot) (e : Exact x) (s : Reqs) (set : s ≡ sorted_reqs x) where
       ∙ codes_stand (sorted (slot_of x).requirements) (sorted_narrow (slot_of x).requirements (slot_narrow x)))
 
   -- .. with item w, limit l, and tests of v nodes
-  module _ (h : Model.Sheet) (w : ItemId) (l v : ℕ) (item : x.item ≡ Of w) (limit : l ≡ limit_of h w.0 x.limit)
+  module _ (h : Model.Sheet) (w : ItemId) (l v : ℕ) (item : x.item ≡ Some w) (limit : l ≡ limit_of h w.0 x.limit)
       (tests : v ≡ tests_nodes (map requirement_of (take s.len s.codes))) where
     filled_is : filled_size (timer_of h w.0) l s.len v ≡ slot_size h (slot_of x)
     unfolding slot_size slot_of
@@ -58,7 +56,7 @@ module _ (x : Slot) (e : Exact x) (s : Reqs) (set : s ≡ sorted_reqs x) where
     limit_is q = rw (lt-leb l 1 q) at filled_is
 
 -- no item: H alone
-pub none_is : (h : Model.Sheet) (x : Slot) → x.item ≡ Nothing → hide_size ≡ slot_size h (slot_of x)
+pub none_is : (h : Model.Sheet) (x : Slot) → x.item ≡ None → hide_size ≡ slot_size h (slot_of x)
 unfolding slot_size slot_of
 none_is h x o = rw o
 

@@ -15,7 +15,7 @@ ghost use Rattle.compile_sizes.specs.Sizes.{AtMost, test_nodes, tests_nodes, tes
 
 use memory::{BLOCKS, COMMANDS, Counts, NODES};
 use model::{Loader, Refusal};
-use shop::{Codes, ENTRIES, SLOTS, Sheet, SlotItem, Timer, limit_of, timer_of};
+use shop::{Codes, ENTRIES, SLOTS, Sheet, Timer, limit_of, timer_of};
 use shop_arrays::{item_at, sort_row};
 use shop_codes::{Subject, is_missing, subject_of};
 
@@ -113,9 +113,10 @@ fn sold_size(len: u8, acquired: u32) -> Size
     ensures { (result ≡ sold_size len acquired) × AtMost result 21 }
 {
     if len == 0 {
-        return sized(2, 5, 8);
+        sized(2, 5, 8)
+    } else {
+        sized(4, 9, 12 + acquired)
     }
-    sized(4, 9, 12 + acquired)
 }
 
 // Above N: D2 and T for Timer5 only, then V, whose condition has so many nodes.
@@ -146,9 +147,10 @@ fn limit_size(len: u8, tests: u32) -> Size
     ensures { (result ≡ limit_size len tests) × AtMost result 256 }
 {
     if len == 0 {
-        return sized(3, 5, 16);
+        sized(3, 5, 16)
+    } else {
+        sized(5, 9, 20 + tests - 1)
     }
-    sized(5, 9, 20 + tests - 1)
 }
 
 // The blocks of slot i, whatever the block that it ends at; without an item H alone.
@@ -164,18 +166,16 @@ fn slot_size(
     requires { (i < slot_count) × Exact (slot_at (arrays_in items.now limits.now codes.now lens.now) i) }
     ensures { (result ≡ slot_size (sheet_of attached.now sheet) (slot_of (slot_at (arrays_in items.now limits.now codes.now lens.now) i))) × AtMost result 256 }
 {
-    let item = item_at(items, i);
-    match item {
-        SlotItem::Nothing => sized(1, 2, 4),
-        SlotItem::Of(w) => {
-            let mut set = [0; ENTRIES];
-            let len = sort_row(codes, lens, i, &mut set);
-            let tests = tests_nodes(&set[..usize::from(len)]);
-            if limit_of(attached, sheet, w, limits[i]) <= 1 {
-                return unique_size(timer_of(sheet, w), len, tests);
-            }
-            limit_size(len, tests)
-        }
+    let Some(w) = item_at(items, i) else {
+        return sized(1, 2, 4);
+    };
+    let mut set = [0; ENTRIES];
+    let len = sort_row(codes, lens, i, &mut set);
+    let tests = tests_nodes(&set[..usize::from(len)]);
+    if limit_of(attached, sheet, w, limits[i]) <= 1 {
+        unique_size(timer_of(sheet, w), len, tests)
+    } else {
+        limit_size(len, tests)
     }
 }
 

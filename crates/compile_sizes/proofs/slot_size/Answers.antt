@@ -30,11 +30,11 @@ returns-then-limit_of-le1 c =
     let x : Slot = slot_at (arrays_in c.args.items.now c.args.limits.now c.args.codes.now c.args.lens.now) c.args.i in
     let z = c.sort_row-len.ensures c.args.items.now c.args.limits.now c.requires.1 in
     let l = rw (to_z-of_z {w = w16} {z = get_or c.args.limits.now c.args.i (pos 0)} (search rules)) at c.limit_of.ensures in
-    (c.unique_size.ensures.0 ∙ unique_is x c.requires.1 (reqs_in c.sort_row-len.new.out c.sort_row-len.result) z (sheet_of c.args.attached.now c.args.sheet) _ _ _ (sym c.item_at-item.ensures ∙ c.in-Of.is) l (rw c.from.ensures at c.tests_nodes-tests.ensures.0) _ (c.timer_of.ensures c.args.attached.now) c.if-limit_of-le1.true, c.unique_size.ensures.1)
+    (c.unique_size.ensures.0 ∙ unique_is x c.requires.1 (reqs_in c.sort_row-len.new.out c.sort_row-len.result) z (sheet_of c.args.attached.now c.args.sheet) _ _ _ (sym c.item_at.ensures ∙ c.in-Some.is) l (rw c.from.ensures at c.tests_nodes-tests.ensures.0) _ (c.timer_of.ensures c.args.attached.now) c.if-limit_of-le1.true, c.unique_size.ensures.1)
 
-pub returns-in-Nothing : goal.returns-in-Nothing
+pub returns-in_default : goal.returns-in_default
 unfolding slot_at
-returns-in-Nothing c = (c.sized.ensures ∙ none_is _ _ (sym c.item_at-item.ensures ∙ c.in-Nothing.is), rw c.sized.ensures (search rules))
+returns-in_default c = (c.sized.ensures ∙ none_is _ _ (sym c.item_at.ensures ∙ c.in_default.is), rw c.sized.ensures (search rules))
 
 pub returns-else-limit_of-le1 : goal.returns-else-limit_of-le1
 unfolding slot_at
@@ -42,4 +42,4 @@ returns-else-limit_of-le1 c =
     let x : Slot = slot_at (arrays_in c.args.items.now c.args.limits.now c.args.codes.now c.args.lens.now) c.args.i in
     let z = c.sort_row-len.ensures c.args.items.now c.args.limits.now c.requires.1 in
     let l = rw (to_z-of_z {w = w16} {z = get_or c.args.limits.now c.args.i (pos 0)} (search rules)) at c.limit_of.ensures in
-    (c.limit_size.ensures.0 ∙ limit_is x c.requires.1 (reqs_in c.sort_row-len.new.out c.sort_row-len.result) z (sheet_of c.args.attached.now c.args.sheet) _ _ _ (sym c.item_at-item.ensures ∙ c.in-Of.is) l (rw c.from.ensures at c.tests_nodes-tests.ensures.0) c.if-limit_of-le1.false, c.limit_size.ensures.1)
+    (c.limit_size.ensures.0 ∙ limit_is x c.requires.1 (reqs_in c.sort_row-len.new.out c.sort_row-len.result) z (sheet_of c.args.attached.now c.args.sheet) _ _ _ (sym c.item_at.ensures ∙ c.in-Some.is) l (rw c.from.ensures at c.tests_nodes-tests.ensures.0) c.if-limit_of-le1.false, c.limit_size.ensures.1)
