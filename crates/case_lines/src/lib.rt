@@ -9,6 +9,9 @@ use model::{WIDE, WIDE16};
 use shop::{ENTRIES, Row};
 use shop_codes::{KIND, ZERO};
 
+// The standard input.
+const STDIN: i32 = 0;
+
 // The standard output.
 const STDOUT: i32 = 1;
 
@@ -45,28 +48,23 @@ pub fn line_end(text: &[u8], at: usize) -> usize
     requires { at < length text.now }
     ensures { (at ≤ result) × (result < length text.now) }
 {
-    let mut i = at;
-    while i < text.len() - 1 {
-        if text[i] == 10 {
-            return i;
-        }
-        i += 1;
-    }
-    i
+    let last = text.len() - 1;
+    text[at..last]
+        .iter()
+        .position(|b| *b == b'\n')
+        .map_or(last, |passed| at + passed)
 }
 
 // The numbers of a line, decimal and, from number hex on, hexadecimal. Answers where the colon is.
 pub fn numbers(line: &[u8], hex: usize, a: &mut Words) -> usize {
     let mut p = Place { n: 0, minus: false };
-    let mut i: usize = 1;
-    while i < line.len() {
-        if line[i] == b':' {
+    for (i, b) in line.iter().enumerate().skip(1) {
+        if *b == b':' {
             return i;
         }
-        p = next(a, hex, p, line[i]);
-        i += 1;
+        p = next(a, hex, p, *b);
     }
-    i
+    line.len().max(1)
 }
 
 // A digit belongs to the number at hand, a sign before it too; anything else begins the next.
@@ -87,13 +85,12 @@ fn next(a: &mut Words, hex: usize, p: Place, b: u8) -> Place {
             minus: true,
         };
     }
-    let v = value(b);
-    if v == 16 {
+    let Some(v) = value(b) else {
         return Place {
             n: p.n + 1,
             minus: false,
         };
-    }
+    };
     a[p.n] = longer(a[p.n], hex <= p.n && p.n < SAID, p.minus, v);
     if p.n < SAID {
         a[0] = p.n as u32;
@@ -101,12 +98,12 @@ fn next(a: &mut Words, hex: usize, p: Place, b: u8) -> Place {
     p
 }
 
-// What a digit stands for; 16 is none.
-fn value(b: u8) -> u8 {
+// What a digit stands for.
+fn value(b: u8) -> Option<u8> {
     match b {
-        b'0'..=b'9' => b % 16,
-        b'A'..=b'F' => b % 16 + 9,
-        _ => 16,
+        b'0'..=b'9' => Some(b % 16),
+        b'A'..=b'F' => Some(b % 16 + 9),
+        _ => None,
     }
 }
 
@@ -123,10 +120,7 @@ fn longer(x: u32, hex: bool, minus: bool, v: u8) -> u32 {
 
 // The letter of a line; an empty line has none.
 pub fn letter(line: &[u8]) -> u8 {
-    if line.len() == 0 {
-        return 0;
-    }
-    line[0]
+    line.first().copied().unwrap_or(0)
 }
 
 // ---- what numbers stand for
@@ -152,10 +146,8 @@ pub fn code(kind: u32, number: u32) -> u64 {
 pub fn row(kind: u32, number: u32, second: u32, from: u32) -> Row {
     let mut codes: Row = [0; ENTRIES];
     codes[0] = code(kind, number);
-    let mut i: usize = 1;
-    while i < ENTRIES {
-        codes[i] = code(second, std::num::wrapping_add_u32(from, (i - 1) as u32));
-        i += 1;
+    for i in 1..ENTRIES {
+        codes[i] = code(second, from.wrapping_add((i - 1) as u32));
     }
     codes
 }
@@ -177,14 +169,38 @@ pub fn bits16(x: i16) -> u32 {
 }
 
 pub fn wide8(x: u8) -> u32 {
-    x as u32
+    u32::from(x)
 }
 
 pub fn bit(b: bool) -> u32 {
-    if b {
-        return 1;
+    u32::from(b)
+}
+
+// ---- a program
+
+// The cases of the standard input, one to a line: answer fills in what the numbers of a line answer, by its letter, and whether that is what the line says is told. The numbers are hexadecimal from the one on that hex names for the letter.
+pub fn run_cases<const N: usize, H: Fn(u8) -> usize, F: FnMut(u8, &mut Words, &mut Answer)>(
+    input: &mut [u8; N],
+    letters: &[u8],
+    hex: H,
+    mut answer: F,
+)
+    requires hex { H.IsAlwaysCallable hex }
+    requires answer { F.IsAlwaysCallable answer }
+{
+    let n = io::read_full(STDIN, input);
+    let mut tally = none();
+    let mut rest = &input[..n];
+    while !rest.is_empty() {
+        let (line, newline) = rest.split_at(line_end(rest, 0));
+        let mut a: Words = [0; WORDS];
+        let mut t: Answer = [0; ANSWER];
+        let colon = numbers(line, hex(letter(line)), &mut a);
+        answer(letter(line), &mut a, &mut t);
+        tally = tell(letters, line, colon, &a, &t, tally);
+        rest = &newline[1..];
     }
-    0
+    total(tally);
 }
 
 // ---- what is said of the answer
@@ -201,36 +217,18 @@ pub fn tell(of: &[u8], line: &[u8], colon: usize, a: &Words, t: &Answer, tally: 
     if line.len() <= colon {
         return tally;
     }
-    let good = as_said(a, t) && stands_in(of, letter(line));
+    let good = as_said(a, t) && of.contains(&letter(line));
     put(&line[colon + 1..]);
     verdict(t, good);
     Tally {
-        cases: std::num::wrapping_add_u32(tally.cases, 1),
-        good: std::num::wrapping_add_u32(tally.good, bit(good)),
+        cases: tally.cases.wrapping_add(1),
+        good: tally.good.wrapping_add(bit(good)),
     }
 }
 
 // Whether the answer is the one that the line says; what it does not say is 0.
 fn as_said(a: &Words, t: &Answer) -> bool {
-    let mut i: usize = 0;
-    while i < ANSWER {
-        if a[SAID + 1 + i] != t[i] {
-            return false;
-        }
-        i += 1;
-    }
-    true
-}
-
-fn stands_in(letters: &[u8], b: u8) -> bool {
-    let mut i: usize = 0;
-    while i < letters.len() {
-        if letters[i] == b {
-            return true;
-        }
-        i += 1;
-    }
-    false
+    a[SAID + 1..].iter().zip(t).all(|(said, told)| said == told)
 }
 
 fn verdict(t: &Answer, good: bool) {
@@ -244,11 +242,9 @@ fn verdict(t: &Answer, good: bool) {
 }
 
 fn all(t: &Answer) {
-    let mut i: usize = 0;
-    while i < ANSWER {
+    for x in t {
         put(b" ");
-        decimal(t[i]);
-        i += 1;
+        decimal(*x);
     }
 }
 
