@@ -1,5 +1,5 @@
 -- Blocks whose nodes and commands have room are read fine. Assumes nothing.
-use Rattle.std.specs.Prelude.{◌≡◌, refl, List, ◌++◌, ℕ, ◌+◌, ◌*◌, ◌≤◌, ℤ, length, get_or}
+use Rattle.std.specs.Prelude.{◌≡◌, refl, List, ◌++◌, ℕ, ◌+◌, ◌*◌, ◌≤◌, ℤ, length, get_or, Ok}
 use Rattle.std.proofs.Common.{arith}
 use Rattle.memory.specs.declared.Counts.{Counts}
 use Rattle.model.specs.Reading.{Answer, word}
@@ -9,32 +9,30 @@ use Rattle.model.specs.Record.{commands_image_in, block_tail}
 use Rattle.memory.specs.View.{coded_of, memory_of}
 use Rattle.judge_terms.specs.Told.{Told, limits_by}
 use Rattle.image_numbers.specs.Lengths.{short_word}
-use Rattle.judge_terms.specs.declared.Step.TheVariants.{Fine}
 use Rattle.judge_record.specs.Stages.{KeptBy, uncounted, read_links, Staged}
 use Rattle.judge_record.specs.Links.{link_there}
 use Rattle.judge_record.specs.Blocks.{links_told, code_told, block_placeholder, block_data, block_code}
-use Rattle.judge_record.specs.declared.Stage.TheVariants.{Fine as Passed}
 use Rattle.judge_plain.specs.Chain.{Chain, chain_more}
 use Rattle.judge_plain.specs.Counted.{Stands, CommandsCount, CodeCount, Held, BlockCount, Follows, Within, Apart}
 
 -- the nodes and commands that a stage says are those counted before, and r and h more
-stands : {f : List ℕ → Answer Block} {w : List ℕ} {l c x n m at n' m' to r h : ℕ} → Staged f w l c x n m at (Passed n' m' to) → n' ≡ n + r → m' ≡ m + h → Stands f w l c x n m at r h
+stands : {f : List ℕ → Answer Block} {w : List ℕ} {l c x n m at n' m' to r h : ℕ} → Staged f w l c x n m at (Ok (n', m', to)) → n' ≡ n + r → m' ≡ m + h → Stands f w l c x n m at r h
 stands {to = to} p e g = record { to = to; staged = rw (e, g) at p }
 
 module _ (t cw bw : List ℕ) (k : Counts) (K : KeptBy k) (i : ℕ) where
   -- ---- a code block
 
-  link_told : (x n at : ℕ) → x ≤ k.blocks → Told (read_link k.blocks) uncounted (word x) n 3 n at (Fine n (at + length (word x)))
+  link_told : (x n at : ℕ) → x ≤ k.blocks → Told (read_link k.blocks) uncounted (word x) n 3 n at (Ok (n, at + length (word x)))
   link_told x n at le =
       let lb = K.blocks in
       link_there x k.blocks n at (length (word x)) (short_word x (length (word x)) (omega arith) refl) le
 
-  links_fine : (x y n at : ℕ) → x ≤ k.blocks → y ≤ k.blocks → Told (read_links k.blocks) uncounted (word x ++ word y) n 6 n at (Fine n ((at + length (word x)) + length (word y)))
+  links_fine : (x y n at : ℕ) → x ≤ k.blocks → y ≤ k.blocks → Told (read_links k.blocks) uncounted (word x ++ word y) n 6 n at (Ok (n, (at + length (word x)) + length (word y)))
   links_fine x y n at next else = links_told k.blocks x y n at (link_told x n at next) refl (link_told y n (at + length (word x)) else)
 
   module _ (held : get_or bw (5 * i + 2) 0 ≤ k.commands) (next : get_or bw (5 * i + 3) 0 ≤ k.blocks) (else : get_or bw (5 * i + 4) 0 ≤ k.blocks) where
     code_read : (ws : List ℕ) (vs : List ℤ) (n m at r to : ℕ) → m + get_or bw (5 * i + 2) 0 ≤ k.commands
-        → Told (read_commands (limits_by k) (get_or bw (5 * i + 2) 0) n) commands_nodes (commands_image_in (coded_of ws vs cw k) (get_or bw (5 * i + 2) 0) (get_or bw (5 * i + 1) 0)) k.nodes (4 * get_or bw (5 * i + 2) 0) n (at + length (word (get_or bw (5 * i + 2) 0))) (Fine (n + r) to)
+        → Told (read_commands (limits_by k) (get_or bw (5 * i + 2) 0) n) commands_nodes (commands_image_in (coded_of ws vs cw k) (get_or bw (5 * i + 2) 0) (get_or bw (5 * i + 1) 0)) k.nodes (4 * get_or bw (5 * i + 2) 0) n (at + length (word (get_or bw (5 * i + 2) 0))) (Ok (n + r, to))
         → Stands (block_of (limits_by k) m n 1) (block_tail (memory_of ws vs cw bw k) i 1) k.nodes k.commands 9 n m at r (get_or bw (5 * i + 2) 0)
     code_read ws vs n m at r to more P =
         let kc = K.commands in

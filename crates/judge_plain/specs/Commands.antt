@@ -1,5 +1,5 @@
 -- Commands whose nodes have room are read fine. Assumes nothing.
-use Rattle.std.specs.Prelude.{◌≡◌, refl, Bool, true, false, List, ℕ, ◌+◌, ◌*◌, ◌≤◌, ◌<◌, ltb, ℤ, length, get_or}
+use Rattle.std.specs.Prelude.{◌≡◌, refl, Bool, true, false, List, ℕ, ◌+◌, ◌*◌, ◌≤◌, ◌<◌, ltb, ℤ, length, get_or, Ok}
 use Rattle.std.proofs.Common.{ap, ◌∙◌, arith, ltb-true, ltb-false}
 use Rattle.std.specs.Int.Bits.{bit_or, or_add_and}
 use Rattle.std.proofs.lemmas.Nat.{and_le_l, and_le_r}
@@ -13,7 +13,6 @@ use Rattle.memory.specs.View.{nodes_of, coded_of}
 use Rattle.judge_terms.specs.Told.{Told, limits_by}
 use Rattle.image_numbers.specs.Lengths.{short_word}
 use Rattle.judge_terms.specs.Nodes.{term_told}
-use Rattle.judge_terms.specs.declared.Step.TheVariants.{Fine}
 use Rattle.judge_record.specs.Stages.{KeptBy, uncounted}
 use Rattle.judge_record.specs.Links.{block_there}
 use Rattle.judge_record.specs.Commands.{pair_told, set_variable_lem, set_other_lem, if_told, tail_return, tail_goto, tail_end_if, tail_other, command_told}
@@ -24,7 +23,7 @@ use Rattle.judge_plain.specs.Chain.{chain_none, chain_more}
 use Rattle.judge_plain.specs.Counted.{Passes, TermCount, Levels, Named, TailCount, Given, CommandCount, LowCommand, LowCommands, SumCount, CommandsCount}
 
 -- the nodes that a step says are those counted before and r more
-pub passes : {A : Type 0} {f : List ℕ → Answer A} {size : A → ℕ} {w : List ℕ} {l x n at m to r : ℕ} → Told f size w l x n at (Fine m to) → m ≡ n + r → Passes f size w l x n at r
+pub passes : {A : Type 0} {f : List ℕ → Answer A} {size : A → ℕ} {w : List ℕ} {l x n at m to r : ℕ} → Told f size w l x n at (Ok (m, to)) → m ≡ n + r → Passes f size w l x n at r
 passes {to = to} p e = record { to = to; told = rw e at p }
 
 -- ---- expressions
@@ -63,7 +62,7 @@ module _ (t cw : List ℕ) (k : Counts) (K : KeptBy k) where
 
   -- ---- a block that is named
 
-  named_told : {b r : ℕ} → Named b k.blocks r → r ≤ node_limit → (n at : ℕ) → Told (read_block_no k.blocks) uncounted (word b) n 3 n at (Fine n (at + length (word b)))
+  named_told : {b r : ℕ} → Named b k.blocks r → r ≤ node_limit → (n at : ℕ) → Told (read_block_no k.blocks) uncounted (word b) n 3 n at (Ok (n, at + length (word b)))
   named_told {b} N h n at =
       let lt = N.there h in
       let lb = K.blocks in

@@ -1,5 +1,5 @@
 -- What counting the nodes promises: where the sum has room, reading is fine and comes to it. Assumes nothing: these are definitions.
-use Rattle.std.specs.Prelude.{◌≡◌, List, [], ℕ, ◌+◌, ◌*◌, ◌≤◌, ◌<◌, ℤ, length, get_or}
+use Rattle.std.specs.Prelude.{◌≡◌, List, [], ℕ, ◌+◌, ◌*◌, ◌≤◌, ◌<◌, ℤ, length, get_or, Ok}
 use Rattle.model.specs.Limits.{wide16, node_limit}
 use Rattle.memory.specs.declared.Counts.{Counts}
 use Rattle.model.specs.Reading.{Answer, got}
@@ -9,9 +9,7 @@ use Rattle.model.specs.Memory.{Memory}
 use Rattle.model.specs.Record.{command_tail, command_image_in, commands_image_in, block_tail, judged_record}
 use Rattle.memory.specs.View.{coded_of, memory_of}
 use Rattle.judge_terms.specs.Told.{Told, limits_by}
-use Rattle.judge_terms.specs.declared.Step.TheVariants.{Fine}
 use Rattle.judge_record.specs.Stages.{KeptBy, Staged, block_image_in}
-use Rattle.judge_record.specs.declared.Stage.TheVariants.{Fine as Passed}
 use Rattle.judge_trees.specs.Trees.{Trees, Shallow, Reads}
 use Rattle.judge_plain.specs.Chain.{Chain}
 
@@ -27,12 +25,12 @@ pub record Ready (k : Counts) (t : List ℕ) : Type 0 where
 -- f reads w fine, with r nodes on top of n; how many bytes that takes is not kept
 pub record Passes {A : Type 0} (f : List ℕ → Answer A) (size : A → ℕ) (w : List ℕ) (l x n at r : ℕ) : Type 0 where
   pub to : ℕ
-  pub told : Told f size w l x n at (Fine (n + r) to)
+  pub told : Told f size w l x n at (Ok (n + r, to))
 
 -- the same of a block, with h commands on top of m
 pub record Stands (f : List ℕ → Answer Block) (w : List ℕ) (l c x n m at r h : ℕ) : Type 0 where
   pub to : ℕ
-  pub staged : Staged f w l c x n m at (Passed (n + r) (m + h) to)
+  pub staged : Staged f w l c x n m at (Ok (n + r, m + h, to))
 
 -- an expression whose root is node i: fewer than 64 nodes have no 65 levels
 pub record TermCount (t : List ℕ) (l i r : ℕ) : Type 0 where

@@ -1,5 +1,5 @@
 -- A record whose commands all have room, each held by one block at most, is judged fine. Assumes nothing.
-use Rattle.std.specs.Prelude.{◌≡◌, refl, Bool, true, false, List, ℕ, zero, suc, ◌+◌, ◌-◌, ◌*◌, ◌≤◌, ◌<◌, ltb, ℤ, length, get_or}
+use Rattle.std.specs.Prelude.{◌≡◌, refl, Bool, true, false, List, ℕ, zero, suc, ◌+◌, ◌-◌, ◌*◌, ◌≤◌, ◌<◌, ltb, ℤ, length, get_or, Ok}
 use Rattle.std.proofs.Common.{sym, ap, subst, arith, add-one, ltb-true, ltb-false}
 use Rattle.memory.specs.declared.Counts.{Counts}
 use Rattle.model.specs.Reading.{word}
@@ -8,7 +8,6 @@ use Rattle.memory.specs.View.{memory_of}
 use Rattle.image_numbers.specs.Lengths.{short_word}
 use Rattle.judge_record.specs.Stages.{KeptBy, Accepted, JudgedAs}
 use Rattle.judge_record.specs.Whole.{Passing, pass_start, pass_next, pass_done}
-use Rattle.judge_record.specs.declared.Judged.TheVariants.{Fine}
 use Rattle.judge_trees.specs.Trees.{Trees}
 use Rattle.judge_plain.specs.Chain.{Chain}
 use Rattle.judge_plain.specs.Counted.{Given, Adds, LowCommands, SumCount, Linked, Ends, none, some, Follows, placeholder, code, data_block, Within, Apart, Held, BlockCount, Plain}
@@ -24,7 +23,7 @@ record Passage (me : Memory) (i n m : ℕ) : Type 0 where
 record PassCount (t cw bw : List ℕ) (k : Counts) (i n m : ℕ) : Type 0 where
   passes : (ws : List ℕ) (vs : List ℤ) → Given ws vs t cw k → n ≤ k.nodes → m ≤ k.commands → Passage (memory_of ws vs cw bw k) i n m
 
-accepted : (me : Memory) {to : ℕ} → JudgedAs me (Fine to) → Accepted me to
+accepted : (me : Memory) {to : ℕ} → JudgedAs me (Ok to) → Accepted me to
 unfolding JudgedAs
 accepted me j = j
 

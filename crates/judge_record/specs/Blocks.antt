@@ -1,5 +1,5 @@
 -- A block is judged as its image would be read. Assumes nothing.
-use Rattle.std.specs.Prelude.{◌≡◌, ℕ, ◌+◌, ◌-◌, ◌*◌, ◌≤◌, ◌<◌, get_or}
+use Rattle.std.specs.Prelude.{◌≡◌, ℕ, ◌+◌, ◌*◌, ◌≤◌, ◌<◌, get_or, Ok, Err}
 use Rattle.std.proofs.Math.Path.{refl}
 use Rattle.std.proofs.Common.{◌∙◌, arith}
 use Rattle.std.proofs.Math.Option.{Option}
@@ -15,44 +15,43 @@ use Rattle.model.specs.Record.{commands_image_in, block_tail}
 use Rattle.model.proofs.Laws.Reading.{read_word}
 use Rattle.model.proofs.Laws.Image.{said_commands}
 use Rattle.image_numbers.specs.Told.{ShortWord}
-use Rattle.judge_terms.specs.Told.{Good, Told}
+use Rattle.judge_terms.specs.Told.{Step, Good, Told}
 use Rattle.image_numbers.specs.Lengths.{read_over, word_1}
 use Rattle.judge_terms.specs.Pieces.{none, good_of, no_of, looser, first_no, paired}
-use Rattle.judge_record.specs.Stages.{uncounted, both, read_links, GoodBlock, Shows, Staged}
-use Rattle.judge_terms.specs.declared.Step.{Step}
-use Rattle.judge_terms.specs.declared.Step.TheVariants.{Fine, No}
+use Rattle.judge_record.specs.Stages.{uncounted, both, read_links, Stage, GoodBlock, Shows, Staged}
 use Rattle.memory.specs.NodeLaws.{first_word}
-use Rattle.judge_record.specs.declared.Stage.{Stage}
-use Rattle.judge_record.specs.declared.Stage.TheVariants.{Fine as Passed, No as Stopped}
+use Rattle.model.specs.Refusals.{refusal_number}
+use Rattle.model.specs.declared.Refusal.{Refusal}
+use Rattle.model.specs.declared.Refusal.TheVariants.{BadImage, OverLimit}
 
 -- ---- what a stage shows, by its case
 
-pub passed : {f : List ℕ → Answer Block} {w : List ℕ} {l c x n m at n' m' to : ℕ} → GoodBlock f w l c x n m at n' m' to → Staged f w l c x n m at (Passed n' m' to)
+pub passed : {f : List ℕ → Answer Block} {w : List ℕ} {l c x n m at n' m' to : ℕ} → GoodBlock f w l c x n m at n' m' to → Staged f w l c x n m at (Ok (n', m', to))
 unfolding Shows
 passed p = record { shows = p }
 
-pub stopped : {f : List ℕ → Answer Block} {w : List ℕ} {l c x n m at k : ℕ} → ((t : List ℕ) → f (w ++ t) ≡ refused k) → Staged f w l c x n m at (Stopped k)
+pub stopped : {f : List ℕ → Answer Block} {w : List ℕ} {l c x n m at : ℕ} {e : Refusal} → ((t : List ℕ) → f (w ++ t) ≡ refused (refusal_number e)) → Staged f w l c x n m at (Err e)
 unfolding Shows
 stopped p = record { shows = p }
 
-pub block_of_lem : {f : List ℕ → Answer Block} {w : List ℕ} {l c x n m at n' m' to : ℕ} {r : Stage} → Staged f w l c x n m at r → r ≡ Passed n' m' to → GoodBlock f w l c x n m at n' m' to
+pub block_of_lem : {f : List ℕ → Answer Block} {w : List ℕ} {l c x n m at n' m' to : ℕ} {r : Stage} → Staged f w l c x n m at r → r ≡ Ok (n', m', to) → GoodBlock f w l c x n m at n' m' to
 unfolding Shows
 block_of_lem p e = rw e at p.shows
 
-pub stop_of : {f : List ℕ → Answer Block} {w : List ℕ} {l c x n m at k : ℕ} {r : Stage} → Staged f w l c x n m at r → r ≡ Stopped k → (t : List ℕ) → f (w ++ t) ≡ refused k
+pub stop_of : {f : List ℕ → Answer Block} {w : List ℕ} {l c x n m at : ℕ} {e : Refusal} {r : Stage} → Staged f w l c x n m at r → r ≡ Err e → (t : List ℕ) → f (w ++ t) ≡ refused (refusal_number e)
 unfolding Shows
 stop_of p e = rw e at p.shows
 
 -- ---- next and else
 
 module _ (b x y n at : ℕ) {q : Step} (P : Told (read_link b) uncounted (word x) n 3 n at q) where
-  pub links_told : {r : Step} {m p : ℕ} → q ≡ Fine m p → Told (read_link b) uncounted (word y) m 3 m p r → Told (read_links b) uncounted (word x ++ word y) n 6 n at r
+  pub links_told : {r : Step} {m p : ℕ} → q ≡ Ok (m, p) → Told (read_link b) uncounted (word y) m 3 m p r → Told (read_links b) uncounted (word x ++ word y) n 6 n at r
   unfolding read_links
   links_told eq Q =
       let A = good_of P eq in
       paired A (λ a. read_link b) uncounted both (λ v. refl) (looser n 3 A.low (omega arith) Q)
 
-  pub links_no : {e : ℕ} → q ≡ No e → Told (read_links b) uncounted (word x ++ word y) n 6 n at (No e)
+  pub links_no : {e : Refusal} → q ≡ Err e → Told (read_links b) uncounted (word x ++ word y) n 6 n at (Err e)
   unfolding read_links
   links_no eq = none (first_no (read_link b) (word x) _ (word y) (no_of P eq))
 
@@ -81,7 +80,7 @@ module _ (l : Limits) (me : Memory) (b n m at len : ℕ) (s : ShortWord (block_w
   abbrev links : List ℕ
   links = word (block_word me b 3) ++ word (block_word me b 4)
 
-  pub code_over : l.commands < m + block_word me b 2 → Staged (block_of l m n 1) (block_tail me b 1) l.nodes l.commands 9 n m at (Stopped 3)
+  pub code_over : l.commands < m + block_word me b 2 → Staged (block_of l m n 1) (block_tail me b 1) l.nodes l.commands 9 n m at (Err OverLimit)
   unfolding block_of block_tail
   code_over h =
       let u = s.low in
@@ -95,11 +94,11 @@ module _ (l : Limits) (me : Memory) (b n m at len : ℕ) (s : ShortWord (block_w
         rw (append_assoc, read_word wide (block_word me b 2) ((commands ++ links) ++ t) (omega arith) (omega arith), le-leb (m + block_word me b 2) l.commands room, append_assoc)
 
     module _ {q : Step} (P : Told (read_commands l (block_word me b 2) n) commands_nodes commands l.nodes (4 * block_word me b 2) n (at + len) q) where
-      pub code_no : {e : ℕ} → q ≡ No e → Staged (block_of l m n 1) (block_tail me b 1) l.nodes l.commands 9 n m at (Stopped e)
+      pub code_no : {e : Refusal} → q ≡ Err e → Staged (block_of l m n 1) (block_tail me b 1) l.nodes l.commands 9 n m at (Err e)
       unfolding read_code
       code_no eq = stopped (λ t. counted_read t ∙ rw (no_of P eq (links ++ t)))
 
-      module _ {k p : ℕ} (eq : q ≡ Fine k p) {r : Step} (Q : Told (read_links l.blocks) uncounted links k 6 k p r) where
+      module _ {k p : ℕ} (eq : q ≡ Ok (k, p)) {r : Step} (Q : Told (read_links l.blocks) uncounted links k 6 k p r) where
         A : Good (read_commands l (block_word me b 2) n) commands_nodes commands l.nodes (4 * block_word me b 2) n (at + len) k p
         A = good_of P eq
 
@@ -107,10 +106,10 @@ module _ (l : Limits) (me : Memory) (b n m at len : ℕ) (s : ShortWord (block_w
         unfolding read_code
         code_read t = counted_read t ∙ rw (A.reads (links ++ t)) (links_join l.blocks A.value (links ++ t))
 
-        pub code_link_no : {e : ℕ} → r ≡ No e → Staged (block_of l m n 1) (block_tail me b 1) l.nodes l.commands 9 n m at (Stopped e)
+        pub code_link_no : {e : Refusal} → r ≡ Err e → Staged (block_of l m n 1) (block_tail me b 1) l.nodes l.commands 9 n m at (Err e)
         code_link_no er = stopped (λ t. code_read t ∙ rw (no_of Q er t))
 
-        pub code_told : {k' to : ℕ} → r ≡ Fine k' to → Staged (block_of l m n 1) (block_tail me b 1) l.nodes l.commands 9 n m at (Passed k' (m + block_word me b 2) to)
+        pub code_told : {k' to : ℕ} → r ≡ Ok (k', to) → Staged (block_of l m n 1) (block_tail me b 1) l.nodes l.commands 9 n m at (Ok (k', m + block_word me b 2, to))
         unfolding block_nodes block_commands block_tail
         code_told er =
             let B = good_of Q er in
@@ -135,7 +134,7 @@ module _ (l : Limits) (me : Memory) (b n m at : ℕ) where
   abbrev bytes : List ℕ
   bytes = word (block_word me b 0) ++ block_tail me b (block_word me b 0)
 
-  pub block_unknown : 3 ≤ get_or me.words (5 * b) 0 → Staged (read_block l m n) bytes l.nodes l.commands 10 n m at (Stopped 2)
+  pub block_unknown : 3 ≤ get_or me.words (5 * b) 0 → Staged (read_block l m n) bytes l.nodes l.commands 10 n m at (Err BadImage)
   unfolding read_block
   block_unknown g =
       let h : 3 ≤ block_word me b 0 = rw (first_word me.words (5 * b)) g in
@@ -150,7 +149,7 @@ module _ (l : Limits) (me : Memory) (b n m at : ℕ) where
   kind_long h = omega (arith, length-append (word (block_word me b 0)) (block_tail me b (block_word me b 0)), word_1 (block_word me b 0) (omega arith))
 
   bare : (k : ℕ) (x : Block) → block_word me b 0 ≡ k → k < 3 → block_tail me b k ≡ [] → ((t : List ℕ) → block_of l m n k t ≡ got x t) → block_nodes x ≡ 0 → block_commands x ≡ 0 → n ≤ l.nodes → m ≤ l.commands
-      → Staged (read_block l m n) bytes l.nodes l.commands 10 n m at (Passed n m (at + 1))
+      → Staged (read_block l m n) bytes l.nodes l.commands 10 n m at (Ok (n, m, at + 1))
   bare k x e h z g zn zc few room =
       let v : length (block_tail me b (block_word me b 0)) ≡ 0 = rw (e, z) in
       let lt : block_word me b 0 < 3 = omega arith in
@@ -165,11 +164,11 @@ module _ (l : Limits) (me : Memory) (b n m at : ℕ) where
         short = omega arith;
       })
 
-  pub block_placeholder : get_or me.words (5 * b) 0 ≡ 0 → n ≤ l.nodes → m ≤ l.commands → Staged (read_block l m n) bytes l.nodes l.commands 10 n m at (Passed n m (at + 1))
+  pub block_placeholder : get_or me.words (5 * b) 0 ≡ 0 → n ≤ l.nodes → m ≤ l.commands → Staged (read_block l m n) bytes l.nodes l.commands 10 n m at (Ok (n, m, at + 1))
   unfolding block_of block_tail block_nodes block_commands
   block_placeholder e few room = bare 0 placeholder (first_word me.words (5 * b) ∙ e) (omega arith) refl (λ t. refl) refl refl few room
 
-  pub block_data : get_or me.words (5 * b) 0 ≡ 2 → n ≤ l.nodes → m ≤ l.commands → Staged (read_block l m n) bytes l.nodes l.commands 10 n m at (Passed n m (at + 1))
+  pub block_data : get_or me.words (5 * b) 0 ≡ 2 → n ≤ l.nodes → m ≤ l.commands → Staged (read_block l m n) bytes l.nodes l.commands 10 n m at (Ok (n, m, at + 1))
   unfolding block_of block_tail block_nodes block_commands
   block_data e few room = bare 2 data_block (first_word me.words (5 * b) ∙ e) (omega arith) refl (λ t. refl) refl refl few room
 
@@ -187,7 +186,7 @@ module _ (l : Limits) (me : Memory) (b n m at : ℕ) where
       v = kind_long lt ∙ rw e
 
       go : (r : Stage) → Shows (block_of l m n 1) (block_tail me b 1) l.nodes l.commands 9 n m (at + 1) r → Shows (read_block l m n) bytes l.nodes l.commands 10 n m at r
-      go (Passed n' m' to) q =
+      go (Ok (n', m', to)) q =
           let y = q.bytes in
           let z = q.short in
           let w = v in
@@ -201,4 +200,4 @@ module _ (l : Limits) (me : Memory) (b n m at : ℕ) where
             bytes = omega arith;
             short = omega arith;
           }
-      go (Stopped k) q = λ t. kind_read lt t ∙ rw e (q t)
+      go (Err k) q = λ t. kind_read lt t ∙ rw e (q t)

@@ -1,5 +1,5 @@
 -- Commands that stand one after the other are judged as their images would be read. Assumes nothing.
-use Rattle.std.specs.Prelude.{◌≡◌, refl, List, [], ◌∷◌, ◌++◌, ℕ, suc, ◌+◌, ◌-◌, ◌*◌, ◌≤◌, ◌<◌}
+use Rattle.std.specs.Prelude.{◌≡◌, refl, List, [], ◌∷◌, ◌++◌, ℕ, suc, ◌+◌, ◌-◌, ◌*◌, ◌≤◌, ◌<◌, Ok, Err}
 use Rattle.std.proofs.Common.{append_assoc}
 use native.Mathlib.Omega.{arith}
 use Rattle.std.proofs.Math.ListN.{length-append}
@@ -8,11 +8,10 @@ use Rattle.model.specs.Script.{Command, command_nodes, commands_nodes}
 use Rattle.model.specs.Image.{Limits, read_command, read_commands}
 use Rattle.model.specs.Memory.{Coded}
 use Rattle.model.specs.Record.{command_image_in, commands_image_in}
-use Rattle.judge_terms.specs.Told.{Good, Told}
+use Rattle.judge_terms.specs.Told.{Step, Good, Told}
 use Rattle.judge_terms.specs.Pieces.{fine, none, good_of, no_of, first_no}
 use Rattle.judge_record.specs.Loop.{Part, Next, part_start, part_next, part_no, part_done, part_bytes}
-use Rattle.judge_terms.specs.declared.Step.{Step}
-use Rattle.judge_terms.specs.declared.Step.TheVariants.{Fine, No}
+use Rattle.model.specs.declared.Refusal.{Refusal}
 
 -- of h commands from the first on i were judged
 pub record Walked (l : Limits) (co : Coded) (h first n at i k p : ℕ) : Type 0 where
@@ -49,7 +48,7 @@ module _ (l : Limits) (co : Coded) (h first n at : ℕ) where
       here : Told (read_command l k) command_nodes (command_image_in co (first + i)) l.nodes 4 k p r
       here = rw ej at t
 
-      pub walk_next : {m q : ℕ} → r ≡ Fine m q → Walked l co h first n at (i + 1) m q
+      pub walk_next : {m q : ℕ} → r ≡ Ok (m, q) → Walked l co h first n at (i + 1) m q
       walk_next e =
           let A = good_of here e in
           let c = P.counted in
@@ -61,10 +60,10 @@ module _ (l : Limits) (co : Coded) (h first n at : ℕ) where
             short = omega (arith, A.short);
           }
 
-      pub walk_no : {e : ℕ} → r ≡ No e → Told (read_commands l h n) commands_nodes (commands_image_in co h first) l.nodes (4 * h) n at (No e)
+      pub walk_no : {e : Refusal} → r ≡ Err e → Told (read_commands l h n) commands_nodes (commands_image_in co h first) l.nodes (4 * h) n at (Err e)
       walk_no e = none (part_no (read_commands l) (commands_image_in co) h first n at P.part lt (command_no l co (h - (i + 1)) (first + i) k p (no_of here e)))
 
-    pub walk_done : h ≤ i → i ≤ h → Told (read_commands l h n) commands_nodes (commands_image_in co h first) l.nodes (4 * h) n at (Fine k p)
+    pub walk_done : h ≤ i → i ≤ h → Told (read_commands l h n) commands_nodes (commands_image_in co h first) l.nodes (4 * h) n at (Ok (k, p))
     unfolding read_commands commands_image_in
     walk_done ge le =
         let s = P.short in

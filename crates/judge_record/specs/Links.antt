@@ -1,5 +1,5 @@
 -- A block that is named is judged as its number would be read. Assumes nothing.
-use Rattle.std.specs.Prelude.{◌≡◌, refl, List, ℕ, zero, suc, ◌+◌, ◌≤◌, ◌<◌}
+use Rattle.std.specs.Prelude.{◌≡◌, refl, List, ℕ, zero, suc, ◌+◌, ◌≤◌, ◌<◌, Ok, Err}
 use Rattle.std.proofs.Common.{arith}
 use borrow.Author.Tests.{lt-ltb, le-ltb}
 use Rattle.model.specs.Limits.{wide}
@@ -12,7 +12,7 @@ use Rattle.image_numbers.specs.Told.{ShortWord}
 use Rattle.judge_terms.specs.Told.{Told}
 use Rattle.judge_record.specs.Stages.{uncounted}
 use Rattle.judge_terms.specs.Pieces.{fine, none}
-use Rattle.judge_terms.specs.declared.Step.TheVariants.{Fine, No}
+use Rattle.model.specs.declared.Refusal.TheVariants.{NoSuchLink}
 
 link_read : (b k : ℕ) (t : List ℕ) → k ≤ b → link_of b k t ≡ got (link_in k) t
 unfolding link_of
@@ -25,7 +25,7 @@ link_past b zero t h = absurd (omega arith)
 link_past b (suc k) t h = rw (le-ltb k b (omega arith))
 
 module _ (k b n at len : ℕ) (s : ShortWord k len) where
-  pub block_there : k < b → Told (read_block_no b) uncounted (word k) n 3 n at (Fine n (at + len))
+  pub block_there : k < b → Told (read_block_no b) uncounted (word k) n 3 n at (Ok (n, at + len))
   unfolding read_block_no
   block_there h =
       let i = s.is in
@@ -40,11 +40,11 @@ module _ (k b n at len : ℕ) (s : ShortWord k len) where
         short = omega arith;
       })
 
-  pub block_absent : b ≤ k → Told (read_block_no b) uncounted (word k) n 3 n at (No 5)
+  pub block_absent : b ≤ k → Told (read_block_no b) uncounted (word k) n 3 n at (Err NoSuchLink)
   unfolding read_block_no
   block_absent h = let u = s.low in none (λ t. rw (read_word wide k t (omega arith) (omega arith), le-ltb k b h))
 
-  pub link_there : k ≤ b → Told (read_link b) uncounted (word k) n 3 n at (Fine n (at + len))
+  pub link_there : k ≤ b → Told (read_link b) uncounted (word k) n 3 n at (Ok (n, at + len))
   unfolding read_link
   link_there h =
       let i = s.is in
@@ -59,6 +59,6 @@ module _ (k b n at len : ℕ) (s : ShortWord k len) where
         short = omega arith;
       })
 
-  pub link_absent : b < k → Told (read_link b) uncounted (word k) n 3 n at (No 5)
+  pub link_absent : b < k → Told (read_link b) uncounted (word k) n 3 n at (Err NoSuchLink)
   unfolding read_link
   link_absent h = let u = s.low in none (λ t. rw (read_word wide k t (omega arith) (omega arith)) (link_past b k t h))

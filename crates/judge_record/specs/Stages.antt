@@ -1,5 +1,5 @@
 -- What the judge promises of commands, of blocks and of the whole record: the answer is what reading the image gives. Assumes nothing: these are definitions.
-use Rattle.std.specs.Prelude.{◌≡◌, Bool, true, false, List, [], ◌++◌, ℕ, ◌+◌, ◌*◌, ◌≤◌, ◌<◌, ℤ, length}
+use Rattle.std.specs.Prelude.{◌≡◌, Bool, true, false, List, [], ◌++◌, ℕ, ◌+◌, ◌*◌, ◌≤◌, ◌<◌, ℤ, length, Result, Ok, Err}
 use Rattle.std.proofs.Common.{subst}
 use Rattle.std.proofs.Math.Option.{Option}
 use Rattle.memory.specs.declared.Counts.{Counts}
@@ -10,10 +10,8 @@ use Rattle.model.specs.Memory.{Memory, block_word}
 use Rattle.model.specs.Record.{block_tail, record_image, held_kept, limits_kept, judged_record}
 use Rattle.memory.specs.View.{memory_of}
 use Rattle.judge_terms.specs.Told.{Kept}
-use Rattle.judge_record.specs.declared.Stage.{Stage}
-use Rattle.judge_record.specs.declared.Stage.TheVariants.{Fine as Passed, No as Stopped}
-use Rattle.judge_record.specs.declared.Judged.{Judged}
-use Rattle.judge_record.specs.declared.Judged.TheVariants.{Fine, No}
+use Rattle.model.specs.Refusals.{refusal_number}
+use Rattle.model.specs.declared.Refusal.{Refusal}
 
 -- ---- kept counts by value
 
@@ -56,6 +54,10 @@ StandingBy c i k m at x = Standing c.nodes c.commands c.blocks i k m at x
 abbrev pub block_image_in : Memory → ℕ → List ℕ
 block_image_in me i = word (block_word me i 0) ++ block_tail me i (block_word me i 0)
 
+-- the nodes and commands counted and the bytes passed after a block, or why it is refused
+abbrev pub Stage : Type 0
+Stage = Result (ℕ × ℕ × ℕ) Refusal
+
 -- f accepts the bytes w of a block whatever follows them; nodes come on top of n, commands on top of m
 pub record GoodBlock (f : List ℕ → Answer Block) (w : List ℕ) (l c x n m at n' m' to : ℕ) : Type 0 where
   pub value : Block
@@ -68,10 +70,10 @@ pub record GoodBlock (f : List ℕ → Answer Block) (w : List ℕ) (l c x n m a
   pub short : to + 6 * n + 4 * m ≤ at + 6 * n' + 4 * m' + x
 
 unfoldable pub Shows : (List ℕ → Answer Block) → List ℕ → ℕ → ℕ → ℕ → ℕ → ℕ → ℕ → Stage → Type 0
-Shows f w l c x n m at (Passed n' m' to) = GoodBlock f w l c x n m at n' m' to
-Shows f w l c x n m at (Stopped k) = (t : List ℕ) → f (w ++ t) ≡ refused k
+Shows f w l c x n m at (Ok s) = GoodBlock f w l c x n m at s.0 s.1 s.2
+Shows f w l c x n m at (Err e) = (t : List ℕ) → f (w ++ t) ≡ refused (refusal_number e)
 
--- f accepts the bytes w of a block, or refuses them with the number that the stage says
+-- f accepts the bytes w of a block, or refuses them for the reason that the stage says
 pub record Staged (f : List ℕ → Answer Block) (w : List ℕ) (l c x n m at : ℕ) (r : Stage) : Type 0 where
   pub shows : Shows f w l c x n m at r
 
@@ -84,20 +86,24 @@ pub record Accepted (m : Memory) (len : ℕ) : Type 0 where
   pub same : record_image m ≡ image blocks
   pub bytes : len ≡ length (image blocks)
 
+-- the length of the image in bytes, or why the record is refused
+abbrev pub Judged : Type 0
+Judged = Result ℕ Refusal
+
 -- the answer is the judgement
 unfoldable pub JudgedAs : Memory → Judged → Type 0
-JudgedAs m (Fine len) = Accepted m len
-JudgedAs m (No k) = judged_record m ≡ refused k
+JudgedAs m (Ok len) = Accepted m len
+JudgedAs m (Err e) = judged_record m ≡ refused (refusal_number e)
 
-pub fine_of : (m : Memory) {r : Judged} {len : ℕ} → JudgedAs m r → r ≡ Fine len → Accepted m len
+pub fine_of : (m : Memory) {r : Judged} {len : ℕ} → JudgedAs m r → r ≡ Ok len → Accepted m len
 unfolding JudgedAs
 fine_of m j e = subst (JudgedAs m) e j
 
-pub no_of : (m : Memory) {r : Judged} {k : ℕ} → JudgedAs m r → r ≡ No k → judged_record m ≡ refused k
+pub no_of : (m : Memory) {r : Judged} {e : Refusal} → JudgedAs m r → r ≡ Err e → judged_record m ≡ refused (refusal_number e)
 unfolding JudgedAs
 no_of m j e = subst (JudgedAs m) e j
 
 -- the answer of the walk: it is the judgement, unless something is held past the kept counts
 unfoldable pub WalkedAs : Memory → Judged → Type 0
-WalkedAs m (Fine len) = Accepted m len
-WalkedAs m (No k) = held_kept m ≡ true → judged_record m ≡ refused k
+WalkedAs m (Ok len) = Accepted m len
+WalkedAs m (Err e) = held_kept m ≡ true → judged_record m ≡ refused (refusal_number e)

@@ -1,5 +1,5 @@
 -- The whole record is judged as its image would be read. Assumes nothing.
-use Rattle.std.specs.Prelude.{◌≡◌, Bool, true, false, ℕ, suc, ◌+◌, ◌-◌, ◌*◌, ◌≤◌, ◌<◌, leb}
+use Rattle.std.specs.Prelude.{◌≡◌, Bool, true, false, ℕ, suc, ◌+◌, ◌-◌, ◌*◌, ◌≤◌, ◌<◌, leb, Ok, Err}
 use Rattle.std.proofs.Math.Path.{refl, ap, sym}
 use Rattle.std.proofs.Common.{◌∙◌, subst}
 use mathlib.Core.List.{List, [], ◌++◌, append_assoc, append-nil}
@@ -22,12 +22,11 @@ use Rattle.memory.specs.Agree.{past_judged}
 use Rattle.image_numbers.specs.Told.{ShortWord}
 use Rattle.judge_terms.specs.Told.{Kept}
 use Rattle.judge_record.specs.Loop.{Part, Next, part_start, part_next, part_no, part_done, part_bytes}
-use Rattle.judge_record.specs.Stages.{Within, GoodBlock, Staged, JudgedAs, WalkedAs}
+use Rattle.judge_record.specs.Stages.{Within, Stage, GoodBlock, Staged, Judged, JudgedAs, WalkedAs}
 use Rattle.judge_record.specs.Blocks.{block_of_lem, stop_of}
-use Rattle.judge_record.specs.declared.Stage.{Stage}
-use Rattle.judge_record.specs.declared.Stage.TheVariants.{Fine as Passed, No as Stopped}
-use Rattle.judge_record.specs.declared.Judged.{Judged}
-use Rattle.judge_record.specs.declared.Judged.TheVariants.{Fine, No}
+use Rattle.model.specs.Refusals.{refusal_number}
+use Rattle.model.specs.declared.Refusal.{Refusal}
+use Rattle.model.specs.declared.Refusal.TheVariants.{OverLimit}
 
 -- the kept counts are the limits
 abbrev pub limits_of : Memory → Limits
@@ -80,7 +79,7 @@ module _ (k : Counts) where
   }
 
 module _ (me : Memory) where
-  pub limits_over : limits_kept me ≡ false → JudgedAs me (No 3)
+  pub limits_over : limits_kept me ≡ false → JudgedAs me (Err OverLimit)
   unfolding JudgedAs judged_record kept_ok
   limits_over e = rw e
 
@@ -105,7 +104,7 @@ module _ (me : Memory) where
     module _ {i m n p : ℕ} (P : Passing me i m n p) where
       module _ (lt : i < me.count) {r : Stage}
           (t : Staged (read_block (limits_of me) m n) (word (block_word me i 0) ++ block_tail me i (block_word me i 0)) me.coded.nodes.count me.coded.count 10 n m p r) where
-        pub pass_next : {n' m' q : ℕ} → r ≡ Passed n' m' q → Passing me (i + 1) m' n' q
+        pub pass_next : {n' m' q : ℕ} → r ≡ Ok (n', m', q) → Passing me (i + 1) m' n' q
         pass_next {n'} {m'} {q} e =
             let A = block_of_lem t e in
             let s = P.short in
@@ -118,11 +117,11 @@ module _ (me : Memory) where
               short = omega (arith, A.short);
             }
 
-        pub pass_no : {e : ℕ} → r ≡ Stopped e → WalkedAs me (No e)
+        pub pass_no : {e : Refusal} → r ≡ Err e → WalkedAs me (Err e)
         unfolding WalkedAs
         pass_no {e = k} e h =
             let z : 0 + i ≡ i = omega arith in
-            within h ∙ walk_read ∙ rw (part_no (many_blocks (limits_of me)) (blocks_image_in me) me.count 0 (counted 0 0) (length (word me.count)) P.part lt {e = k}
+            within h ∙ walk_read ∙ rw (part_no (many_blocks (limits_of me)) (blocks_image_in me) me.count 0 (counted 0 0) (length (word me.count)) P.part lt {e = refusal_number k}
             (λ u. rw z (block_no (limits_of me) me (me.count - (i + 1)) i n m p (stop_of t e) u)) [])
 
       pass_bytes : me.count ≤ i → p ≡ length (record_image me)
@@ -132,7 +131,7 @@ module _ (me : Memory) where
           ∙ sym (length-append (word me.count) (blocks_image_in me me.count 0))
 
       -- what the walk accepts holds nothing past the kept counts
-      pub pass_done : me.count ≤ i → JudgedAs me (Fine p)
+      pub pass_done : me.count ≤ i → JudgedAs me (Ok p)
       unfolding JudgedAs read_blocks blocks_image_in ended
       pass_done ge =
           let bs = P.part.seen in
@@ -144,20 +143,20 @@ module _ (me : Memory) where
 
 -- ---- the walk's answer, and whether all that is held is kept
 
-pub walked_done : (me : Memory) (len : ℕ) → JudgedAs me (Fine len) → WalkedAs me (Fine len)
+pub walked_done : (me : Memory) (len : ℕ) → JudgedAs me (Ok len) → WalkedAs me (Ok len)
 unfolding WalkedAs JudgedAs
 walked_done me len j = j
 
 module _ (me : Memory) where
   module _ {r : Judged} (w : WalkedAs me r) where
-    pub walked_fine : {len : ℕ} → r ≡ Fine len → JudgedAs me (Fine len)
+    pub walked_fine : {len : ℕ} → r ≡ Ok len → JudgedAs me (Ok len)
     unfolding WalkedAs JudgedAs
     walked_fine e = rw e at w
 
-    pub walked_no : {k : ℕ} {b : Bool} → r ≡ No k → b ≡ held_kept me → b ≡ true → JudgedAs me (No k)
+    pub walked_no : {k : Refusal} {b : Bool} → r ≡ Err k → b ≡ held_kept me → b ≡ true → JudgedAs me (Err k)
     unfolding WalkedAs JudgedAs
     walked_no e p q = (rw e at w) (sym p ∙ q)
 
-  pub held_past : {b : Bool} → b ≡ held_kept me → b ≡ false → JudgedAs me (No 3)
+  pub held_past : {b : Bool} → b ≡ held_kept me → b ≡ false → JudgedAs me (Err OverLimit)
   unfolding JudgedAs
   held_past p q = past_judged me (sym p ∙ q)

@@ -1,4 +1,5 @@
 // The judgement of a script record: block by block as its image would be read, whatever its arrays hold.
+// Each piece of a block that is fine answers with the nodes counted and the bytes passed after it, a block with the commands counted too.
 #![tactic(auto)]
 
 ghost use Rattle.std.specs.Prelude.{◌++◌, ◌*◌, ◌≤◌, ◌<◌, length};
@@ -13,48 +14,37 @@ ghost use Rattle.judge_record.specs.Stages.{KeptBy, uncounted, read_links, Stand
 
 use image_numbers::short_length;
 use judge_held::held_kept;
-use judge_terms::{Step, judge_term};
+use judge_terms::judge_term;
 use memory::{
     BLOCK_LIMIT, BlockWords, COMMAND_LIMIT, COMMANDS, CommandWords, Counts, NODE_LIMIT, NodeWords,
-    Values, index_of,
+    Values,
 };
-
-// Judged fine, with the length of the image in bytes, or the refusal's number.
-#[derive(Clone, Copy)]
-pub enum Judged {
-    Fine(usize),
-    No(u8),
-}
-
-// The nodes and commands counted and the bytes passed after a block, or a refusal.
-#[derive(Clone, Copy)]
-pub enum Stage {
-    Fine(u16, u16, usize),
-    No(u8),
-}
+use model::Refusal;
 
 // A block that a command names: it has to be there.
-fn judge_block_no(k: u16, blocks: u16, n: u16, at: usize) -> Step
+fn judge_block_no(k: u16, blocks: u16, n: u16, at: usize) -> Result<(u16, usize), Refusal>
     requires { at ≤ 1000000 }
     ensures { Told (read_block_no blocks) uncounted (word k) n 3 n at result }
 {
     let len = short_length(k);
     if k < blocks {
-        return Step::Fine(n, at + len);
+        Ok((n, at + len))
+    } else {
+        Err(Refusal::NoSuchLink)
     }
-    Step::No(5)
 }
 
 // A block's next or else: 0 for none, or one more than a block that is there.
-fn judge_link(k: u16, blocks: u16, n: u16, at: usize) -> Step
+fn judge_link(k: u16, blocks: u16, n: u16, at: usize) -> Result<(u16, usize), Refusal>
     requires { at ≤ 1000000 }
     ensures { Told (read_link blocks) uncounted (word k) n 3 n at result }
 {
     let len = short_length(k);
     if k <= blocks {
-        return Step::Fine(n, at + len);
+        Ok((n, at + len))
+    } else {
+        Err(Refusal::NoSuchLink)
     }
-    Step::No(5)
 }
 
 // The target and the value of a Set whose target is a Variable.
@@ -66,15 +56,12 @@ fn judge_pair(
     j: u16,
     n: u16,
     at: usize,
-) -> Step
+) -> Result<(u16, usize), Refusal>
     requires { ReadyBy counts n at 200000 }
     ensures { Told (set_of (limits_by counts) n 0) command_nodes (root_image (nodes_of ws.now val.now counts) i ++ root_image (nodes_of ws.now val.now counts) j) counts.nodes 0 n at result }
 {
-    let a = judge_term(ws, val, counts, i, n, at);
-    match a {
-        Step::Fine(m, p) => judge_term(ws, val, counts, j, m, p),
-        Step::No(e) => Step::No(e),
-    }
+    let (m, p) = judge_term(ws, val, counts, i, n, at)?;
+    judge_term(ws, val, counts, j, m, p)
 }
 
 // What follows the code of a Set: target and value.
@@ -86,7 +73,7 @@ fn judge_set(
     i: usize,
     n: u16,
     at: usize,
-) -> Step
+) -> Result<(u16, usize), Refusal>
     requires { (i < counts.commands) × ReadyBy counts n at 199000 }
     ensures { Told (command_of (limits_by counts) n 2) command_nodes (command_tail (coded_of ws.now val.now cw.now counts) i 2) counts.nodes 3 n at result }
 {
@@ -97,7 +84,7 @@ fn judge_set(
     if target == 1 {
         return judge_term(ws, val, counts, cw[4 * i + 2], n, at + 1);
     }
-    Step::No(2)
+    Err(Refusal::BadImage)
 }
 
 // What follows the code of an If: condition and else block.
@@ -109,15 +96,12 @@ fn judge_if(
     i: usize,
     n: u16,
     at: usize,
-) -> Step
+) -> Result<(u16, usize), Refusal>
     requires { (i < counts.commands) × ReadyBy counts n at 199000 }
     ensures { Told (command_of (limits_by counts) n 3) command_nodes (command_tail (coded_of ws.now val.now cw.now counts) i 3) counts.nodes 3 n at result }
 {
-    let a = judge_term(ws, val, counts, cw[4 * i + 1], n, at);
-    match a {
-        Step::Fine(m, p) => judge_block_no(cw[4 * i + 3], counts.blocks, m, p),
-        Step::No(e) => Step::No(e),
-    }
+    let (m, p) = judge_term(ws, val, counts, cw[4 * i + 1], n, at)?;
+    judge_block_no(cw[4 * i + 3], counts.blocks, m, p)
 }
 
 // What follows the code k of a command.
@@ -130,17 +114,17 @@ fn judge_tail(
     k: u16,
     n: u16,
     at: usize,
-) -> Step
+) -> Result<(u16, usize), Refusal>
     requires { (i < counts.commands) × ReadyBy counts n at 199000 }
     ensures { Told (command_of (limits_by counts) n k) command_nodes (command_tail (coded_of ws.now val.now cw.now counts) i k) counts.nodes 3 n at result }
 {
     match k {
-        0 => Step::Fine(n, at),
+        0 => Ok((n, at)),
         1 => judge_block_no(cw[4 * i + 3], counts.blocks, n, at),
         2 => judge_set(ws, val, cw, counts, i, n, at),
         3 => judge_if(ws, val, cw, counts, i, n, at),
         4 => judge_block_no(cw[4 * i + 3], counts.blocks, n, at),
-        _ => Step::Fine(n, at),
+        _ => Ok((n, at)),
     }
 }
 
@@ -153,17 +137,16 @@ fn judge_command(
     i: usize,
     n: u16,
     at: usize,
-) -> Step
+) -> Result<(u16, usize), Refusal>
     requires { ReadyBy counts n at 198000 }
     ensures { Told (read_command (limits_by counts) n) command_nodes (command_image_in (coded_of ws.now val.now cw.now counts) i) counts.nodes 4 n at result }
 {
-    let there = index_of(counts.commands);
-    if i >= there {
-        return Step::No(2);
+    if i >= usize::from(counts.commands) {
+        return Err(Refusal::BadImage);
     }
     let k = cw[4 * i];
     if k >= 6 {
-        return Step::No(2);
+        return Err(Refusal::BadImage);
     }
     judge_tail(ws, val, cw, counts, i, k, n, at + 1)
 }
@@ -178,41 +161,26 @@ fn judge_commands(
     held: u16,
     n: u16,
     at: usize,
-) -> Step
+) -> Result<(u16, usize), Refusal>
     requires { (held ≤ command_limit) × ReadyBy counts n at 110000 }
     ensures { Told (read_commands (limits_by counts) held n) commands_nodes (commands_image_in (coded_of ws.now val.now cw.now counts) held first) counts.nodes (4 * held) n at result }
 {
-    let f = index_of(first);
-    let end = index_of(held);
+    let first = usize::from(first);
     let mut k = n;
     let mut p = at;
-    let mut i: usize = 0;
-    while i < end {
-        let r = judge_command(ws, val, cw, counts, f + i, k, p);
-        match r {
-            Step::Fine(k1, p1) => {
-                k = k1;
-                p = p1;
-            }
-            Step::No(e) => {
-                return Step::No(e);
-            }
-        }
-        i += 1;
+    for i in 0..usize::from(held) {
+        (k, p) = judge_command(ws, val, cw, counts, first + i, k, p)?;
     }
-    Step::Fine(k, p)
+    Ok((k, p))
 }
 
 // Next and else of a code block.
-fn judge_links(x: u16, y: u16, blocks: u16, n: u16, at: usize) -> Step
+fn judge_links(x: u16, y: u16, blocks: u16, n: u16, at: usize) -> Result<(u16, usize), Refusal>
     requires { at ≤ 900000 }
     ensures { Told (read_links blocks) uncounted (word x ++ word y) n 6 n at result }
 {
-    let a = judge_link(x, blocks, n, at);
-    match a {
-        Step::Fine(m, p) => judge_link(y, blocks, m, p),
-        Step::No(e) => Step::No(e),
-    }
+    let (m, p) = judge_link(x, blocks, n, at)?;
+    judge_link(y, blocks, m, p)
 }
 
 // What follows the kind of a code block. Its commands count when their number is read, whether they are there or not.
@@ -226,7 +194,7 @@ fn judge_code(
     n: u16,
     m: u16,
     at: usize,
-) -> Stage
+) -> Result<(u16, u16, usize), Refusal>
     requires { StandingBy counts i n m at 109000 }
     ensures { Staged (block_of (limits_by counts) m n 1) (block_tail (memory_of ws.now val.now cw.now bw.now counts) i 1) counts.nodes counts.commands 9 n m at result }
 {
@@ -234,19 +202,11 @@ fn judge_code(
     let room = counts.commands - m;
     let len = short_length(held);
     if held > room {
-        return Stage::No(3);
+        return Err(Refusal::OverLimit);
     }
-    let a = judge_commands(ws, val, cw, counts, bw[5 * i + 1], held, n, at + len);
-    match a {
-        Step::Fine(k, p) => {
-            let b = judge_links(bw[5 * i + 3], bw[5 * i + 4], counts.blocks, k, p);
-            match b {
-                Step::Fine(k1, q) => Stage::Fine(k1, m + held, q),
-                Step::No(e) => Stage::No(e),
-            }
-        }
-        Step::No(e) => Stage::No(e),
-    }
+    let (k, p) = judge_commands(ws, val, cw, counts, bw[5 * i + 1], held, n, at + len)?;
+    let (k, p) = judge_links(bw[5 * i + 3], bw[5 * i + 4], counts.blocks, k, p)?;
+    Ok((k, m + held, p))
 }
 
 // Block i.
@@ -260,16 +220,16 @@ fn judge_block(
     n: u16,
     m: u16,
     at: usize,
-) -> Stage
+) -> Result<(u16, u16, usize), Refusal>
     requires { StandingBy counts i n m at 108000 }
     ensures { Staged (read_block (limits_by counts) m n) (block_image_in (memory_of ws.now val.now cw.now bw.now counts) i) counts.nodes counts.commands 10 n m at result }
 {
     let kind = bw[5 * i];
     match kind {
-        0 => Stage::Fine(n, m, at + 1),
+        0 => Ok((n, m, at + 1)),
         1 => judge_code(ws, val, cw, bw, counts, i, n, m, at + 1),
-        2 => Stage::Fine(n, m, at + 1),
-        _ => Stage::No(2),
+        2 => Ok((n, m, at + 1)),
+        _ => Err(Refusal::BadImage),
     }
 }
 
@@ -280,43 +240,24 @@ fn judge_blocks(
     cw: &CommandWords,
     bw: &BlockWords,
     counts: Counts,
-) -> Judged
+) -> Result<usize, Refusal>
     requires { KeptBy counts }
     ensures { WalkedAs (memory_of ws.now val.now cw.now bw.now counts) result }
 {
-    let end = index_of(counts.blocks);
-    let mut n: u16 = 0;
-    let mut m: u16 = 0;
+    let mut n = 0;
+    let mut m = 0;
     let mut p = short_length(counts.blocks);
-    let mut i: usize = 0;
-    while i < end {
-        let r = judge_block(ws, val, cw, bw, counts, i, n, m, p);
-        match r {
-            Stage::Fine(n1, m1, p1) => {
-                n = n1;
-                m = m1;
-                p = p1;
-            }
-            Stage::No(e) => {
-                return Judged::No(e);
-            }
-        }
-        i += 1;
+    for i in 0..usize::from(counts.blocks) {
+        (n, m, p) = judge_block(ws, val, cw, bw, counts, i, n, m, p)?;
     }
-    Judged::Fine(p)
+    Ok(p)
 }
 
 // Whether the kept counts are within their limits.
 fn within_limits(counts: Counts) -> bool
     ensures { Within counts result }
 {
-    if counts.blocks > BLOCK_LIMIT {
-        return false;
-    }
-    if counts.commands > COMMAND_LIMIT {
-        return false;
-    }
-    counts.nodes <= NODE_LIMIT
+    counts.blocks <= BLOCK_LIMIT && counts.commands <= COMMAND_LIMIT && counts.nodes <= NODE_LIMIT
 }
 
 // The kept counts, then block by block. What the walk accepts holds nothing past its kept counts, so that only what it refuses is asked for that.
@@ -327,22 +268,17 @@ fn judge_by(
     cw: &CommandWords,
     bw: &BlockWords,
     counts: Counts,
-) -> Judged
+) -> Result<usize, Refusal>
     requires { command_limit ≤ length runs.old }
     ensures { JudgedAs (memory_of ws.now val.now cw.now bw.now counts) result }
 {
     if !within_limits(counts) {
-        return Judged::No(3);
+        return Err(Refusal::OverLimit);
     }
-    let walked = judge_blocks(ws, val, cw, bw, counts);
-    match walked {
-        Judged::Fine(len) => Judged::Fine(len),
-        Judged::No(k) => {
-            if held_kept(cw, bw, runs, counts) {
-                return Judged::No(k);
-            }
-            Judged::No(3)
-        }
+    match judge_blocks(ws, val, cw, bw, counts) {
+        Ok(len) => Ok(len),
+        Err(refusal) if held_kept(cw, bw, runs, counts) => Err(refusal),
+        Err(_) => Err(Refusal::OverLimit),
     }
 }
 
@@ -354,7 +290,7 @@ pub fn judge_record(
     cw: &CommandWords,
     bw: &BlockWords,
     counts: Counts,
-) -> Judged
+) -> Result<usize, Refusal>
     ensures { JudgedAs (memory_of ws.now val.now cw.now bw.now counts) result }
 {
     let mut runs = [0u16; COMMANDS];

@@ -1,5 +1,5 @@
 -- A tree that the table tells, with room for its nodes and its levels, is read fine wherever it stands. Assumes nothing.
-use Rattle.std.specs.Prelude.{◌≡◌, refl, List, ℤ, pos, get_or}
+use Rattle.std.specs.Prelude.{◌≡◌, refl, List, ℤ, pos, get_or, Ok}
 use Rattle.std.proofs.Common.{sym, ◌∙◌}
 use Prim.Native.Nat.{ℕ, zero, suc, ◌+◌, ◌-◌, ◌*◌, ◌≤◌, ◌<◌}
 use native.Mathlib.Omega.{arith}
@@ -13,10 +13,8 @@ use Rattle.model.specs.declared.Op2.{Op2}
 use Rattle.model.specs.declared.Op1.{Op1}
 use Rattle.model.specs.declared.Kind.{Kind}
 use Rattle.model.specs.declared.Kind.TheVariants.{Two, One, Imm16, Imm32, Other}
-use Rattle.judge_terms.specs.Told.{Told, imm_judged}
+use Rattle.judge_terms.specs.Told.{Step, Told, imm_judged}
 use Rattle.judge_terms.specs.Nodes.{imm_fine, Within, node_other, node_imm16, node_imm32, node_one, node_two}
-use Rattle.judge_terms.specs.declared.Step.{Step}
-use Rattle.judge_terms.specs.declared.Step.TheVariants.{Fine}
 use Rattle.judge_trees.specs.Trees.{Number, AboveOne, AboveTwo, Node, two, one, imm16, imm32, other, Trees, Operands, Shallow, Reads}
 
 -- ---- no other kind has these operands
@@ -104,7 +102,7 @@ abbrev ReadsBy : List ℕ → List ℤ → List ℕ → ℕ → ℕ → Type 0
 ReadsBy ws vs t d i = (b : ℕ) → i < b → (n at o l : ℕ) → o + d ≤ 64 → n + get_or t i 0 ≤ l → Reads ws vs l b i n at o (get_or t i 0)
 
 module _ (ws : List ℕ) (vs : List ℤ) (t : List ℕ) where
-  reads_as : {l b i n at o k m to : ℕ} → n + k ≡ m → Told (read_expr l (64 - o) n) size (node_image (nodes_in ws vs l) b i) l 0 n at (Fine m to) → Reads ws vs l b i n at o k
+  reads_as : {l b i n at o k m to : ℕ} → n + k ≡ m → Told (read_expr l (64 - o) n) size (node_image (nodes_in ws vs l) b i) l 0 n at (Ok (m, to)) → Reads ws vs l b i n at o k
   reads_as {to = to} e p = record { to = to; told = rw e p }
 
   module _ (d i : ℕ) (k : Kind) (low : get_or ws (3 * i) 0 < 19) (kd : k ≡ kind_of (get_or ws (3 * i) 0)) where
@@ -142,7 +140,7 @@ module _ (ws : List ℕ) (vs : List ℤ) (t : List ℕ) where
           let e : n + get_or t i 0 ≡ n + 1 + s₁ + s₂ = omega arith in
           let P = ih _ A.left S i A.left (n + 1) (at + 1) (o + 1) l (omega arith) (omega arith) in
           let Q = ih _ A.right R i A.right (n + 1 + s₁) P.to (o + 1) l (omega arith) (omega arith) in
-          reads_as {to = Q.to} e (node_two (nodes_in ws vs l) b i l n at o k (within b l n o h (omega arith) (omega arith)) {r = Fine (n + 1 + s₁ + s₂) Q.to} x kk P.told refl Q.told)
+          reads_as {to = Q.to} e (node_two (nodes_in ws vs l) b i l n at o k (within b l n o h (omega arith) (omega arith)) {r = Ok (n + 1 + s₁ + s₂, Q.to)} x kk P.told refl Q.told)
 
   node_reads : (d i : ℕ) → get_or ws (3 * i) 0 < 19 → Node ws vs t i (get_or t i 0) → Operands (Shallow ws d) ws i → ((j : ℕ) → j < i → Shallow ws d j → ReadsBy ws vs t d j) → ReadsBy ws vs t (suc d) i
   node_reads d i low (two x e A) O ih = reads_two d i (Two x) low e ih x refl A (O.left x e) (O.right x e)

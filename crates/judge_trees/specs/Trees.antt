@@ -1,5 +1,5 @@
 -- What the table tells of a node's tree: how many nodes it has, its operands lying below it. Assumes nothing: these are definitions.
-use Rattle.std.specs.Prelude.{◌≡◌, true, false, List, ℕ, zero, suc, ◌+◌, ◌-◌, ◌*◌, ◌≤◌, ◌<◌, T as Holds, ℤ, pos, length, get_or}
+use Rattle.std.specs.Prelude.{◌≡◌, true, false, List, ℕ, zero, suc, ◌+◌, ◌-◌, ◌*◌, ◌≤◌, ◌<◌, T as Holds, ℤ, pos, length, get_or, Ok}
 use Rattle.std.proofs.Common.{sym, subst}
 use Rattle.model.specs.Limits.{wide, wide16}
 use Rattle.model.specs.Reading.{zig}
@@ -11,7 +11,6 @@ use Rattle.model.specs.declared.Op2.{Op2}
 use Rattle.model.specs.declared.Op1.{Op1}
 use Rattle.model.specs.declared.Kind.TheVariants.{Two, One, Imm16, Imm32, Other}
 use Rattle.judge_terms.specs.Told.{Told}
-use Rattle.judge_terms.specs.declared.Step.TheVariants.{Fine}
 
 -- ---- a node of r nodes, those below it being told by the table
 
@@ -67,7 +66,7 @@ Shallow ws (suc d) i = Operands (Shallow ws d) ws i
 -- node i, which has to be below b, is read fine from there on, and its nodes come on top of n; how many bytes that takes is not kept
 pub record Reads (ws : List ℕ) (vs : List ℤ) (l b i n at o k : ℕ) : Type 0 where
   pub to : ℕ
-  pub told : Told (read_expr l (64 - o) n) size (node_image (nodes_in ws vs l) b i) l 0 n at (Fine (n + k) to)
+  pub told : Told (read_expr l (64 - o) n) size (node_image (nodes_in ws vs l) b i) l 0 n at (Ok (n + k, to))
 
 -- an answer of false says nothing
 pub never : {A : Type 0} → false ≡ true → A

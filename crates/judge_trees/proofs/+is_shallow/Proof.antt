@@ -1,7 +1,6 @@
 -- `trees::is_shallow` meets its contract: each return is one law of specs/Levels.antt, and the levels that are left fall. Assumes nothing.
 use native.Mathlib.Omega.{arith}
 use borrow.Author.Rules.{rules}
-use borrow.Author.Tests.{not-false}
 use Rattle.judge_trees.specs.Trees.{never}
 use Rattle.judge_trees.specs.Levels.{shallow_two, shallow_one, shallow_imm16, shallow_imm32, shallow_other}
 use Prim.Native.Nat.{ℕ, ◌-◌, ◌<◌}
