@@ -10,13 +10,14 @@ ghost use Rattle.model.specs.Judge.{setup_refusal};
 ghost use Rattle.model.specs.Memory.{Coded, script_of};
 ghost use Rattle.shop.specs.Shapes.{sheet_of};
 ghost use Rattle.model.specs.RecordCalls.{call_in, record_refusal};
+ghost use Rattle.model.specs.Refusals.{refusal_in};
 ghost use Rattle.memory.specs.View.{memory_of};
 ghost use Rattle.checks.specs.Calls.{save_of, blocks_over};
 
 use judge_plain::is_plain;
-use judge_record::{Judged, judge_record};
+use judge_record::judge_record;
 use memory::{BlockWords, CommandWords, Counts, NodeWords, Values};
-use model::{BlockNo, FLAGS, TIMES, VARIABLES};
+use model::{BlockNo, FLAGS, Refusal, TIMES, VARIABLES};
 use shop::{Sheet, check_sheet};
 
 // Each item's count is 0 to 32,767; no number of 16 bits is above that.
@@ -108,20 +109,18 @@ pub fn check_save(
 }
 
 // Checks 6 and 7.
-fn check_setup(bw: &BlockWords, blocks: u16, start: BlockNo) -> u8
+fn check_setup(bw: &BlockWords, blocks: u16, start: BlockNo) -> Result<(), Refusal>
     requires { blocks ≤ block_limit }
-    ensures { (co : Coded) → result ≡ setup_refusal (script_of (blocks_over co bw.now blocks)) start.0 }
+    ensures { (co : Coded) → refusal_in result ≡ setup_refusal (script_of (blocks_over co bw.now blocks)) start.0 }
 {
     let b = start.0;
-    if b >= blocks as u32 {
-        return 6;
+    if b >= u32::from(blocks) {
+        return Err(Refusal::NotBlock);
     }
-    let at = b as usize;
-    let kind = bw[5 * at];
-    if kind != 1 {
-        return 7;
+    if bw[5 * (b as usize)] != 1 {
+        return Err(Refusal::NotCode);
     }
-    0
+    Ok(())
 }
 
 // ---- the call
@@ -133,20 +132,17 @@ pub fn check_record(
     cw: &CommandWords,
     bw: &BlockWords,
     counts: Counts,
-) -> u8
-    ensures { result ≡ record_refusal (memory_of ws.now val.now cw.now bw.now counts) }
+) -> Result<(), Refusal>
+    ensures { refusal_in result ≡ record_refusal (memory_of ws.now val.now cw.now bw.now counts) }
 {
     if is_plain(ws, val, cw, bw, counts) {
-        return 0;
+        return Ok(());
     }
-    let j = judge_record(ws, val, cw, bw, counts);
-    match j {
-        Judged::Fine(_) => 0,
-        Judged::No(k) => k,
-    }
+    judge_record(ws, val, cw, bw, counts)?;
+    Ok(())
 }
 
-// Checks 1, 2 to 5, 6 and 7, in this order: the number of the first that refuses, or 0.
+// Checks 1, 2 to 5, 6 and 7, in this order: the first that refuses says why.
 pub fn check_call(
     attached: &[u8],
     sheet: Sheet,
@@ -156,15 +152,12 @@ pub fn check_call(
     bw: &BlockWords,
     counts: Counts,
     start: BlockNo,
-) -> u8
-    ensures { result ≡ call_in (sheet_of attached.now sheet) (memory_of ws.now val.now cw.now bw.now counts) start.0 }
+) -> Result<(), Refusal>
+    ensures { refusal_in result ≡ call_in (sheet_of attached.now sheet) (memory_of ws.now val.now cw.now bw.now counts) start.0 }
 {
     if !check_sheet(attached, sheet) {
-        return 1;
+        return Err(Refusal::BadSheet);
     }
-    let refused = check_record(ws, val, cw, bw, counts);
-    if refused != 0 {
-        return refused;
-    }
+    check_record(ws, val, cw, bw, counts)?;
     check_setup(bw, counts.blocks, start)
 }

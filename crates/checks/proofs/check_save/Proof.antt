@@ -1,7 +1,7 @@
 -- `check_save` meets its contract: the tests come in the definition's order. Assumes nothing.
 use Rattle.checks.proofs.Checks.{save_is}
 use mathlib.Core.Bool.{and-true}
-use borrow.Author.Tests.{eq-eqb, ne_eqb, not-true, not-false}
+use borrow.Author.Tests.{eq-eqb, ne_eqb}
 use mathlib.Core.Path.{sym, ◌∙◌}
 use borrow.Author.Rules.{rules}
 use Rattle.checks.proofs.check_save.Statement.{statement}
