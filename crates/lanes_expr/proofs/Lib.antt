@@ -1,2 +1,2 @@
-mod Places
+mod Worths
 pub mod Values

@@ -2,6 +2,8 @@
 use mathlib.Core.Path.{◌≡◌, refl, sym, ap, ◌∙◌}
 use mathlib.Core.Bool.{Bool, true, false, cond}
 use mathlib.Core.Option.{some}
+use mathlib.Core.Logic.{◌⊎◌}
+use Rattle.std.proofs.Common.{⊎_elim}
 use mathlib.Core.List.{List}
 use Prim.Native.Nat.{ℕ, zero, suc, ◌≤◌, ◌<◌}
 use native.Mathlib.Omega.{arith}
@@ -22,13 +24,13 @@ use Rattle.model.specs.declared.Kind.{Kind}
 use Rattle.model.specs.declared.Kind.TheVariants.{Two, One, Imm16, Imm32, Other}
 use Rattle.expr.specs.Tree.{tree_below, below_out, below_two, below_one, below_imm16, below_imm32, below_other}
 use Rattle.expr.specs.Requirement.{number_of}
-use Rattle.expr.specs.declared.MaybeNumber.{MaybeNumber}
-use Rattle.expr.specs.declared.MaybeNumber.TheVariants.{Is}
+use Rattle.std.specs.Prelude as code
+use Rattle.std.specs.Prelude.{Some}
 use Rattle.lanes_expr.specs.Lanes.{lane_value, first_stop, first_of2, apply_in, eval_in, reads_flag, flag_stop, read_stop, Valued}
 use Rattle.lanes_expr.specs.Each.{Each}
 
 -- the number that was found as m, and goes on as z
-pub imm_found : (e : Expr) {m : MaybeNumber} {y z : ℤ} → z ≡ y → m ≡ Is y → number_of m ≡ value e → some z ≡ value e
+pub imm_found : (e : Expr) {m : code.Option ℤ} {y z : ℤ} → z ≡ y → m ≡ Some y → number_of m ≡ value e → some z ≡ value e
 imm_found e p q h = ap some p ∙ ap number_of (sym q) ∙ h
 
 -- ---- one lane: its refusals before, between and after the operands
@@ -112,8 +114,8 @@ module _ (n m : ℕ) (f : Save) (vs : List ℤ) (ls : List ℕ) (s : ℕ) (ns : 
   stop_done : {rs rs' : List ℕ} {xs : List ℤ} → tree_below ns b i ≡ other → Each 0 (λ _ a. first_of2 a 13) s rs rs' → Here rs rs' xs
   stop_done {rs} {xs = xs} p h = record { is = λ j l. rw (h.done j l, p) (stop_lane (get_or rs j 0) 12 (get_or xs j (pos 0))); rest = h.rest }
 
-  imm_done : {rs : List ℕ} {xs xs' : List ℤ} (z : ℤ) → some z ≡ value (tree_below ns b i) → Each (pos 0) (λ _ _. z) s xs xs' → Here rs rs xs'
-  imm_done {rs} z p h = record { is = λ j l. rw (h.done j l) (ok_lane (get_or rs j 0) z ∙ ap (first_stop (get_or rs j 0)) (imm_worth (save_in n m f (get_or ls j 0)) (part variable_count (get_or ls j 0) vs) (tree_below ns b i) z p)); rest = λ j l. refl }
+  number_is : {rs : List ℕ} {xs xs' : List ℤ} (z : ℤ) → some z ≡ value (tree_below ns b i) → Each (pos 0) (λ _ _. z) s xs xs' → Here rs rs xs'
+  number_is {rs} z p h = record { is = λ j l. rw (h.done j l) (ok_lane (get_or rs j 0) z ∙ ap (first_stop (get_or rs j 0)) (imm_worth (save_in n m f (get_or ls j 0)) (part variable_count (get_or ls j 0) vs) (tree_below ns b i) z p)); rest = λ j l. refl }
 
   pub out_done : {rs rs' : List ℕ} {xs : List ℤ} → b ≤ i → Each 0 (λ _ a. first_of2 a 13) s rs rs' → Here rs rs' xs
   out_done l h = stop_done (below_out ns b i l) h
@@ -148,11 +150,8 @@ module _ (n m : ℕ) (f : Save) (vs : List ℤ) (ls : List ℕ) (s : ℕ) (ns : 
       rest = g.rest;
     }
 
-    pub imm16_done : {rs : List ℕ} {xs xs' : List ℤ} {z : ℤ} → k ≡ Imm16 → z ≡ value_at ns i → Each (pos 0) (λ _ _. z) s xs xs' → Here rs rs xs'
-    imm16_done {z = z} e p h = imm_done z (ap some p ∙ sym (ap value (below_imm16 ns b i lt k found e))) h
-
-    pub imm32_done : {rs : List ℕ} {xs xs' : List ℤ} {z : ℤ} → k ≡ Imm32 → z ≡ value_at ns i → Each (pos 0) (λ _ _. z) s xs xs' → Here rs rs xs'
-    imm32_done {z = z} e p h = imm_done z (ap some p ∙ sym (ap value (below_imm32 ns b i lt k found e))) h
+    pub imm_done : {rs : List ℕ} {xs xs' : List ℤ} {z : ℤ} → (k ≡ Imm16) ⊎ (k ≡ Imm32) → z ≡ value_at ns i → Each (pos 0) (λ _ _. z) s xs xs' → Here rs rs xs'
+    imm_done {z = z} e p h = number_is z (ap some p ∙ ⊎_elim (λ q. sym (ap value (below_imm16 ns b i lt k found q))) (λ q. sym (ap value (below_imm32 ns b i lt k found q))) e) h
 
     pub other_done : {rs rs' : List ℕ} {xs : List ℤ} → k ≡ Other → Each 0 (λ _ a. first_of2 a 13) s rs rs' → Here rs rs' xs
     other_done e h = stop_done (below_other ns b i lt k found e) h

@@ -1,14 +1,12 @@
 -- The value of an expression for each lane of a walk, in two arrays: a number, and the refusal that stopped the lane, or 0 (02, A.8). Assumes nothing: these are definitions.
-use Rattle.std.specs.Prelude.{◌≡◌, Bool, true, false, cond, List, ℕ, zero, suc, ◌+◌, ◌*◌, ◌≤◌, ◌<◌, ltb, get_or, length, ℤ, pos, negsuc}
+use Rattle.std.specs.Prelude.{◌≡◌, Bool, true, false, cond, Option, Some, None, List, map, ℕ, zero, suc, ◌+◌, ◌*◌, ◌≤◌, ◌<◌, ltb, get_or, length, ℤ, pos, negsuc}
 use Rattle.model.specs.Limits.{flag_count, time_count, variable_count, most_saves}
 use Rattle.model.specs.Refusal.{no_flag}
-use Rattle.model.specs.Save.{Save, flag_inside}
+use Rattle.model.specs.Save.{Save, flag_inside, int_at}
 use Rattle.model.specs.Expr.{Expr, Value, ok, stop, apply1, readable, eval}
 use Rattle.model.specs.declared.Op1.{Op1}
 use Rattle.model.specs.declared.Op1.TheVariants.{Not, Flag, Variable, Item, Atc, Time}
 use Rattle.lanes_model.specs.Flat.{part, save_in}
-use Rattle.lanes_expr.specs.declared.MaybePlace.{MaybePlace}
-use Rattle.lanes_expr.specs.declared.MaybePlace.TheVariants.{At, Nothing}
 
 -- ---- what a lane reads: its parts of the saves f, which lie one behind another, and of their variables vs
 
@@ -31,9 +29,13 @@ pub record Stand (n m : ℕ) (f : Save) (vs : List ℤ) (ls : List ℕ) (s : ℕ
   pub lie : (j : ℕ) → j < s → Lies n m f vs (get_or ls j 0)
 
 -- where element x of part l stands in a list of parts of that width
-abbrev pub place_in : ℕ → ℕ → ℤ → MaybePlace
-place_in w l (pos k) = cond (ltb k w) (At (l * w + k)) Nothing
-place_in w l (negsuc k) = Nothing
+abbrev pub place_in : ℕ → ℕ → ℤ → Option ℕ
+place_in w l (pos k) = cond (ltb k w) (Some (l * w + k)) None
+place_in w l (negsuc k) = None
+
+-- what that element is worth, and 0 outside the part
+abbrev pub worth_in : {A : Type 0} → (A → ℤ) → ℕ → ℕ → List A → ℤ → ℤ
+worth_in f w l xs x = int_at (part w l (map f xs)) x
 
 abbrev pub apply_in : ℕ → ℕ → Save → List ℤ → Op1 → ℕ → ℤ → ℤ
 apply_in n m f vs o l x = apply1 (save_in n m f l) (part variable_count l vs) o x
