@@ -3,7 +3,7 @@ use Rattle.std.specs.Prelude.{◌≡◌, List, ℤ, length, get_or}
 use Rattle.std.proofs.Math.Path.{refl, ap}
 use Rattle.std.proofs.Common.{sym, ◌∙◌, add-zero, arith}
 use Rattle.std.proofs.Math.Option.{Option, none, some}
-use Prim.Native.Nat.{ℕ, zero, suc, ◌+◌, ◌*◌, ◌-◌, ◌≤◌, ◌<◌}
+use Prim.Native.Nat.{ℕ, zero, suc, ◌+◌, ◌*◌, ◌-◌, ◌<◌}
 use Rattle.std.proofs.Math.Numerals.{add-one}
 use Rattle.model.specs.Limits.{slot_count}
 use Rattle.model.specs.Expr.{Expr, negate}
@@ -138,16 +138,16 @@ first_left co e zero c k p = absurd (omega arith)
 first_left co e (suc h) c k p = let q : suc h - 1 ≡ h = omega arith in rw (add-one c, q)
 
 -- all of them are left
-pub scan_start : (co : Coded) (e : Option Expr) (held first : ℕ) (k : Scan) → scan e (commands_in co held first) k ≡ scan e (commands_in co held (first + (held - held))) k
-scan_start co e held first k = let q : first ≡ first + (held - held) = omega arith in ap (λ c. scan e (commands_in co held c) k) q
+pub scan_start : (co : Coded) (e : Option Expr) (held first : ℕ) (k : Scan) → scan e (commands_in co held first) k ≡ scan e (commands_in co (first + held - first) first) k
+scan_start co e held first k = let q : held ≡ first + held - first = omega arith in ap (λ n. scan e (commands_in co n first) k) q
 
 -- one of them
-pub scan_step : (co : Coded) (e : Option Expr) (held left first : ℕ) (k k' : Scan) → 0 < left → left ≤ held → k' ≡ scan_one e (command_in co (first + (held - left))) k
-    → scan e (commands_in co left (first + (held - left))) k ≡ scan e (commands_in co (left - 1) (first + (held - (left - 1)))) k'
-scan_step co e held left first k k' p l s =
-    let q : first + (held - left) + 1 ≡ first + (held - (left - 1)) = omega arith in
-    first_left co e left (first + (held - left)) k p ∙ ap (λ c. scan e (commands_in co (left - 1) c) (scan_one e (command_in co (first + (held - left))) k)) q
-    ∙ ap (scan e (commands_in co (left - 1) (first + (held - (left - 1))))) (sym s)
+pub scan_step : (co : Coded) (e : Option Expr) (end c : ℕ) (k k' : Scan) → c < end → k' ≡ scan_one e (command_in co c) k
+    → scan e (commands_in co (end - c) c) k ≡ scan e (commands_in co (end - (c + 1)) (c + 1)) k'
+scan_step co e end c k k' l s =
+    let q : end - c - 1 ≡ end - (c + 1) = omega arith in
+    first_left co e (end - c) c k (omega arith) ∙ ap (λ n. scan e (commands_in co n (c + 1)) (scan_one e (command_in co c) k)) q
+    ∙ ap (scan e (commands_in co (end - (c + 1)) (c + 1))) (sym s)
 
 -- none of them
 pub scan_done : (co : Coded) (e : Option Expr) (h c : ℕ) (k : Scan) → h ≡ 0 → scan e (commands_in co h c) k ≡ k

@@ -1,5 +1,5 @@
 -- The last If of a block's commands, by their words (01, Parser: the last If in a block counts). Assumes nothing.
-use Rattle.std.specs.Prelude.{◌≡◌, cond, List, ℕ, zero, suc, ◌+◌, ◌*◌, ◌-◌, ◌≤◌, ◌<◌, eqb, get_or}
+use Rattle.std.specs.Prelude.{◌≡◌, cond, List, ℕ, zero, suc, ◌+◌, ◌*◌, ◌-◌, ◌≤◌, eqb, get_or}
 use Rattle.std.proofs.Common.{add-one, arith, eq-eqb, ne_eqb}
 
 -- after command c, the last If before it being j: 0 for none, or 1 + its root
@@ -20,13 +20,16 @@ module _ (cw : List ℕ) (c j : ℕ) where
 
 -- ---- the commands that are left
 
-pub last_start : (cw : List ℕ) (held first j : ℕ) → j ≡ 0 → j ≡ last_if cw (held - held) first
+pub last_start : (cw : List ℕ) (first j : ℕ) → j ≡ 0 → j ≡ last_if cw (first - first) first
 unfolding last_if
-last_start cw held first j e = let q : held - held ≡ 0 = omega arith in rw (q, e)
+last_start cw first j e = let q : first - first ≡ 0 = omega arith in rw (q, e)
 
-pub last_step : (cw : List ℕ) (held left first j i : ℕ) → 0 < left → left ≤ held → j ≡ last_if cw (held - left) first → i ≡ last_at cw (first + (held - left)) j → i ≡ last_if cw (held - (left - 1)) first
+pub last_step : (cw : List ℕ) (first c j i : ℕ) → first ≤ c → j ≡ last_if cw (c - first) first → i ≡ last_at cw c j → i ≡ last_if cw (c + 1 - first) first
 unfolding last_if
-last_step cw held left first j i p l e d = let q : held - (left - 1) ≡ suc (held - left) = omega arith in rw (q, ← e) d
+last_step cw first c j i l e d =
+    let q : c + 1 - first ≡ suc (c - first) = omega arith in
+    let r : first + (c - first) ≡ c = omega arith in
+    rw (q, ← e, r) d
 
-pub last_done : (cw : List ℕ) (held left first j : ℕ) → left ≡ 0 → j ≡ last_if cw (held - left) first → j ≡ last_if cw held first
-last_done cw held left first j z e = let q : held - left ≡ held = omega arith in rw q at e
+pub last_done : (cw : List ℕ) (held first c j : ℕ) → c ≡ first + held → j ≡ last_if cw (c - first) first → j ≡ last_if cw held first
+last_done cw held first c j z e = let q : c - first ≡ held = omega arith in rw q at e

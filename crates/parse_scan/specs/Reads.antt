@@ -1,5 +1,6 @@
 -- Nodes as the parser reads them: a node by its kind, numbers, targets and what a Set writes. Assumes nothing.
-use Rattle.std.specs.Prelude.{◌≡◌, refl, true, false, cond, ℕ, suc, ◌-◌, ◌^◌, ◌≤◌, ◌<◌, ◌+◌, ℤ, pos, negsuc, nat_abs}
+use Rattle.std.specs.Prelude as Code
+use Rattle.std.specs.Prelude.{◌≡◌, refl, Some, None, true, false, cond, ℕ, suc, ◌-◌, ◌^◌, ◌≤◌, ◌<◌, ◌+◌, ℤ, pos, negsuc, nat_abs}
 use Rattle.std.proofs.Common.{sym, ap, ◌∙◌, arith, to_z-of_z}
 use Rattle.std.proofs.Math.Option.{Option, none, some}
 use Rattle.std.proofs.Math.Decide.{dec_le}
@@ -24,18 +25,14 @@ use Rattle.model.specs.Memory.{Nodes, code_at, left_at, right_at, value_at, node
 use Rattle.model.specs.Parse.{Place, temp, elsewhere, itemVar, countVar, value, place, place_of, if_first, written, item_index, is_subtract, limit_in, new_limit}
 use Rattle.expr.specs.Tree.{tree_below, tree_node, below_two, below_one, below_imm16, below_imm32, below_other}
 use Rattle.expr.specs.Requirement.{number_of}
-use Rattle.expr.specs.declared.MaybeNumber.{MaybeNumber}
-use Rattle.expr.specs.declared.MaybeNumber.TheVariants.{Is}
-use Rattle.parse_scan.specs.declared.Short.{Short}
-use Rattle.parse_scan.specs.declared.Short.TheVariants.{Unread, Wrote}
 use Rattle.parse_scan.specs.declared.Target.{Target}
 use Rattle.parse_scan.specs.declared.Target.TheVariants.{First, Unused, ItemOf, CountOf}
 
 -- ---- what the code's values stand for
 
-abbrev pub short_is : Short → Option ℤ
-short_is Unread = none
-short_is (Wrote z) = some z
+abbrev pub short_is : Code.Option ℤ → Option ℤ
+short_is None = none
+short_is (Some z) = some z
 
 abbrev pub target_is : Target → Place
 target_is First = temp
@@ -208,7 +205,7 @@ module _ (n : ℕ) where
   place_high h = rw (ne_eqb n 0 (λ e. omega arith), le-ltb n item_first (omega arith), le-ltb n count_first (omega arith), le-ltb n (count_first + slot_count) h)
 
 -- the place of the number n that the code has for z
-pub target_is_lem : {p : Place} (x : MaybeNumber) (z : ℤ) (n : ℕ) → x ≡ Is z → SFits w32 z → lt_z (to_z w32 (of_z w32 z)) (pos 0) ≡ false → n ≡ nat_abs (to_z w32 (of_z w32 z)) → p ≡ place_of n → p ≡ place (number_of x)
+pub target_is_lem : {p : Place} (x : Code.Option ℤ) (z : ℤ) (n : ℕ) → x ≡ Some z → SFits w32 z → lt_z (to_z w32 (of_z w32 z)) (pos 0) ≡ false → n ≡ nat_abs (to_z w32 (of_z w32 z)) → p ≡ place_of n → p ≡ place (number_of x)
 target_is_lem x z n e f t d q = q ∙ ap place_of (d ∙ ap nat_abs (to_z-of_z f)) ∙ target_natural z (rw (to_z-of_z f) at t) ∙ sym (ap (λ y. place (number_of y)) e)
 
 -- .. has 32 bits

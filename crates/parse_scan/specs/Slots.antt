@@ -17,11 +17,10 @@ use Rattle.model.specs.Parse.{fill_item, new_count, update_slot, few_entries}
 use Rattle.model.proofs.Laws.Normal.{extend_sorted}
 use Rattle.shop_codes.specs.Codes.{code_of, requirement_of, AllNarrow}
 use Rattle.shop.specs.Shapes.{entries, item_of, slot_of}
-use Rattle.shop.specs.Sets.{held, reqs_of}
+use Rattle.shop.specs.Sets.{Reqs, held, reqs_of}
 use Rattle.shop.specs.Slots.{slot_narrow}
 use Rattle.shop.specs.Good.{own_reqs, GoodSlot, stands_for, good_slot, own_held, own_few}
 use Rattle.shop.specs.declared.Slot.{Slot}
-use Rattle.shop.specs.declared.Reqs.{Reqs}
 use Rattle.parse_scan.specs.Extend.{insert_codes, extend_longer, extend_narrow, extend_codes}
 
 -- n codes in more stand for the negations of rs as a set; an n past the array says that they are too many

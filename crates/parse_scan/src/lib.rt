@@ -21,11 +21,10 @@ ghost use Rattle.parse_scan.specs.Rows.{RowHid, PartHid};
 ghost use Rattle.parse_scan.specs.InPlace.{HiddenIn, FilledIn, SlotDone};
 ghost use Rattle.parse_scan.specs.AllSlots.{SlotsUpdated};
 
-use expr::{MaybeNumber, number_below};
+use expr::number_below;
 use memory::{CommandWords, NODE_LIMIT, NodeWords, Values, kind_of};
 use model::{ItemId, Kind, Op1, Op2};
-use shop::{COUNT_END, COUNT_FIRST, Codes, ENTRIES, ITEM_FIRST, Row, SLOTS, capacity, insert_row};
-use shop_arrays::sizes;
+use shop::{COUNT_END, COUNT_FIRST, Codes, ENTRIES, ITEM_FIRST, Row, SLOTS, insert_row};
 
 // What a block's commands leave: which slots' variables they wrote, the limit, and last_if, 0 or 1 + the root of the last If's condition.
 // The numbers written lie in two lent arrays, and mean something only where the mask has the slot's bit: the arrays are never cleared.
@@ -35,13 +34,6 @@ pub struct Scanned {
     pub count_mask: u32,
     pub limit: i16,
     pub last_if: u16,
-}
-
-// What a Set writes, where that can be read.
-#[derive(Clone, Copy)]
-enum Short {
-    Unread,
-    Wrote(i16),
 }
 
 // What a Set writes to: variable 0, nothing of a shop, or a slot's item or count.
@@ -71,11 +63,11 @@ pub fn size(xs: &[i16; SLOTS]) -> usize
 }
 
 // A number written goes into the array, and its bit into the mask; one that cannot be read leaves what was there.
-fn keep(xs: &mut [i16; SLOTS], mask: u32, slot: usize, w: Short) -> u32
+fn keep(xs: &mut [i16; SLOTS], mask: u32, slot: usize, w: Option<i16>) -> u32
     requires { slot < slot_count }
     ensures { table_of result xs.new ≡ put_at (table_of mask xs.old) slot (short_is w) }
 {
-    let Short::Wrote(v) = w else {
+    let Some(v) = w else {
         return mask;
     };
     xs[slot] = v;
@@ -83,15 +75,15 @@ fn keep(xs: &mut [i16; SLOTS], mask: u32, slot: usize, w: Short) -> u32
 }
 
 // What was written of a slot's variable: a number left over from another block has no bit.
-fn value_at(xs: &[i16; SLOTS], mask: u32, slot: usize) -> Short
+fn value_at(xs: &[i16; SLOTS], mask: u32, slot: usize) -> Option<i16>
     requires { slot < slot_count }
     ensures { short_is result ≡ get_or (table_of mask xs.now) slot none }
 {
-    size(xs);
     if (mask >> slot) % 2 == 1 {
-        return Short::Wrote(xs[slot]);
+        Some(xs[slot])
+    } else {
+        None
     }
-    Short::Unread
 }
 
 // The first slot from at on whose bit is set in the mask; past the last slot where there is none.
@@ -112,104 +104,80 @@ fn cut(x: i32) -> i16
 }
 
 // Target numbers are not cut.
-fn target_of(x: MaybeNumber) -> Target
+fn target_of(x: Option<i32>) -> Target
     ensures { target_is result ≡ place (number_of x) }
 {
-    let MaybeNumber::Is(z) = x else {
+    let Some(z) = x else {
         return Target::Unused;
     };
     if z < 0 {
         return Target::Unused;
     }
     let n = z as usize;
-    if n == 0 {
-        return Target::First;
+    match n {
+        0 => Target::First,
+        ITEM_FIRST..COUNT_FIRST => Target::ItemOf(n - ITEM_FIRST),
+        COUNT_FIRST..COUNT_END => Target::CountOf(n - COUNT_FIRST),
+        _ => Target::Unused,
     }
-    if n < ITEM_FIRST {
-        return Target::Unused;
-    }
-    if n < COUNT_FIRST {
-        return Target::ItemOf(n - ITEM_FIRST);
-    }
-    if n < COUNT_END {
-        return Target::CountOf(n - COUNT_FIRST);
-    }
-    Target::Unused
 }
 
 // var[0] reads as the current limit.
-fn first_of(o: Op1, x: MaybeNumber, limit: i16) -> Short
+fn first_of(o: Op1, x: Option<i32>, limit: i16) -> Option<i16>
     ensures { short_is result ≡ reads_first o (number_of x) limit }
 {
-    let Op1::Variable = o else {
-        return Short::Unread;
-    };
-    let MaybeNumber::Is(z) = x else {
-        return Short::Unread;
-    };
-    if z == 0 {
-        return Short::Wrote(limit);
+    match (o, x) {
+        (Op1::Variable, Some(0)) => Some(limit),
+        _ => None,
     }
-    Short::Unread
 }
 
 // What the Set with value v writes: an Imm, cut to 16 bits, or the current limit.
-fn written_by(ws: &NodeWords, val: &Values, v: u16, limit: i16) -> Short
+fn written_by(ws: &NodeWords, val: &Values, v: u16, limit: i16) -> Option<i16>
     requires { ReadyValue ws.now val.now v }
     ensures { (n : ℕ) → short_is result ≡ written (tree (nodes_in ws.now val.now n) v) limit }
 {
-    let at = v as usize;
-    let k = kind_of(ws[3 * at]);
-    match k {
-        Kind::Two(_) => Short::Unread,
+    let at = usize::from(v);
+    match kind_of(ws[3 * at]) {
         Kind::One(o) => first_of(o, number_below(ws, val, v, ws[3 * at + 1]), limit),
-        Kind::Imm16 => Short::Wrote(cut(val[at])),
-        Kind::Imm32 => Short::Wrote(cut(val[at])),
-        Kind::Other => Short::Unread,
+        Kind::Imm16 | Kind::Imm32 => Some(cut(val[at])),
+        Kind::Two(_) | Kind::Other => None,
     }
 }
 
 // Of a subtraction's right side only item[Imm] counts.
-fn index_by(o: Op1, x: MaybeNumber) -> MaybeNumber
+fn index_by(o: Op1, x: Option<i32>) -> Option<i32>
     ensures { number_of result ≡ index_by o (number_of x) }
 {
-    if let Op1::Item = o {
-        x
-    } else {
-        MaybeNumber::Nothing
+    match o {
+        Op1::Item => x,
+        _ => None,
     }
 }
 
 // The Imm in node i, an operand of node b, where that is item[Imm].
-fn index_below(ws: &NodeWords, val: &Values, b: u16, i: u16) -> MaybeNumber
+fn index_below(ws: &NodeWords, val: &Values, b: u16, i: u16) -> Option<i32>
     requires { b ≤ node_limit }
     ensures { (n : ℕ) → number_of result ≡ item_index (tree_below (nodes_in ws.now val.now n) b i) }
 {
     if b <= i {
-        return MaybeNumber::Nothing;
+        return None;
     }
-    let at = i as usize;
-    let k = kind_of(ws[3 * at]);
-    let Kind::One(o) = k else {
-        return MaybeNumber::Nothing;
+    let at = usize::from(i);
+    let Kind::One(o) = kind_of(ws[3 * at]) else {
+        return None;
     };
     index_by(o, number_below(ws, val, i, ws[3 * at + 1]))
 }
 
 // The limit that a subtraction sets, cut to 16 bits.
-fn limit_by(o: Op2, x: MaybeNumber, index: MaybeNumber, limit: i16) -> i16
+fn limit_by(o: Op2, x: Option<i32>, index: Option<i32>, limit: i16) -> i16
     ensures { result ≡ cond (is_subtract o) (limit_in (number_of x) (number_of index) limit) limit }
 {
-    let Op2::Subtract = o else {
-        return limit;
-    };
-    let MaybeNumber::Is(_) = index else {
-        return limit;
-    };
-    let MaybeNumber::Is(z) = x else {
-        return limit;
-    };
-    cut(z)
+    match (o, index, x) {
+        (Op2::Subtract, Some(_), Some(z)) => cut(z),
+        _ => limit,
+    }
 }
 
 // The current limit after variable 0 was set to node v.
@@ -217,9 +185,8 @@ fn limit_after(ws: &NodeWords, val: &Values, v: u16, limit: i16) -> i16
     requires { v < node_limit }
     ensures { (n : ℕ) → result ≡ new_limit (tree (nodes_in ws.now val.now n) v) limit }
 {
-    let at = v as usize;
-    let k = kind_of(ws[3 * at]);
-    let Kind::Two(o) = k else {
+    let at = usize::from(v);
+    let Kind::Two(o) = kind_of(ws[3 * at]) else {
         return limit;
     };
     let x = number_below(ws, val, v, ws[3 * at + 1]);
@@ -228,6 +195,11 @@ fn limit_after(ws: &NodeWords, val: &Values, v: u16, limit: i16) -> i16
 }
 
 // ---- commands
+
+// The codes of a Set and an If, as the words of a command have them.
+const SET: u16 = 2;
+
+const IF: u16 = 3;
 
 // As evaluate_set: t and v are the roots of target and value.
 fn evaluate_set(
@@ -245,23 +217,17 @@ fn evaluate_set(
     let target = target_of(number_below(ws, val, NODE_LIMIT, t));
     match target {
         Target::First => Scanned {
-            item_mask: s.item_mask,
-            count_mask: s.count_mask,
             limit: limit_after(ws, val, v, s.limit),
-            last_if: s.last_if,
+            ..s
         },
         Target::Unused => s,
         Target::ItemOf(i) => Scanned {
             item_mask: keep(ids, s.item_mask, i, written_by(ws, val, v, s.limit)),
-            count_mask: s.count_mask,
-            limit: s.limit,
-            last_if: s.last_if,
+            ..s
         },
         Target::CountOf(i) => Scanned {
-            item_mask: s.item_mask,
             count_mask: keep(counts, s.count_mask, i, written_by(ws, val, v, s.limit)),
-            limit: s.limit,
-            last_if: s.last_if,
+            ..s
         },
     }
 }
@@ -279,24 +245,16 @@ fn scan_one(
     requires { ReadyCommand ws.now val.now cw.now c }
     ensures { OneScanned ws.now val.now cw.now c s ids.old counts.old result ids.new counts.new }
 {
-    let i = c as usize;
-    let code = cw[4 * i];
+    let i = usize::from(c);
     let a = cw[4 * i + 1];
-    if code == 3 {
-        return Scanned {
-            item_mask: s.item_mask,
-            count_mask: s.count_mask,
-            limit: s.limit,
+    match cw[4 * i] {
+        IF => Scanned {
             last_if: a + 1,
-        };
+            ..s
+        },
+        SET if cw[4 * i + 3] == 0 => evaluate_set(ws, val, ids, counts, a, cw[4 * i + 2], s),
+        _ => s,
     }
-    if code != 2 {
-        return s;
-    }
-    if cw[4 * i + 3] != 0 {
-        return s;
-    }
-    evaluate_set(ws, val, ids, counts, a, cw[4 * i + 2], s)
 }
 
 // The commands of a block, held of them from first on, under the current limit.
@@ -313,18 +271,14 @@ pub fn scan_block(
     requires { Ready ws.now val.now cw.now held first }
     ensures { BlockScanned ws.now val.now cw.now first held limit result ids.new counts.new }
 {
-    size(ids);
-    size(counts);
     let mut s = Scanned {
         item_mask: 0,
         count_mask: 0,
         limit,
         last_if: 0,
     };
-    let mut left = held;
-    while 0 < left {
-        s = scan_one(ws, val, cw, ids, counts, first + (held - left), s);
-        left -= 1;
+    for c in first..first + held {
+        s = scan_one(ws, val, cw, ids, counts, c, s);
     }
     s
 }
@@ -332,20 +286,16 @@ pub fn scan_block(
 // ---- slots hidden
 
 // Where a count was written: an item below 0 or absent hides the slot.
-fn hides_by(item: Short) -> bool
+fn hides_by(item: Option<i16>) -> bool
     ensures { (z : ℤ) → result ≡ hides_by (short_is item) (some z) }
 {
-    let Short::Wrote(id) = item else {
-        return true;
-    };
-    id < 0
+    item.is_none_or(|id| id < 0)
 }
 
 // Whether the block hides a slot, of those that it wrote a count of. The counts' numbers do not matter.
 pub fn hides(s: Scanned, ids: &[i16; SLOTS]) -> bool
     ensures { (cs : List ℤ) → length cs ≡ slot_count → result ≡ hides_one (table_of s.item_mask ids.now) (table_of s.count_mask cs) }
 {
-    size(ids);
     let mut at = 0;
     while at < SLOTS {
         let i = next_touched(s.count_mask, at);
@@ -365,15 +315,12 @@ fn hide_row(row: &mut [u64], n: usize, more: &Row, len: usize) -> usize
     requires { (length row.old ≡ entry_limit) × ((n ≤ entry_limit) × (len ≤ entry_limit)) }
     ensures { RowHid row.old n (take len more.now) row.new result }
 {
-    capacity(more);
     let mut held = n;
-    let mut i = 0;
-    while i < len {
-        held = insert_row(row, held, more[i]);
+    for code in &more[..len] {
+        held = insert_row(row, held, *code);
         if ENTRIES < held {
             return held;
         }
-        i += 1;
     }
     held
 }
@@ -395,7 +342,7 @@ fn hide_slot(codes: &mut Codes, lens: &mut [u8; SLOTS], i: usize, more: &Row, le
     if ENTRIES < len {
         return false;
     }
-    let n = hide_part(codes, ENTRIES * i, lens[i] as usize, more, len);
+    let n = hide_part(codes, ENTRIES * i, usize::from(lens[i]), more, len);
     if ENTRIES < n {
         return false;
     }
@@ -409,13 +356,11 @@ fn hide_slot(codes: &mut Codes, lens: &mut [u8; SLOTS], i: usize, more: &Row, le
 fn fill_number(x: i32, known: u16, id: ItemId) -> i32
     ensures { item_of (item_from result) ≡ fill_item (item_of (item_from x)) id.0 (ltb id.0 known) }
 {
-    if x != -1 {
-        return x;
+    if x == -1 && id.0 < known {
+        i32::from(id.0)
+    } else {
+        x
     }
-    if known <= id.0 {
-        return x;
-    }
-    id.0 as i32
 }
 
 // A count above 0 replaces the limit.
@@ -451,19 +396,18 @@ fn update_slot(
     lens: &mut [u8; SLOTS],
     known: u16,
     i: usize,
-    item: Short,
-    count: Short,
+    item: Option<i16>,
+    count: Option<i16>,
     more: &Row,
     n: usize,
 ) -> bool
     requires { (i < slot_count) × GoodSlot (slot_at (arrays_in items.old limits.old codes.old lens.old) i) }
     ensures { SlotDone (arrays_in items.old limits.old codes.old lens.old) known i (short_is item) (short_is count) more.now n result (arrays_in items.new limits.new codes.new lens.new) }
 {
-    sizes(items, limits, codes, lens);
-    let Short::Wrote(z) = count else {
+    let Some(z) = count else {
         return true;
     };
-    let Short::Wrote(id) = item else {
+    let Some(id) = item else {
         return hide_slot(codes, lens, i, more, n);
     };
     if id < 0 {
@@ -489,8 +433,6 @@ pub fn update_slots(
     requires { GoodShop (shop_from (arrays_in items.old limits.old codes.old lens.old)) }
     ensures { SlotsUpdated (shop_from (arrays_in items.old limits.old codes.old lens.old)) known (table_of s.item_mask ids.now) (table_of s.count_mask counts.now) more.now n result (shop_from (arrays_in items.new limits.new codes.new lens.new)) }
 {
-    size(ids);
-    size(counts);
     let touched = s.item_mask | s.count_mask;
     let mut at = 0;
     while at < SLOTS {

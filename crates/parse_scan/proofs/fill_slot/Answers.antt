@@ -1,4 +1,3 @@
--- `fill_slot` meets its contract: item and limit are written where they stand. Assumes nothing.
 use mathlib.Core.Path.{◌∙◌}
 use lib.IntN.{pos}
 use lib.ListN.{get_or}
@@ -6,11 +5,9 @@ use mir.Syntax.{w16, w32}
 use mir.Val.{SFits}
 use mir.Facts.{to_z-of_z}
 use Rattle.parse_scan.specs.InPlace.{filled_in}
-use borrow.Author.Rules.{rules}
-use Rattle.parse_scan.proofs.fill_slot.Statement.{statement}
-use Rattle.parse_scan.proofs.fill_slot.Tie as tie
+use Rattle.parse_scan.proofs.fill_slot.Goals as goal
 
-returns : tie.Need-returns
+pub returns : goal.returns
 returns c = let a = c.args in
     let n = c.fill_number in
     let fx : SFits w32 (get_or a.items.now a.i (pos 0)) = record { sfits = c.fill_number-arg-1.given } in
@@ -18,19 +15,3 @@ returns c = let a = c.args in
     filled_in a.known a.id.0 a.count a.i a.items.now a.limits.now c.requires.0 c.requires.1.0 c.requires.1.1 _ _
     (rw (to_z-of_z {w = w32} (record { sfits = n.type_inv })) (rw (to_z-of_z fx) at n.ensures))
     (to_z-of_z {w = w16} (record { sfits = c.new_count.type_inv }) ∙ (rw (to_z-of_z c.ranges.count, to_z-of_z fl) at c.new_count.ensures))
-
-pub fill_slot_spec : {M : Type 1} → statement M
-fill_slot_spec =
-    tie.close
-    (tie.spec
-    (λ c. search rules)
-    (λ c. search rules)
-    (λ c κs. search rules)
-    (λ c. search rules)
-    (λ c. search rules)
-    (λ c. search rules)
-    (λ c. search rules)
-    (λ c κs. search rules)
-    (λ c. search rules)
-    (λ c. search rules)
-    returns)
