@@ -1,6 +1,6 @@
 -- The tests of requirements have as many nodes as worked out. Assumes nothing.
-use Rattle.std.specs.Prelude.{◌≡◌, refl, Bool, cond, List, [], ◌∷◌, map, ℕ, ◌+◌, ◌*◌, ◌≤◌, ◌<◌, ℤ, pos, length, take, get_or}
-use Rattle.std.proofs.Common.{sym, ap, ◌∙◌, add-one, arith, take-suc}
+use Rattle.std.specs.Prelude.{◌≡◌, refl, List, [], ◌∷◌, map, ℕ, ◌+◌, ◌*◌, ◌≤◌, ◌<◌, pos, length, take, get_or}
+use Rattle.std.proofs.Common.{◌∙◌, add-one, arith, take-suc}
 use Rattle.std.proofs.Math.Option.{Option, none, some}
 use Rattle.std.proofs.lemmas.List.{map-append}
 use Rattle.model.specs.Expr.{Expr, two, negate, size}
@@ -11,7 +11,7 @@ use Rattle.model.specs.Sheet.{Sheet, atc_for}
 use Rattle.model.specs.Shop.{Timer, plain, five, ten, fifteen, timer_of}
 use Rattle.model.specs.Compile.{test, item_test, atc_test, flag_test, join_tests, acquired_req, rate_of, or_rate, acquired_expr}
 use Rattle.model.proofs.Laws.Sound.{sum_append}
-use Rattle.shop_codes.specs.Codes.{requirement_of, subject, is_missing}
+use Rattle.shop_codes.specs.Codes.{requirement_of}
 use Rattle.expr_build.specs.Laws.{size_imm}
 use Rattle.expr_build.specs.Codes.{size_compare, size_flag, size_not_flag}
 use Rattle.compile_sizes.specs.Sizes.{test_nodes, tests_nodes, acquired_nodes}
@@ -24,38 +24,6 @@ test_size (haveAtc a) = size_compare NotEqual Atc (pos a)
 test_size (missingAtc a) = size_compare Equal Atc (pos a)
 test_size (haveFlag f) = size_flag f
 test_size (missingFlag f) = size_not_flag f
-
--- ---- the test of a code, by what it is about
-
--- .. and by whether that has to be missing
-abbrev nodes_of : Requirement → Bool → ℕ
-nodes_of (haveFlag f) b = cond b 3 2
-nodes_of (missingFlag f) b = cond b 3 2
-nodes_of (haveItem i) b = 4
-nodes_of (missingItem i) b = 4
-nodes_of (haveAtc a) b = 4
-nodes_of (missingAtc a) b = 4
-
-nodes_by : (r : Requirement) → test_nodes r ≡ nodes_of (subject r) (is_missing r)
-nodes_by (haveItem i) = refl
-nodes_by (missingItem i) = refl
-nodes_by (haveAtc a) = refl
-nodes_by (missingAtc a) = refl
-nodes_by (haveFlag f) = refl
-nodes_by (missingFlag f) = refl
-
-module _ (c : ℕ) (s : Requirement) (e : s ≡ subject (requirement_of c)) where
-  by_subject : test_nodes (requirement_of c) ≡ nodes_of s (is_missing (requirement_of c))
-  by_subject = nodes_by (requirement_of c) ∙ ap (λ r. nodes_of r (is_missing (requirement_of c))) (sym e)
-
-  pub item_nodes : (i : ℕ) → s ≡ haveItem i → test_nodes (requirement_of c) ≡ 4
-  item_nodes i f = by_subject ∙ rw f
-
-  pub atc_nodes : (a : ℕ) → s ≡ haveAtc a → test_nodes (requirement_of c) ≡ 4
-  atc_nodes a f = by_subject ∙ rw f
-
-  pub flag_nodes : (z : ℤ) (b : Bool) → s ≡ haveFlag z → is_missing (requirement_of c) ≡ b → test_nodes (requirement_of c) ≡ cond b 3 2
-  flag_nodes z b f g = by_subject ∙ rw (f, g)
 
 -- ---- tests joined
 

@@ -1,8 +1,8 @@
 -- The blocks of a context with requirements and without. Assumes nothing.
-use Rattle.std.specs.Prelude.{◌≡◌, refl, List, ℕ, zero, suc, ◌≤◌, length}
-use Rattle.std.proofs.Common.{ap, arith}
+use Rattle.std.specs.Prelude.{◌≡◌, refl, List, ℕ, zero, suc}
+use Rattle.std.proofs.Common.{ap}
 use Rattle.compile_slots.specs.declared.ItemContext.{ItemContext}
-use Rattle.compile_slots.specs.Parts.{once_by, once_of, before_by, limit_by, limit_in, filled_by, filled_of}
+use Rattle.compile_slots.specs.Parts.{once_by, once_of, limit_by, limit_in, filled_by, filled_of}
 
 -- what is the same for every number of requirements but 0
 other_than_none : {A : Type 0} (f : ℕ → A) (y : A) → ((m : ℕ) → f (suc m) ≡ y) → (n : ℕ) → (n ≡ 0 → ⊥) → f n ≡ y
@@ -14,18 +14,6 @@ once_none x e = ap (λ (n : ℕ). once_by n x) e
 
 pub once_some : (x : ItemContext) → (x.len ≡ 0 → ⊥) → once_of x ≡ once_by 1 x
 once_some x h = other_than_none (λ (n : ℕ). once_by n x) (once_by 1 x) (λ m. refl) x.len h
-
-pub before_some : (n : ℕ) → (n ≡ 0 → ⊥) → before_by n ≡ 3
-before_some n h = other_than_none before_by 3 (λ m. refl) n h
-
-pub before_few : (n : ℕ) → before_by n ≤ 3
-before_few zero = omega arith
-before_few (suc n) = omega arith
-
--- D, [E] and N are no fewer than the blocks before N
-pub once_long : (n : ℕ) (x : ItemContext) → before_by n ≤ length (once_by n x)
-once_long zero x = omega arith
-once_long (suc n) x = omega arith
 
 pub limit_none : (x : ItemContext) (cs : List ℕ) → x.len ≡ 0 → limit_in x cs ≡ limit_by 0 x cs
 limit_none x cs e = ap (λ (n : ℕ). limit_by n x cs) e

@@ -1,7 +1,7 @@
 -- A slot's context from what the shop's functions give: how its item counts as acquired, and its sorted requirements. Assumes nothing.
-use Rattle.std.specs.Prelude.{◌≡◌, refl, Bool, List, [], ◌∷◌, map, ℕ, zero, suc, ◌-◌, ◌≤◌, ◌<◌, ℤ, length}
+use Rattle.std.specs.Prelude.{◌≡◌, refl, Bool, false, List, [], ◌∷◌, map, ℕ, zero, suc, ◌≤◌, ◌<◌, ℤ, length, Some, None}
 use Rattle.std.proofs.Common.{ap, sym, ◌∙◌, arith, length-append}
-use Rattle.std.proofs.Math.Option.{Option, none, some}
+use Rattle.std.proofs.Math.Option.{Option}
 use Rattle.std.proofs.lemmas.List.{length-replicate}
 use Rattle.model.specs.Limits.{entry_limit, half16}
 use Rattle.model.specs.declared.Op1.TheVariants.{Item, Atc}
@@ -11,11 +11,11 @@ use Rattle.model.specs.Printer.{atc_entry}
 use Rattle.model.specs.Compile.{test, item_test, atc_test, acquired_req, rate_of, or_rate, acquired_expr}
 use Rattle.shop.specs.declared.Sheet.{Sheet}
 use Rattle.shop.specs.declared.Slot.{Slot}
-use Rattle.shop.specs.declared.Reqs.{Reqs}
 use Rattle.shop.specs.declared.Timer as Kinds
+use Rattle.shop.specs.declared.Timer.TheVariants.{Plain, Five, Ten, Fifteen}
 use Rattle.shop_codes.specs.Codes.{code_of, requirement_of}
 use Rattle.shop.specs.Shapes.{sheet_of, atc_at, timer_is, rate_word, entries, slot_of}
-use Rattle.shop.specs.Sets.{reqs_of, sorted_reqs, Exact}
+use Rattle.shop.specs.Sets.{Reqs, reqs_of, sorted_reqs, Exact}
 use Rattle.shop_codes.specs.Laws.{codes_narrow, codes_stand}
 use Rattle.shop.specs.Codes.{sorted_narrow, sorted_code}
 use Rattle.shop.specs.SetLaws.{held_set, sorted_few}
@@ -25,7 +25,6 @@ use Rattle.expr_build.specs.Tests.{acquired_of}
 use Rattle.model.specs.Sheet as Model
 use Rattle.model.specs.declared.BlockNo.{BlockNo}
 use Rattle.model.specs.declared.ItemId.{ItemId}
-use Rattle.shop.specs.declared.SlotItem.TheVariants.{Nothing, Of}
 use Rattle.model.specs.Compile.{slot_blocks, hide_block}
 use Rattle.compile_slots.specs.declared.ItemContext.{ItemContext}
 use Rattle.compile_slots.specs.Parts.{is_five, filled_of, Stands, Listed, Fitting}
@@ -79,15 +78,6 @@ sorted_listed x e =
       is = ap (map requirement_of) (held_set (map code_of rs)) ∙ codes_stand rs (sorted_narrow (map requirement_of (entries x.len x.requirements)) n);
     }
 
--- by the item's entry on the sheet
-pub acquired_item : (e w r : ℕ) → none ≡ atc_entry e → record { of = Item; id = w; rate = r } ≡ acquired_by e w r
-acquired_item zero w r h = refl
-acquired_item (suc e) w r h = let z : ◌≡◌ {A = ℕ} 0 1 = cc in absurd (omega arith)
-
-pub acquired_atc : (e a w r : ℕ) → some a ≡ atc_entry e → record { of = Atc; id = a; rate = r } ≡ acquired_by e w r
-acquired_atc zero a w r h = let z : ◌≡◌ {A = ℕ} 0 1 = cc in absurd (omega arith)
-acquired_atc (suc e) a w r h = let z : a ≡ e = cc in rw z
-
 -- ---- the context of a slot on a sheet
 
 pub record Context (x : ItemContext) (h : Model.Sheet) (z : ℤ) (i : ℕ) (e : BlockNo) (w : ItemId) (n : ℕ) : Type 0 where
@@ -102,7 +92,7 @@ module _ (x : ItemContext) (h : Model.Sheet) (y : Slot) (i : ℕ) (e : BlockNo) 
   listed = rw (c.len, es) (sorted_listed y ex)
 
   -- its blocks are the slot's
-  pub context_blocks : y.item ≡ Of w → filled_of x s.codes ≡ slot_blocks h i e.0 (slot_of y)
+  pub context_blocks : y.item ≡ Some w → filled_of x s.codes ≡ slot_blocks h i e.0 (slot_of y)
   unfolding slot_blocks slot_of
   context_blocks o =
       filled_same x s.codes h y.limit (sorted (slot_of y).requirements) c.stands listed
@@ -134,7 +124,14 @@ context_made ks h z i e w n t r l a f et er ea el ef =
       len = refl;
     }
 
+-- any timer but Timer5
+pub not_five : (t : Kinds.Timer) → (t ≡ Five → ⊥) → false ≡ is_five (timer_is t)
+not_five Plain h = refl
+not_five Five h = absurd (h refl)
+not_five Ten h = refl
+not_five Fifteen h = refl
+
 -- no item: H alone, whatever the requirements are
-pub none_blocks : (h : Model.Sheet) (y : Slot) (i e : ℕ) → y.item ≡ Nothing → slot_blocks h i e (slot_of y) ≡ hide_block e i ∷ []
+pub none_blocks : (h : Model.Sheet) (y : Slot) (i e : ℕ) → y.item ≡ None → slot_blocks h i e (slot_of y) ≡ hide_block e i ∷ []
 unfolding slot_blocks slot_of
 none_blocks h y i e o = rw o

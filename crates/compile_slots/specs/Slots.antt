@@ -34,21 +34,6 @@ append_put {s} {t} {u} {xs} {ys} p q = record {
   nodes_counted = omega (arith, p.nodes_counted, q.nodes_counted, sum_append block_nodes xs ys);
 }
 
--- room for the first of them, and for the others once those are there
-pub append_first : {s : Memory} (xs ys : List Block) → Room s (xs ++ ys) → Room s xs
-append_first xs ys r = record {
-  blocks = omega (arith, r.blocks, length-append xs ys);
-  commands = omega (arith, r.commands, sum_append block_commands xs ys);
-  nodes = omega (arith, r.nodes, sum_append block_nodes xs ys);
-}
-
-pub append_rest : {s t : Memory} (xs ys : List Block) → Room s (xs ++ ys) → PutBlocks s xs t → Room t ys
-append_rest xs ys r p = record {
-  blocks = omega (arith, r.blocks, p.counted, length-append xs ys);
-  commands = omega (arith, r.commands, p.commands_counted, sum_append block_commands xs ys);
-  nodes = omega (arith, r.nodes, p.nodes_counted, sum_append block_nodes xs ys);
-}
-
 pub nothing_put : {s : Memory} → PutBlocks s [] s
 unfolding put_blocks
 nothing_put = record { is = refl; counted = omega arith; commands_counted = omega arith; nodes_counted = omega arith }

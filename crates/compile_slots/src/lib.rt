@@ -8,9 +8,9 @@ ghost use Rattle.memory.specs.Sound.{Room};
 ghost use Rattle.compile_emit.specs.Put.{PutBlocks};
 ghost use Rattle.model.specs.Expr.{imm};
 ghost use Rattle.memory.specs.View.{memory_of};
-ghost use Rattle.compile_slots.specs.Parts.{item_block, enable_of, before_by, once_of, unique_of, limit_in, sold_of, filled_of, Fitting, is_five};
+ghost use Rattle.compile_slots.specs.Parts.{item_block, enable_of, before_by, once_of, unique_of, limit_in, sold_of, filled_of, Fitting};
 ghost use Rattle.compile_slots.specs.Context.{acquired_by, Context};
-ghost use Rattle.shop.specs.Shapes.{atc_at, timer_is, sheet_of, slot_of, slots_of};
+ghost use Rattle.shop.specs.Shapes.{atc_at, sheet_of, slot_of, slots_of};
 ghost use Rattle.shop.specs.Sets.{Exact, AllExact};
 ghost use Rattle.shop_arrays.specs.Arrays.{arrays_in, slot_at, shop_from};
 
@@ -21,10 +21,7 @@ use compile_emit::{
 use expr_build::Acquired;
 use memory::{BlockWords, CommandWords, Counts, NodeWords, Values};
 use model::{BlockNo, ItemId, Op1};
-use shop::{
-    Codes, ENTRIES, ItemAtc, Row, SLOTS, Sheet, SlotItem, Timer, atc_for, limit_of, rate_of,
-    timer_of,
-};
+use shop::{Codes, ENTRIES, Row, SLOTS, Sheet, Timer, atc_for, limit_of, rate_of, timer_of};
 use shop_arrays::{item_at, sort_row};
 
 // What a slot with an item is compiled from: its number, the item, the coerced limit, the block to go to after the slot,
@@ -43,6 +40,7 @@ struct ItemContext {
 }
 
 // H: a slot which is hidden.
+#[tactic(auto, unfolding(model::specs::Expr::imm))]
 fn compile_slot_hidden(
     ws: &mut NodeWords,
     val: &mut Values,
@@ -74,11 +72,8 @@ fn compile_item(
     requires fitting { Fitting x × (x.end.0 < block_limit) }
     ensures { PutBlocks (memory_of ws.old val.old cw.old bw.old k) (item_block x endif (imm count) ∷ []) (memory_of ws.new val.new cw.new bw.new result) }
 {
-    let index = x.index;
-    let item = x.item;
-    let end = x.end;
-    let id = item.0 as i32;
-    push_slot(ws, val, cw, bw, k, index, id, count, end, endif)
+    let item = i32::from(x.item.0);
+    push_slot(ws, val, cw, bw, k, x.index, item, count, x.end, endif)
 }
 
 // S: the item with var[0] as its count, likewise.
@@ -95,13 +90,12 @@ fn compile_stock(
     requires fitting { Fitting x × (x.end.0 < block_limit) }
     ensures { PutBlocks (memory_of ws.old val.old cw.old bw.old k) (item_block x endif temp_var ∷ []) (memory_of ws.new val.new cw.new bw.new result) }
 {
-    let index = x.index;
-    let item = x.item;
-    let end = x.end;
-    push_stock(ws, val, cw, bw, k, index, item.0 as i32, end, endif)
+    let item = i32::from(x.item.0);
+    push_stock(ws, val, cw, bw, k, x.index, item, x.end, endif)
 }
 
 // Above N: Timer5 is sold out where neither other timer is held (D2, T), then V.
+#[tactic(auto, using(compile_emit::specs::BlockLaws::room_first, compile_emit::specs::BlockLaws::room_rest), unfolding(model::specs::Expr::imm))]
 fn compile_enable(
     ws: &mut NodeWords,
     val: &mut Values,
@@ -118,14 +112,12 @@ fn compile_enable(
     ensures { PutBlocks (memory_of ws.old val.old cw.old bw.old k) (enable_of x codes.now other.0 enable.0) (memory_of ws.new val.new cw.new bw.new result) }
 {
     let a = x.acquired;
-    let ten = x.ten;
-    let fifteen = x.fifteen;
     let len = x.len;
     if x.five {
         let disable = BlockNo(enable.0 + 1);
         let no_timer = BlockNo(enable.0 + 2);
         let k1 = compile_item(ws, val, cw, bw, k, x, 0, true);
-        let k2 = push_if_no_timer(ws, val, cw, bw, k1, ten, fifteen, disable, enable);
+        let k2 = push_if_no_timer(ws, val, cw, bw, k1, x.ten, x.fifteen, disable, enable);
         return push_if_missing(ws, val, cw, bw, k2, a, codes, len, no_timer, other);
     }
     push_if_missing(ws, val, cw, bw, k, a, codes, len, enable, other)
@@ -135,13 +127,11 @@ fn compile_enable(
 fn blocks_before(len: u8) -> u32
     ensures { result ≡ before_by len }
 {
-    if len == 0 {
-        return 1;
-    }
-    3
+    if len == 0 { 1 } else { 3 }
 }
 
 // D, [E] and N: the item sold out, and the item for sale. Blocks are counted from End: D is the first, or H is and D the second.
+#[tactic(auto, using(compile_emit::specs::BlockLaws::room_first, compile_emit::specs::BlockLaws::room_rest), unfolding(model::specs::Expr::imm))]
 fn compile_sold(
     ws: &mut NodeWords,
     val: &mut Values,
@@ -154,16 +144,14 @@ fn compile_sold(
     requires fitting { Fitting x × (x.end.0 + 1 ≤ k.blocks) }
     ensures { PutBlocks (memory_of ws.old val.old cw.old bw.old k) (once_of x) (memory_of ws.new val.new cw.new bw.new result) }
 {
-    let a = x.acquired;
-    let end = x.end;
     if x.len == 0 {
         let k1 = compile_item(ws, val, cw, bw, k, x, 0, false);
         return compile_item(ws, val, cw, bw, k1, x, 1, true);
     }
-    let first = BlockNo(end.0 + 1);
-    let second = BlockNo(end.0 + 2);
+    let first = BlockNo(x.end.0 + 1);
+    let second = BlockNo(x.end.0 + 2);
     let k3 = compile_item(ws, val, cw, bw, k, x, 0, true);
-    let k4 = push_if_acquired(ws, val, cw, bw, k3, a, second, first);
+    let k4 = push_if_acquired(ws, val, cw, bw, k3, x.acquired, second, first);
     compile_item(ws, val, cw, bw, k4, x, 1, true)
 }
 
@@ -181,11 +169,10 @@ fn compile_slot_unique(
     requires fitting { Fitting x × (x.end.0 + 1 ≤ k.blocks) }
     ensures { PutBlocks (memory_of ws.old val.old cw.old bw.old k) (unique_of x codes.now) (memory_of ws.new val.new cw.new bw.new result) }
 {
-    let end = x.end;
     let before = blocks_before(x.len);
     let k1 = compile_sold(ws, val, cw, bw, k, x);
-    let other = BlockNo(end.0 + before);
-    let enable = BlockNo(end.0 + before + 1);
+    let other = BlockNo(x.end.0 + before);
+    let enable = BlockNo(x.end.0 + before + 1);
     compile_enable(ws, val, cw, bw, k1, x, codes, other, enable)
 }
 
@@ -203,22 +190,18 @@ fn compile_slot_limit(
     requires fitting { Fitting x × (x.end.0 + 1 ≤ k.blocks) }
     ensures { PutBlocks (memory_of ws.old val.old cw.old bw.old k) (limit_in x codes.now) (memory_of ws.new val.new cw.new bw.new result) }
 {
-    let item = x.item;
-    let limit = x.limit;
-    let end = x.end;
-    let len = x.len;
-    let first = BlockNo(end.0 + 1);
-    if len == 0 {
+    let first = BlockNo(x.end.0 + 1);
+    if x.len == 0 {
         let k1 = compile_stock(ws, val, cw, bw, k, x, false);
         let k2 = push_reset(ws, val, cw, bw, k1, first);
-        return push_remaining(ws, val, cw, bw, k2, limit, item, first);
+        return push_remaining(ws, val, cw, bw, k2, x.limit, x.item, first);
     }
-    let second = BlockNo(end.0 + 2);
-    let fourth = BlockNo(end.0 + 4);
+    let second = BlockNo(x.end.0 + 2);
+    let fourth = BlockNo(x.end.0 + 4);
     let k3 = compile_stock(ws, val, cw, bw, k, x, true);
     let k4 = push_reset(ws, val, cw, bw, k3, second);
-    let k5 = push_remaining(ws, val, cw, bw, k4, limit, item, second);
-    push_if_visible(ws, val, cw, bw, k5, codes, len, fourth, first)
+    let k5 = push_remaining(ws, val, cw, bw, k4, x.limit, x.item, second);
+    push_if_visible(ws, val, cw, bw, k5, codes, x.len, fourth, first)
 }
 
 // After H, if there is one: a limit of 1 needs only 1 or 0 as the count, a higher one what is left of it.
@@ -236,9 +219,10 @@ fn compile_slot_item(
     ensures { PutBlocks (memory_of ws.old val.old cw.old bw.old k) (sold_of x codes.now) (memory_of ws.new val.new cw.new bw.new result) }
 {
     if x.limit <= 1 {
-        return compile_slot_unique(ws, val, cw, bw, k, x, codes);
+        compile_slot_unique(ws, val, cw, bw, k, x, codes)
+    } else {
+        compile_slot_limit(ws, val, cw, bw, k, x, codes)
     }
-    compile_slot_limit(ws, val, cw, bw, k, x, codes)
 }
 
 // A slot with an item: requirements need a block that hides it.
@@ -255,41 +239,27 @@ fn compile_slot_filled(
     requires fitting { Fitting x × (x.end.0 + 1 ≤ k.blocks) }
     ensures { PutBlocks (memory_of ws.old val.old cw.old bw.old k) (filled_of x codes.now) (memory_of ws.new val.new cw.new bw.new result) }
 {
-    let index = x.index;
-    let end = x.end;
     if x.len == 0 {
         return compile_slot_item(ws, val, cw, bw, k, x, codes);
     }
-    let k1 = compile_slot_hidden(ws, val, cw, bw, k, index, end);
+    let k1 = compile_slot_hidden(ws, val, cw, bw, k, x.index, x.end);
     compile_slot_item(ws, val, cw, bw, k1, x, codes)
-}
-
-fn is_five(timer: Timer) -> bool
-    ensures { result ≡ is_five (timer_is timer) }
-{
-    match timer {
-        Timer::Plain => false,
-        Timer::Five => true,
-        Timer::Ten => false,
-        Timer::Fifteen => false,
-    }
 }
 
 // If the item has a corresponding atc, that is the source of truth.
 fn acquired_of(attached: &[u8], item: ItemId, rate: u16) -> Acquired
     ensures { result ≡ acquired_by (atc_at attached.now item.0) item.0 rate }
 {
-    let atc = atc_for(attached, item);
-    match atc {
-        ItemAtc::Nothing => Acquired {
+    match atc_for(attached, item) {
+        None => Acquired {
             of: Op1::Item,
             id: item.0,
-            rate: rate,
+            rate,
         },
-        ItemAtc::Of(a) => Acquired {
+        Some(atc) => Acquired {
             of: Op1::Atc,
-            id: a.0,
-            rate: rate,
+            id: atc.0,
+            rate,
         },
     }
 }
@@ -307,20 +277,18 @@ fn item_context(
     ensures { Context result (sheet_of attached.now sheet) limit index end item len }
 {
     let timer = timer_of(sheet, item);
-    let a = acquired_of(attached, item, rate_of(timer) as u16);
-    let most = limit_of(attached, sheet, item, limit);
-    let ten = sheet.timer10;
-    let fifteen = sheet.timer15;
+    let acquired = acquired_of(attached, item, u16::from(rate_of(timer)));
+    let limit = limit_of(attached, sheet, item, limit);
     ItemContext {
-        index: index,
-        item: item,
-        limit: most,
-        end: end,
-        acquired: a,
-        five: is_five(timer),
-        ten: ten,
-        fifteen: fifteen,
-        len: len,
+        index,
+        item,
+        limit,
+        end,
+        acquired,
+        five: matches!(timer, Timer::Five),
+        ten: sheet.timer10,
+        fifteen: sheet.timer15,
+        len,
     }
 }
 
@@ -343,18 +311,15 @@ fn compile_slot(
     requires exact { Exact (slot_at (arrays_in items.now limits.now codes.now lens.now) i) × (i < slot_count) × (0 < k.blocks) }
     ensures { PutBlocks (memory_of ws.old val.old cw.old bw.old k) (slot_blocks (sheet_of attached.now sheet) i (k.blocks - 1) (slot_of (slot_at (arrays_in items.now limits.now codes.now lens.now) i))) (memory_of ws.new val.new cw.new bw.new result) }
 {
-    let end = BlockNo((k.blocks - 1) as u32);
+    let end = BlockNo(u32::from(k.blocks - 1));
     let index = i as u16;
-    let item = item_at(items, i);
-    match item {
-        SlotItem::Nothing => compile_slot_hidden(ws, val, cw, bw, k, index, end),
-        SlotItem::Of(w) => {
-            let mut set = [0; ENTRIES];
-            let len = sort_row(codes, lens, i, &mut set);
-            let x = item_context(attached, sheet, limits[i], w, index, end, len);
-            compile_slot_filled(ws, val, cw, bw, k, x, &set)
-        }
-    }
+    let Some(w) = item_at(items, i) else {
+        return compile_slot_hidden(ws, val, cw, bw, k, index, end);
+    };
+    let mut set = [0; ENTRIES];
+    let len = sort_row(codes, lens, i, &mut set);
+    let x = item_context(attached, sheet, limits[i], w, index, end, len);
+    compile_slot_filled(ws, val, cw, bw, k, x, &set)
 }
 
 // All slots in reverse, so that each ends at the one above it.
@@ -376,9 +341,7 @@ fn compile_slots(
     ensures { PutBlocks (memory_of ws.old val.old cw.old bw.old k) (slots_blocks (sheet_of attached.now sheet) (k.blocks - 1) 0 (slots_of (shop_from (arrays_in items.now limits.now codes.now lens.now)))) (memory_of ws.new val.new cw.new bw.new result) }
 {
     let mut at = k;
-    let mut i = SLOTS;
-    while 0 < i {
-        i -= 1;
+    for i in (0..SLOTS).rev() {
         at = compile_slot(
             attached, sheet, ws, val, cw, bw, at, items, limits, codes, lens, i,
         );
