@@ -4,18 +4,16 @@ use mathlib.Core.Bool.{Bool, true, false, ◌||◌}
 use mathlib.Core.Option.{Option, none, some}
 use mathlib.Core.List.{List}
 use Prim.Native.Nat.{ℕ}
-use native.Mathlib.Omega.{arith}
-use lib.IntN.{ℤ, pos}
+use lib.IntN.{pos}
 use lib.ListN.{get_or}
 use Rattle.model.specs.Save.{Save}
 use Rattle.model.specs.Sheet as Model
 use Rattle.model.specs.Sheet.{atc_for}
 use Rattle.model.specs.Printer.{atc_entry}
-use Rattle.model.specs.Signed.{eq_z}
-use Rattle.model.specs.Shop.{Timer, plain, five, ten, fifteen, timer_of}
+use Rattle.model.specs.Shop.{timer_of}
 use Rattle.model.specs.Compile.{rate_of, acquired_req}
 use Rattle.model.specs.Meaning.{holds, at_rate, acquired}
-use Rattle.shop.specs.Shapes.{sheet_of, atc_at, rate_word}
+use Rattle.shop.specs.Shapes.{sheet_of, atc_at}
 use Rattle.shop.specs.Slots.{atc_for_lem}
 use Rattle.shop.specs.declared.Sheet.{Sheet}
 use Rattle.preview.specs.Tests.{rated_at}
@@ -33,16 +31,3 @@ rate_apart s (some r) b = refl
 pub acquired_by_lem : (h : Model.Sheet) (s : Save) (w : ℕ) → acquired h s w ≡ holds s (acquired_req (atc_for h w) w) || rated_at (rate_of (timer_of h w)) (get_or s.times 2 (pos 0))
 unfolding acquired
 acquired_by_lem h s w = rate_apart s (rate_of (timer_of h w)) (holds s (acquired_req (atc_for h w) w))
-
--- a timer's rate, or 0 for none
-pub rate_none : (t : Timer) (z : ℤ) → rate_word t ≡ 0 → false ≡ rated_at (rate_of t) z
-rate_none plain z e = refl
-rate_none five z e = absurd (omega arith)
-rate_none ten z e = absurd (omega arith)
-rate_none fifteen z e = absurd (omega arith)
-
-pub rate_some : (t : Timer) (z : ℤ) → (rate_word t ≡ 0 → ⊥) → eq_z z (pos (rate_word t)) ≡ rated_at (rate_of t) z
-rate_some plain z n = absurd (n refl)
-rate_some five z n = refl
-rate_some ten z n = refl
-rate_some fifteen z n = refl

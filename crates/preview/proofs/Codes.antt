@@ -1,5 +1,5 @@
--- What the requirement of a code reads of a save, and whether it holds. Assumes nothing.
-use mathlib.Core.Path.{◌≡◌, refl, sym, ap, ◌∙◌}
+-- Whether the requirement of a code holds. Assumes nothing.
+use mathlib.Core.Path.{◌≡◌, refl, sym, ◌∙◌}
 use mathlib.Core.Bool.{Bool, true, false, not, cond}
 use mathlib.Core.List.{List, map}
 use Prim.Native.Nat.{ℕ}
@@ -10,27 +10,11 @@ use Rattle.model.specs.Sheet.{all}
 use Rattle.model.specs.Requirement.{Requirement, haveItem, missingItem, haveAtc, missingAtc, haveFlag, missingFlag}
 use Rattle.model.specs.Meaning.{held, holds, all_hold}
 use Rattle.model.proofs.Laws.Runs.{all_hold_lem}
-use Rattle.shop_codes.specs.Codes.{requirement_of, subject, is_missing}
+use Rattle.shop_codes.specs.Codes.{requirement_of, is_missing}
 use Rattle.shop.proofs.All.{all_map}
 use Rattle.preview.specs.Tests.{is_there}
 
 module _ (s : Save) where
-  -- ---- what it reads
-
-  there_subject : (r : Requirement) → is_there s r ≡ is_there s (subject r)
-  there_subject (haveItem i) = refl
-  there_subject (missingItem i) = refl
-  there_subject (haveAtc a) = refl
-  there_subject (missingAtc a) = refl
-  there_subject (haveFlag f) = refl
-  there_subject (missingFlag f) = refl
-
-  -- q is what the requirement of code c is about
-  pub there_by : (c : ℕ) (q x : Requirement) → q ≡ subject (requirement_of c) → q ≡ x → is_there s x ≡ is_there s (requirement_of c)
-  there_by c q x e f = sym (there_subject (requirement_of c) ∙ ap (is_there s) (sym e ∙ f))
-
-  -- ---- whether it holds
-
   twice : (b : Bool) → b ≡ not (not b)
   twice true = refl
   twice false = refl

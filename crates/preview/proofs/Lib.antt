@@ -1,4 +1,3 @@
-pub mod Places
 pub mod Codes
 pub mod Acquired
 pub mod Pairs

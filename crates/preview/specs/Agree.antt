@@ -12,9 +12,8 @@ use Rattle.model.specs.Meaning.{hidden, meaning_of, Means}
 use Rattle.model.specs.Flags.{flag_answer, shop_inside, until_outside}
 use Rattle.model.proofs.Laws.RunsAll.{until_all}
 use Rattle.model.specs.Preview.{Preview, preview_call}
-use Rattle.preview.specs.Shown.{meanings_of, previewed_of}
+use Rattle.preview.specs.Shown.{Answer, meanings_of, previewed_of}
 use Rattle.preview.specs.Accepted.{with_all, accepted_preview, items_are, counts_are}
-use Rattle.preview.specs.declared.Previewed.{Previewed}
 
 -- the variables v hold what the preview answers
 pub record Shows (p : Preview) (v : List ℤ) : Type 0 where
@@ -61,12 +60,12 @@ preview_agrees h xs g n ok s f v m = by (shop_inside xs) refl
 -- ---- the same of what the call hands out
 
 -- -1 stands where there is no item, below the twenty nowhere
-pub record ShowsCall (r : Previewed) (v : List ℤ) : Type 0 where
+pub record ShowsCall (r : Answer) (v : List ℤ) : Type 0 where
   pub items : (i : ℕ) → i < slot_count → get_or v (item_first + i) (pos 0) ≡ get_or r.items i (negsuc 0)
   pub counts : (i : ℕ) → i < slot_count → get_or v (count_first + i) (pos 0) ≡ get_or r.counts i (pos 0)
   pub first : get_or v 0 (pos 0) ≡ r.temp
 
-pub record AgreesCall (r : Previewed) (n : ℕ) (v : List ℤ) : Type 0 where
+pub record AgreesCall (r : Answer) (n : ℕ) (v : List ℤ) : Type 0 where
   pub answer : r.refusal ≡ n
   pub shows : n ≡ 0 → ShowsCall r v
 

@@ -1,7 +1,7 @@
 // The preview: what a shop means under a save, slot by slot, without compiling it.
 #![tactic(auto)]
 
-ghost use Rattle.std.specs.Prelude.{◌≡◌, true, not, ℕ, ◌<◌, ℤ, pos, ◌-ℤ◌, List, map, get_or};
+ghost use Rattle.std.specs.Prelude.{◌≡◌, not, ℕ, ◌<◌, ℤ, pos, ◌-ℤ◌, List, map, get_or};
 ghost use Rattle.std.specs.Int.Signed.{lt_z};
 ghost use Rattle.model.specs.Limits.{slot_count};
 ghost use Rattle.model.specs.Signed.{eq_z, is_zero, clamp};
@@ -18,23 +18,21 @@ ghost use Rattle.shop_arrays.specs.Arrays.{arrays_in, row_at, slot_at, shop_from
 ghost use Rattle.checks.specs.Calls.{save_of};
 ghost use Rattle.preview.specs.Tests.{is_there, rated_at};
 ghost use Rattle.preview.specs.Parts.{parts_of};
-ghost use Rattle.preview.specs.Shown.{meaning_is, blank_of, previewed_of};
-ghost use Rattle.preview.specs.Checked.{checked};
+ghost use Rattle.preview.specs.Shown.{accepted_as, answer_in, meaning_is, meanings_of, blank_of, previewed_of};
 
 use checks::check_save;
-use model::ItemId;
+use model::{ItemId, Refusal};
 use shop::{
-    CODES, Codes, ENTRIES, ItemAtc, SLOTS, Sheet, Shop, SlotItem, Timer, atc_for, check_sheet,
-    limit_of, rate_of, timer_of,
+    CODES, Codes, ENTRIES, SLOTS, Sheet, Shop, Timer, atc_for, check_sheet, limit_of, rate_of,
+    timer_of,
 };
 use shop_arrays::{arrays_of, check_arrays, item_at};
 use shop_codes::{Subject, is_missing, subject_of};
 use shop_flags::{entry_at, flags_inside};
 
-// The refusal or 0, the pairs of the slots, 0 where it is refused, and variable 0 after them.
+// The pairs of the slots, and variable 0 after them.
 #[derive(Clone, Copy)]
 pub struct Previewed {
-    pub refusal: u8,
     pub items: [i32; SLOTS],
     pub counts: [i32; SLOTS],
     pub temp: i32,
@@ -51,7 +49,7 @@ struct Meaning {
 // A slot but for its codes, which are read where they stand.
 #[derive(Clone, Copy)]
 struct Head {
-    item: SlotItem,
+    item: Option<ItemId>,
     limit: i16,
     len: u8,
 }
@@ -62,31 +60,25 @@ struct Head {
 fn short_at(list: &[i16], i: usize) -> i16
     ensures { result ≡ get_or list.now i (pos 0) }
 {
-    if i < list.len() {
-        return list[i];
-    }
-    0
+    list.get(i).copied().unwrap_or(0)
 }
 
 fn equals_at(list: &[i16], i: usize, x: u8) -> bool
     ensures { result ≡ eq_z (get_or list.now i (pos 0)) (pos x) }
 {
-    short_at(list, i) == x as i16
+    short_at(list, i) == i16::from(x)
 }
 
 fn bit_at(bits: &[u8], i: usize) -> bool
     ensures { result ≡ not (is_zero (pos (get_or bits.now i 0))) }
 {
-    if i < bits.len() {
-        return bits[i] != 0;
-    }
-    false
+    bits.get(i).is_some_and(|bit| *bit != 0)
 }
 
 fn is_held(items: &[i16], item: ItemId) -> bool
     ensures { result ≡ lt_z (pos 0) (get_or items.now item.0 (pos 0)) }
 {
-    0 < short_at(items, item.0 as usize)
+    0 < short_at(items, usize::from(item.0))
 }
 
 // ---- requirements
@@ -95,18 +87,17 @@ fn is_held(items: &[i16], item: ItemId) -> bool
 fn flag_at(flags: &[u8], number: i32) -> bool
     ensures { result ≡ not (is_zero (nat_at flags.now number)) }
 {
-    if number < 0 {
+    let Ok(i) = usize::try_from(number) else {
         return false;
-    }
-    bit_at(flags, number as usize)
+    };
+    bit_at(flags, i)
 }
 
 // Whether the save has what a requirement is about.
 fn is_there(code: u64, items: &[i16], atcs: &[u8], flags: &[u8]) -> bool
     ensures { (t v : List ℤ) → result ≡ is_there (save_of items.now atcs.now flags.now t v) (requirement_of code) }
 {
-    let about = subject_of(code);
-    match about {
+    match subject_of(code) {
         Subject::Item(i) => !equals_at(items, i as usize, 0),
         Subject::Atc(a) => bit_at(atcs, a as usize),
         Subject::Flag(f) => flag_at(flags, f),
@@ -117,23 +108,17 @@ fn holds(code: u64, items: &[i16], atcs: &[u8], flags: &[u8]) -> bool
     ensures { (t v : List ℤ) → result ≡ holds (save_of items.now atcs.now flags.now t v) (requirement_of code) }
 {
     let there = is_there(code, items, atcs, flags);
-    if is_missing(code) {
-        return !there;
-    }
-    there
+    if is_missing(code) { !there } else { there }
 }
 
 // R: the entries as given, in any order and with repeats.
 fn all_hold(row: &[u64], len: u8, items: &[i16], atcs: &[u8], flags: &[u8]) -> bool
     ensures { (t v : List ℤ) → result ≡ all_hold (save_of items.now atcs.now flags.now t v) (map requirement_of (entries len row.now)) }
 {
-    let n = len as usize;
-    let mut i = 0;
-    while i < n {
+    for i in 0..usize::from(len) {
         if !holds(entry_at(row, i), items, atcs, flags) {
             return false;
         }
-        i += 1;
     }
     true
 }
@@ -144,10 +129,9 @@ fn all_hold(row: &[u64], len: u8, items: &[i16], atcs: &[u8], flags: &[u8]) -> b
 fn is_owned(attached: &[u8], item: ItemId, items: &[i16], atcs: &[u8]) -> bool
     ensures { (h : Sheet) (f : List ℕ) (t v : List ℤ) → result ≡ holds (save_of items.now atcs.now f t v) (acquired_req (atc_for (sheet_of attached.now h) item.0) item.0) }
 {
-    let atc = atc_for(attached, item);
-    match atc {
-        ItemAtc::Nothing => !equals_at(items, item.0 as usize, 0),
-        ItemAtc::Of(a) => bit_at(atcs, a.0 as usize),
+    match atc_for(attached, item) {
+        None => !equals_at(items, usize::from(item.0), 0),
+        Some(atc) => bit_at(atcs, usize::from(atc.0)),
     }
 }
 
@@ -156,10 +140,7 @@ fn is_rated(timer: Timer, times: &[i16]) -> bool
     ensures { result ≡ rated_at (rate_of (timer_is timer)) (get_or times.now 2 (pos 0)) }
 {
     let rate = rate_of(timer);
-    if rate == 0 {
-        return false;
-    }
-    equals_at(times, 2, rate)
+    rate != 0 && equals_at(times, 2, rate)
 }
 
 fn is_acquired(
@@ -172,10 +153,7 @@ fn is_acquired(
 ) -> bool
     ensures { (f : List ℕ) (v : List ℤ) → result ≡ acquired (sheet_of attached.now sheet) (save_of items.now atcs.now f times.now v) item.0 }
 {
-    if is_owned(attached, item, items, atcs) {
-        return true;
-    }
-    is_rated(timer_of(sheet, item), times)
+    is_owned(attached, item, items, atcs) || is_rated(timer_of(sheet, item), times)
 }
 
 // ---- the pair of a slot
@@ -195,8 +173,8 @@ fn listed(item: ItemId, count: u8) -> Meaning
     ensures { meaning_is result ≡ listed item.0 count }
 {
     Meaning {
-        item: item.0 as i32,
-        count: count as i32,
+        item: i32::from(item.0),
+        count: i32::from(count),
         kept: false,
     }
 }
@@ -204,12 +182,7 @@ fn listed(item: ItemId, count: u8) -> Meaning
 fn no_timer_held(sheet: Sheet, items: &[i16]) -> bool
     ensures { (ks bs f : List ℕ) (t v : List ℤ) → result ≡ no_timer_held (sheet_of ks sheet) (save_of items.now bs f t v) }
 {
-    let ten = sheet.timer10;
-    let fifteen = sheet.timer15;
-    if is_held(items, ten) {
-        return false;
-    }
-    !is_held(items, fifteen)
+    !is_held(items, sheet.timer10) && !is_held(items, sheet.timer15)
 }
 
 // 1, but 0 for Timer5 with neither other timer held.
@@ -217,15 +190,8 @@ fn one_of(timer: Timer, alone: bool) -> u8
     ensures { result ≡ one_of (timer_is timer) alone }
 {
     match timer {
-        Timer::Plain => 1,
-        Timer::Five => {
-            if alone {
-                return 0;
-            }
-            1
-        }
-        Timer::Ten => 1,
-        Timer::Fifteen => 1,
+        Timer::Five if alone => 0,
+        _ => 1,
     }
 }
 
@@ -255,30 +221,29 @@ fn unique_meaning(
 fn remaining(limit: u8, held: i16) -> i32
     ensures { result ≡ clamp (pos limit -ℤ held) }
 {
-    ints::remaining(limit as i16, held)
+    ints::remaining(i16::from(limit), held)
 }
 
 // A limit above 1.
 fn limit_meaning(item: ItemId, limit: u8, r: bool, items: &[i16]) -> Meaning
     ensures { (bs f : List ℕ) (t v : List ℤ) → meaning_is result ≡ limit_meaning (save_of items.now bs f t v) item.0 limit r }
 {
-    if r {
-        return Meaning {
-            item: item.0 as i32,
-            count: remaining(limit, short_at(items, item.0 as usize)),
-            kept: true,
-        };
+    if !r {
+        return hidden();
     }
-    hidden()
+    Meaning {
+        item: i32::from(item.0),
+        count: remaining(limit, short_at(items, usize::from(item.0))),
+        kept: true,
+    }
 }
 
 fn head_at(sold: &[i32; SLOTS], limits: &[i16; SLOTS], lens: &[u8; SLOTS], i: usize) -> Head
     requires { i < slot_count }
     ensures { (cs : List ℕ) → parts_of result (row_at cs i) ≡ slot_at (arrays_in sold.now limits.now cs lens.now) i }
 {
-    let item = item_at(sold, i);
     Head {
-        item: item,
+        item: item_at(sold, i),
         limit: limits[i],
         len: lens[i],
     }
@@ -299,38 +264,29 @@ fn meaning_at(
     requires { i < slot_count }
     ensures { (v : List ℤ) → meaning_is result ≡ meaning_of (sheet_of attached.now sheet) (save_of items.now atcs.now flags.now times.now v) (slot_of (parts_of head (row_at codes.now i))) }
 {
-    let item = head.item;
-    match item {
-        SlotItem::Nothing => hidden(),
-        SlotItem::Of(w) => {
-            let all: &[u64] = codes;
-            let start = ENTRIES * i;
-            let end = start + ENTRIES;
-            let r = all_hold(&all[start..end], head.len, items, atcs, flags);
-            let most = limit_of(attached, sheet, w, head.limit);
-            if most <= 1 {
-                return unique_meaning(attached, sheet, w, r, items, atcs, times);
-            }
-            limit_meaning(w, most, r, items)
-        }
+    let Some(item) = head.item else {
+        return hidden();
+    };
+    let start = ENTRIES * i;
+    let r = all_hold(&codes[start..start + ENTRIES], head.len, items, atcs, flags);
+    let most = limit_of(attached, sheet, item, head.limit);
+    if most <= 1 {
+        unique_meaning(attached, sheet, item, r, items, atcs, times)
+    } else {
+        limit_meaning(item, most, r, items)
     }
 }
 
 // ---- the call
 
-// A preview without pairs: variable 0 is the save's.
-fn blank(refusal: u8, vars: &[i32]) -> Previewed
-    ensures { result ≡ blank_of refusal (get_or vars.now 0 (pos 0)) }
+// No pair yet: variable 0 is the save's.
+fn blank(vars: &[i32]) -> Previewed
+    ensures { result ≡ blank_of (get_or vars.now 0 (pos 0)) }
 {
-    let mut temp = 0;
-    if 0 < vars.len() {
-        temp = vars[0];
-    }
     Previewed {
-        refusal: refusal,
         items: [0; SLOTS],
         counts: [0; SLOTS],
-        temp: temp,
+        temp: vars.first().copied().unwrap_or(0),
     }
 }
 
@@ -338,13 +294,10 @@ fn blank(refusal: u8, vars: &[i32]) -> Previewed
 fn temp_after(m: Meaning, temp: i32) -> i32
     ensures { result ≡ or_old (meaning_is m).temp temp }
 {
-    if m.kept {
-        return m.count;
-    }
-    temp
+    if m.kept { m.count } else { temp }
 }
 
-// The pairs of a shop and a save that pass 1, 8 and 12, or 23. The answer is written where it stands: handed on at each slot, its 41 numbers would be copied each time.
+// The pairs of a shop and a save that pass 1, 8, 12 and 23. The answer is written where it stands: handed on at each slot, its 41 numbers would be copied each time.
 fn meanings(
     attached: &[u8],
     sheet: Sheet,
@@ -358,27 +311,20 @@ fn meanings(
     times: &[i16],
     vars: &[i32],
 ) -> Previewed
-    ensures { result ≡ previewed_of (checked (sheet_of attached.now sheet) (slots_of (shop_from (arrays_in sold.now limits.now codes.now lens.now))) (save_of items.now atcs.now flags.now times.now vars.now) true true true (shop_inside (slots_of (shop_from (arrays_in sold.now limits.now codes.now lens.now))))) }
+    ensures { accepted_as result ≡ previewed_of (meanings_of (sheet_of attached.now sheet) (slots_of (shop_from (arrays_in sold.now limits.now codes.now lens.now))) (save_of items.now atcs.now flags.now times.now vars.now)) }
 {
-    if !flags_inside(sold, limits, codes, lens) {
-        return blank(23, vars);
-    }
-    let mut out = blank(0, vars);
-    let mut i = 0;
-    while i < SLOTS {
+    let mut out = blank(vars);
+    for i in 0..SLOTS {
         let head = head_at(sold, limits, lens, i);
         let m = meaning_at(attached, sheet, head, codes, i, items, atcs, flags, times);
-        let item = m.item;
-        let count = m.count;
-        out.items[i] = item;
-        out.counts[i] = count;
+        out.items[i] = m.item;
+        out.counts[i] = m.count;
         out.temp = temp_after(m, out.temp);
-        i += 1;
     }
     out
 }
 
-// What the shop of the arrays means under the save. Refused by 1, 8, 12 or 23 it has no pairs, and variable 0 as in the save.
+// What the shop of the arrays means under the save. Refused by 1, 8, 12 or 23 it means nothing.
 pub fn preview_arrays(
     attached: &[u8],
     sheet: Sheet,
@@ -391,21 +337,24 @@ pub fn preview_arrays(
     flags: &[u8],
     times: &[i16],
     vars: &[i32],
-) -> Previewed
-    ensures { result ≡ previewed_of (preview_call (sheet_of attached.now sheet) (slots_of (shop_from (arrays_in sold.now limits.now codes.now lens.now))) (save_of items.now atcs.now flags.now times.now vars.now)) }
+) -> Result<Previewed, Refusal>
+    ensures { answer_in (get_or vars.now 0 (pos 0)) result ≡ previewed_of (preview_call (sheet_of attached.now sheet) (slots_of (shop_from (arrays_in sold.now limits.now codes.now lens.now))) (save_of items.now atcs.now flags.now times.now vars.now)) }
 {
     if !check_sheet(attached, sheet) {
-        return blank(1, vars);
+        return Err(Refusal::BadSheet);
     }
     if !check_arrays(attached, sheet, sold, codes, lens) {
-        return blank(8, vars);
+        return Err(Refusal::BadShop);
     }
     if !check_save(attached, sheet, items, atcs, flags, times, vars) {
-        return blank(12, vars);
+        return Err(Refusal::BadSave);
     }
-    meanings(
+    if !flags_inside(sold, limits, codes, lens) {
+        return Err(Refusal::NoFlag);
+    }
+    Ok(meanings(
         attached, sheet, sold, limits, codes, lens, items, atcs, flags, times, vars,
-    )
+    ))
 }
 
 // The same of a shop as a value.
@@ -418,8 +367,8 @@ pub fn preview(
     flags: &[u8],
     times: &[i16],
     vars: &[i32],
-) -> Previewed
-    ensures { result ≡ previewed_of (preview_call (sheet_of attached.now sheet) (slots_of shop) (save_of items.now atcs.now flags.now times.now vars.now)) }
+) -> Result<Previewed, Refusal>
+    ensures { answer_in (get_or vars.now 0 (pos 0)) result ≡ previewed_of (preview_call (sheet_of attached.now sheet) (slots_of shop) (save_of items.now atcs.now flags.now times.now vars.now)) }
 {
     let mut sold = [-1; SLOTS];
     let mut limits = [0; SLOTS];
