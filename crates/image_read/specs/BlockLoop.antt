@@ -1,5 +1,5 @@
 -- Blocks, read one after the other: what holds at the head of the loop. Assumes nothing.
-use Rattle.std.specs.Prelude.{◌≡◌, refl, ℤ, length, drop}
+use Rattle.std.specs.Prelude.{◌≡◌, refl, Ok, Err, ℤ, length, drop}
 use Rattle.std.proofs.Math.Path.{ap}
 use Rattle.std.proofs.Common.{sym, ◌∙◌}
 use mathlib.Core.List.{List, [], ◌∷◌, ◌++◌, append-nil}
@@ -13,8 +13,8 @@ use Rattle.model.specs.Memory.{Memory, memory_in, put_block, put_blocks}
 use Rattle.image_numbers.specs.Answers.{seen_more, seen_none}
 use Rattle.image_read.specs.Counts.{nodes_block, held_block}
 use Rattle.image_read.specs.Told.{limits_of, PutBlock, ToldBlock, ToldBlocks}
-use Rattle.image_read.specs.declared.Stage.{Stage}
-use Rattle.image_read.specs.declared.Stage.TheVariants.{Got as Both, No as Not}
+use Rattle.model.specs.Refusals.{refusal_number}
+use Rattle.model.specs.declared.Refusal.{Refusal}
 
 -- some were read, c are left
 
@@ -39,8 +39,7 @@ module _ (s : List ℕ) (w : List ℕ) (v : List ℤ) (cw bw : List ℕ) (b at :
 
   module _ (i n m p : ℕ) (w₁ : List ℕ) (v₁ : List ℤ) (cw₁ bw₁ : List ℕ) (lt : i < b)
       (P : BlocksPart s (memory_in w v cw bw 0 0 0) (limits_of b) (read_blocks (limits_of b) b 0 0 (drop at s)) (b - i) m n p (memory_in w₁ v₁ cw₁ bw₁ n m i))
-      (r : Stage) (w₂ : List ℕ) (v₂ : List ℤ) (cw₂ bw₂ : List ℕ)
-      (t : ToldBlock s (memory_in w₁ v₁ cw₁ bw₁ n m i) (read_block (limits_of b) m n (drop p s)) r w₂ v₂ cw₂ bw₂ (i + 1)) where
+      (w₂ : List ℕ) (v₂ : List ℤ) (cw₂ bw₂ : List ℕ) where
     left : read_blocks (limits_of b) (b - i) m n (drop p s) ≡ onward (read_block (limits_of b) m n (drop p s)) (λ x r. onward (read_blocks (limits_of b) (b - (i + 1)) (m + block_commands x) (n + block_nodes x) r) (λ xs u. got (x ∷ xs) u))
     unfolding read_blocks
     left = let q : b - i ≡ suc (b - (i + 1)) = omega arith in
@@ -60,20 +59,19 @@ module _ (s : List ℕ) (w : List ℕ) (v : List ℤ) (cw bw : List ℕ) (b at :
           commands_low = x.commands_low;
         }
 
-    pub blocks_next : (n' m' p' : ℕ) → r ≡ Both n' m' p' → BlocksPart s (memory_in w v cw bw 0 0 0) (limits_of b) (read_blocks (limits_of b) b 0 0 (drop at s)) (b - (i + 1)) m' n' p' (memory_in w₂ v₂ cw₂ bw₂ n' m' (i + 1))
+    pub blocks_next : (n' m' p' : ℕ) → ToldBlock s (memory_in w₁ v₁ cw₁ bw₁ n m i) (read_block (limits_of b) m n (drop p s)) (Ok (n', m', p')) w₂ v₂ cw₂ bw₂ (i + 1) → BlocksPart s (memory_in w v cw bw 0 0 0) (limits_of b) (read_blocks (limits_of b) b 0 0 (drop at s)) (b - (i + 1)) m' n' p' (memory_in w₂ v₂ cw₂ bw₂ n' m' (i + 1))
     unfolding ToldBlock
-    blocks_next n' m' p' e = put_next n' m' p' (rw e at t)
+    blocks_next n' m' p' x = put_next n' m' p' x
 
-    pub blocks_no : (e : ℕ) (w₃ : List ℕ) (v₃ : List ℤ) (cw₃ bw₃ : List ℕ) → r ≡ Not e → ToldBlocks s (memory_in w v cw bw 0 0 0) (read_blocks (limits_of b) b 0 0 (drop at s)) (Not e) w₃ v₃ cw₃ bw₃ b
+    pub blocks_no : (e : Refusal) (w₃ : List ℕ) (v₃ : List ℤ) (cw₃ bw₃ : List ℕ) → ToldBlock s (memory_in w₁ v₁ cw₁ bw₁ n m i) (read_block (limits_of b) m n (drop p s)) (Err e) w₂ v₂ cw₂ bw₂ (i + 1) → ToldBlocks s (memory_in w v cw bw 0 0 0) (read_blocks (limits_of b) b 0 0 (drop at s)) (Err e) w₃ v₃ cw₃ bw₃ b
     unfolding ToldBlock ToldBlocks
-    blocks_no e w₃ v₃ cw₃ bw₃ q =
-        let x : read_block (limits_of b) m n (drop p s) ≡ refused e = rw q at t in
-        let go : read_blocks (limits_of b) (b - i) m n (drop p s) ≡ refused e = left ∙ rw x in
+    blocks_no e w₃ v₃ cw₃ bw₃ x =
+        let go : read_blocks (limits_of b) (b - i) m n (drop p s) ≡ refused (refusal_number e) = left ∙ rw x in
         P.read ∙ ap (λ (y : Answer (List Block)). onward y (λ ys r. got (P.seen ++ ys) r)) go
 
   pub blocks_done : (i n m p : ℕ) (w₁ : List ℕ) (v₁ : List ℤ) (cw₁ bw₁ : List ℕ) → i ≤ b → b ≤ i
       → BlocksPart s (memory_in w v cw bw 0 0 0) (limits_of b) (read_blocks (limits_of b) b 0 0 (drop at s)) (b - i) m n p (memory_in w₁ v₁ cw₁ bw₁ n m i)
-      → ToldBlocks s (memory_in w v cw bw 0 0 0) (read_blocks (limits_of b) b 0 0 (drop at s)) (Both n m p) w₁ v₁ cw₁ bw₁ b
+      → ToldBlocks s (memory_in w v cw bw 0 0 0) (read_blocks (limits_of b) b 0 0 (drop at s)) (Ok (n, m, p)) w₁ v₁ cw₁ bw₁ b
   unfolding ToldBlocks read_blocks
   blocks_done i n m p w₁ v₁ cw₁ bw₁ h g P =
       let f : b ≡ i = omega arith in

@@ -1,6 +1,6 @@
 -- What a caller learns of a script that was read: its blocks, its kept counts and that they are within the limits. Assumes nothing.
 use Rattle.std.proofs.Math.Path.{◌≡◌, ap}
-use Rattle.std.specs.Prelude.{refl, List, ℕ, ◌+◌, ℤ}
+use Rattle.std.specs.Prelude.{refl, Ok, Err, List, ℕ, ◌+◌, ℤ}
 use Rattle.std.proofs.Common.{◌∙◌}
 use native.Mathlib.Omega.{arith}
 use Rattle.std.proofs.Math.ListN.{length}
@@ -11,7 +11,8 @@ use Rattle.memory.specs.View.{memory_of}
 use Rattle.memory.specs.declared.Counts.{Counts}
 use Rattle.image_read.specs.Counts.{nodes_blocks, held_blocks, count_blocks}
 use Rattle.image_read.specs.Outcome.{cleared, read_into, outcome}
-use Rattle.image_read.specs.declared.Image.TheVariants.{Read, No}
+use Rattle.model.specs.Refusals.{refusal_number}
+use Rattle.model.specs.declared.Refusal.{Refusal}
 
 -- ---- the promise taken apart
 
@@ -26,7 +27,7 @@ pub record Accepted (ws : List ℕ) (vs : List ℤ) (cw bw : List ℕ) (a : Answ
   pub blocks_held : k.blocks ≡ length blocks
 
 module _ (ws : List ℕ) (vs : List ℤ) (cw bw : List ℕ) (ws' : List ℕ) (vs' : List ℤ) (cw' bw' : List ℕ) where
-  pub was_accepted : (a : Answer (List Block)) (k : Counts) → outcome (Read k) ws' vs' cw' bw' ≡ read_into (memory_in ws vs cw bw 0 0 0) a → Accepted ws vs cw bw a k (memory_of ws' vs' cw' bw' k)
+  pub was_accepted : (a : Answer (List Block)) (k : Counts) → outcome (Ok k) ws' vs' cw' bw' ≡ read_into (memory_in ws vs cw bw 0 0 0) a → Accepted ws vs cw bw a k (memory_of ws' vs' cw' bw' k)
   unfolding outcome read_into
   was_accepted (got bs r) k p =
       let e : memory_of ws' vs' cw' bw' k ≡ put_blocks (memory_in ws vs cw bw 0 0 0) bs = cc in
@@ -36,7 +37,7 @@ module _ (ws : List ℕ) (vs : List ℤ) (cw bw : List ℕ) (ws' : List ℕ) (vs
       record { blocks = bs; rest = r; read = refl; after = e; nodes_held = omega arith; commands_held = omega arith; blocks_held = omega arith }
   was_accepted (refused e) k p = let z : ◌≡◌ {A = ℕ} 0 1 = cc in absurd (omega arith)
 
-  pub was_refused : (a : Answer (List Block)) (e : ℕ) → outcome (No e) ws' vs' cw' bw' ≡ read_into (memory_in ws vs cw bw 0 0 0) a → (a ≡ refused e) × (memory_in ws' vs' cw' bw' 0 0 0 ≡ cleared)
+  pub was_refused : (a : Answer (List Block)) (e : Refusal) → outcome (Err e) ws' vs' cw' bw' ≡ read_into (memory_in ws vs cw bw 0 0 0) a → (a ≡ refused (refusal_number e)) × (memory_in ws' vs' cw' bw' 0 0 0 ≡ cleared)
   unfolding outcome read_into
   was_refused (got bs r) e p = let z : ◌≡◌ {A = ℕ} 0 1 = cc in absurd (omega arith)
-  was_refused (refused j) e p = let same : j ≡ e = cc in (ap refused same, cc)
+  was_refused (refused j) e p = let same : j ≡ refusal_number e = cc in (ap refused same, cc)

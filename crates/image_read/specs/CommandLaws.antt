@@ -1,5 +1,5 @@
 -- The steps of the command reader. Assumes nothing.
-use Rattle.std.specs.Prelude.{◌≡◌, refl, ℤ, drop}
+use Rattle.std.specs.Prelude.{◌≡◌, refl, Result, Ok, Err, ℤ, drop}
 use Rattle.std.proofs.Math.Path.{ap, ap₂, sym}
 use Rattle.std.proofs.Common.{◌∙◌, add-zero}
 use mathlib.Core.List.{List}
@@ -8,55 +8,44 @@ use native.Mathlib.Omega.{arith}
 use borrow.Author.Tests.{lt-ltb, le-ltb}
 use Rattle.std.proofs.Math.ListN.{length}
 use Rattle.model.specs.Limits.{node_limit, depth_limit, wide}
-use Rattle.model.specs.Refusal.{bad_image, no_such_link}
 use Rattle.model.specs.Reading.{Answer, got, refused, onward, number}
 use Rattle.model.specs.Expr.{Expr, size}
 use Rattle.model.specs.Script.{return, goto, set_variable, set_other, if_else, end_if, other_command, command_nodes}
 use Rattle.model.specs.Image.{Limits, read_expr, read_block_no, read_term, set_of, command_of, read_command}
 use Rattle.model.specs.Memory.{Nodes, nodes_in, put_expr, coded_in, push_command, put_command}
 use Rattle.memory.specs.Pushed.{PushedCommand}
-use Rattle.image_numbers.specs.Told.{Told}
-use Rattle.image_read.specs.Told.{read_at, ToldExpr, limits_of, ToldNo, ToldJump, ToldCommand, ToldSet}
-use Rattle.image_read.specs.ExprLaws.{done, grown}
-use Rattle.image_numbers.specs.declared.Num.{Num}
-use Rattle.image_numbers.specs.declared.Num.TheVariants.{Got, Bad}
-use Rattle.image_read.specs.declared.Step.{Step}
-use Rattle.image_read.specs.declared.Step.TheVariants.{Got as Done, No}
+use Rattle.image_read.specs.Told.{ToldNumber, read_at, ToldExpr, limits_of, ToldNo, ToldJump, ToldCommand, ToldSet}
+use Rattle.image_read.specs.ExprLaws.{done}
+use Rattle.model.specs.Refusals.{refusal_number}
+use Rattle.model.specs.declared.Refusal.{Refusal}
+use Rattle.model.specs.declared.Refusal.TheVariants.{NoSuchLink}
 use Rattle.memory.specs.PutNodes.{count_put}
 
 -- ---- a block's number
 
-module _ (s t : List ℕ) (b : ℕ) (r : Num) (q : Told s r (number wide t)) where
-  pub block_in_lem : (k p : ℕ) → r ≡ Got k p → k < b → (x : ℕ) → x ≡ k → ToldNo s (read_block_no b t) (Done x p)
-  unfolding Told ToldNo read_block_no
-  block_in_lem k p e h x ex =
-      let a : Told s (Got k p) (number wide t) = rw e at q in
-      (rw (a.0, lt-ltb k b h, ex), a.1)
+module _ (s t : List ℕ) (b : ℕ) where
+  pub block_in_lem : (k p : ℕ) → ToldNumber s (number wide t) (Ok (k, p)) → k < b → ToldNo s (read_block_no b t) (Ok (k, p))
+  unfolding ToldNumber ToldNo read_block_no
+  block_in_lem k p a h = (rw (a.0, lt-ltb k b h), a.1)
 
-  pub block_out : (k p : ℕ) → r ≡ Got k p → b ≤ k → ToldNo s (read_block_no b t) (No no_such_link)
-  unfolding Told ToldNo read_block_no
-  block_out k p e h =
-      let a : Told s (Got k p) (number wide t) = rw e at q in
-      rw (a.0, le-ltb k b h)
+  pub block_out : (k p : ℕ) → ToldNumber s (number wide t) (Ok (k, p)) → b ≤ k → ToldNo s (read_block_no b t) (Err NoSuchLink)
+  unfolding ToldNumber ToldNo read_block_no
+  block_out k p a h = rw (a.0, le-ltb k b h)
 
-  pub block_bad : r ≡ Bad → ToldNo s (read_block_no b t) (No bad_image)
-  unfolding Told ToldNo read_block_no
-  block_bad e =
-      let a : Told s Bad (number wide t) = rw e at q in
-      rw a
+  pub block_bad : (e : Refusal) → ToldNumber s (number wide t) (Err e) → ToldNo s (read_block_no b t) (Err e)
+  unfolding ToldNumber ToldNo read_block_no
+  block_bad e a = rw (a.0, a.1)
 
 -- ---- a command that only names a block
 
-module _ (s : List ℕ) (a : Answer ℕ) (w : List ℕ) (n m o : ℕ) (x : Step) (t : ToldNo s a x) where
-  pub jump_done : (k p j : ℕ) (w' : List ℕ) → x ≡ Done k p → PushedCommand w m o 0 0 k w' j → ToldJump s a w n m o (Done n p) w'
+module _ (s : List ℕ) (a : Answer ℕ) (w : List ℕ) (n m o : ℕ) where
+  pub jump_done : (k p j : ℕ) (w' : List ℕ) → ToldNo s a (Ok (k, p)) → PushedCommand w m o 0 0 k w' j → ToldJump s a w n m o (Ok (n, p)) w'
   unfolding ToldNo ToldJump
-  jump_done k p j w' e u =
-      let f : (a ≡ got k (drop p s)) × (p ≤ length s) = rw e at t in
-      (refl, record { to = k; read = f.0; place = f.1; after = u.is })
+  jump_done k p j w' f u = (refl, record { to = k; read = f.0; place = f.1; after = u.is })
 
-  pub jump_no : (k : ℕ) (w' : List ℕ) → x ≡ No k → ToldJump s a w n m o (No k) w'
+  pub jump_no : (e : Refusal) (w' : List ℕ) → ToldNo s a (Err e) → ToldJump s a w n m o (Err e) w'
   unfolding ToldNo ToldJump
-  jump_no k w' e = rw e at t
+  jump_no e w' f = f
 
 -- ---- an expression of a command
 
@@ -67,81 +56,76 @@ pub record Term (s : List ℕ) (w : List ℕ) (v : List ℤ) (p n : ℕ) (w₁ :
   pub after : nodes_in w₁ v₁ n₁ ≡ put_expr (nodes_in w v n) tree
   pub counted : n₁ ≡ n + size tree
   pub low : n₁ ≤ node_limit
-  pub some : n < n₁
 
-module _ (s : List ℕ) (w : List ℕ) (v : List ℤ) (p n : ℕ) (w₁ : List ℕ) (v₁ : List ℤ) (a : Step) (t : ToldExpr s (nodes_in w v n) (read_at s p n 0) a w₁ v₁) where
+module _ (s : List ℕ) (w : List ℕ) (v : List ℤ) (p n : ℕ) (w₁ : List ℕ) (v₁ : List ℤ) where
   same : read_expr node_limit depth_limit n (drop p s) ≡ read_at s p n 0
   same = rw add-zero
 
-  pub is_term : (n₁ p₁ : ℕ) → a ≡ Done n₁ p₁ → Term s w v p n w₁ v₁ n₁ p₁
-  is_term n₁ p₁ e =
-      let d = done s w v p n 0 w₁ v₁ a t n₁ p₁ e in
-      let g = grown s w v p n 0 w₁ v₁ a t n₁ p₁ e in
+  pub is_term : (n₁ p₁ : ℕ) → ToldExpr s (nodes_in w v n) (read_at s p n 0) (Ok (n₁, p₁)) w₁ v₁ → n₁ + 0 ≤ node_limit → Term s w v p n w₁ v₁ n₁ p₁
+  is_term n₁ p₁ t low =
+      let d = done s w v p n 0 w₁ v₁ n₁ p₁ t in
       record {
         tree = d.tree;
         read = same ∙ d.read;
         place = d.place;
         after = d.after;
         counted = ap (λ (x : Nodes). x.count) d.after ∙ count_put (nodes_in w v n) d.tree;
-        low = omega (arith, g.room);
-        some = g.more;
+        low = omega arith;
       }
 
-  pub no_term : (j : ℕ) → a ≡ No j → read_expr node_limit depth_limit n (drop p s) ≡ refused j
+  pub no_term : (e : Refusal) → ToldExpr s (nodes_in w v n) (read_at s p n 0) (Err e) w₁ v₁ → read_expr node_limit depth_limit n (drop p s) ≡ refused (refusal_number e)
   unfolding ToldExpr
-  no_term j e = same ∙ (rw e at t)
+  no_term e t = same ∙ t
 
 -- ---- If: its condition, then its block
 
 module _ (s : List ℕ) (w : List ℕ) (v : List ℤ) (cw : List ℕ) (n m b p : ℕ) where
-  pub if_no : (j : ℕ) (w' : List ℕ) (v' : List ℤ) (cw' : List ℕ) → read_expr node_limit depth_limit n (drop p s) ≡ refused j → ToldCommand s (coded_in w v cw n m) (command_of (limits_of b) n 3 (drop p s)) (No j) w' v' cw' (m + 1)
+  pub if_no : (e : Refusal) (w' : List ℕ) (v' : List ℤ) (cw' : List ℕ) → read_expr node_limit depth_limit n (drop p s) ≡ refused (refusal_number e) → ToldCommand s (coded_in w v cw n m) (command_of (limits_of b) n 3 (drop p s)) (Err e) w' v' cw' (m + 1)
   unfolding ToldCommand command_of read_term
-  if_no j w' v' cw' f = rw f
+  if_no e w' v' cw' f = rw f
 
-  module _ (w₁ : List ℕ) (v₁ : List ℤ) (n₁ p₁ : ℕ) (T : Term s w v p n w₁ v₁ n₁ p₁) (x : Step) (tx : ToldNo s (read_block_no b (drop p₁ s)) x) where
-    pub if_no_2 : (j : ℕ) (w' : List ℕ) (v' : List ℤ) (cw' : List ℕ) → x ≡ No j → ToldCommand s (coded_in w v cw n m) (command_of (limits_of b) n 3 (drop p s)) (No j) w' v' cw' (m + 1)
+  module _ (w₁ : List ℕ) (v₁ : List ℤ) (n₁ p₁ : ℕ) (T : Term s w v p n w₁ v₁ n₁ p₁) where
+    pub if_no_2 : (e : Refusal) (w' : List ℕ) (v' : List ℤ) (cw' : List ℕ) → ToldNo s (read_block_no b (drop p₁ s)) (Err e) → ToldCommand s (coded_in w v cw n m) (command_of (limits_of b) n 3 (drop p s)) (Err e) w' v' cw' (m + 1)
     unfolding ToldCommand ToldNo command_of read_term
-    if_no_2 j w' v' cw' ex = let f : read_block_no b (drop p₁ s) ≡ refused j = rw ex at tx in rw (T.read, f)
+    if_no_2 e w' v' cw' f = rw (T.read, f)
 
-    pub if_done : (k p' j : ℕ) (cw' : List ℕ) → x ≡ Done k p' → PushedCommand cw m 3 (n₁ - 1) 0 k cw' j → ToldCommand s (coded_in w v cw n m) (command_of (limits_of b) n 3 (drop p s)) (Done n₁ p') w₁ v₁ cw' (m + 1)
+    pub if_done : (k p' j : ℕ) (cw' : List ℕ) → ToldNo s (read_block_no b (drop p₁ s)) (Ok (k, p')) → PushedCommand cw m 3 (n₁ - 1) 0 k cw' j → ToldCommand s (coded_in w v cw n m) (command_of (limits_of b) n 3 (drop p s)) (Ok (n₁, p')) w₁ v₁ cw' (m + 1)
     unfolding ToldCommand ToldNo command_of read_term put_command command_nodes
-    if_done k p' j cw' ex u =
-        let f : (read_block_no b (drop p₁ s) ≡ got k (drop p' s)) × (p' ≤ length s) = rw ex at tx in
-        record {
-          tree = if_else T.tree k;
-          read = rw (T.read, f.0);
-          place = f.1;
-          after = ap (λ (y : List ℕ). coded_in w₁ v₁ y n₁ (m + 1)) u.is ∙ ap (λ (N : Nodes). push_command (coded_in w v cw n m) N 3 (N.count - 1) 0 k) T.after;
-          counted = T.counted;
-          low = T.low;
-        }
+    if_done k p' j cw' f u = record {
+      tree = if_else T.tree k;
+      read = rw (T.read, f.0);
+      place = f.1;
+      after = ap (λ (y : List ℕ). coded_in w₁ v₁ y n₁ (m + 1)) u.is ∙ ap (λ (N : Nodes). push_command (coded_in w v cw n m) N 3 (N.count - 1) 0 k) T.after;
+      counted = T.counted;
+      low = T.low;
+    }
 
 -- ---- Set: what its target is, the target's expression if it is a variable, the value
 
-module _ (s : List ℕ) (w : List ℕ) (v : List ℤ) (cw : List ℕ) (n m p : ℕ) (y : Num) (ty : Told s y (number 2 (drop p s))) where
-  pub set_bad : (w' : List ℕ) (v' : List ℤ) (cw' : List ℕ) → y ≡ Bad → ToldSet s (coded_in w v cw n m) n p (No bad_image) w' v' cw' (m + 1)
-  unfolding ToldSet ToldCommand command_of Told
-  set_bad w' v' cw' ey b = let f : Told s Bad (number 2 (drop p s)) = rw ey at ty in rw f
+module _ (s : List ℕ) (w : List ℕ) (v : List ℤ) (cw : List ℕ) (n m p : ℕ) where
+  pub set_bad : (e : Refusal) (w' : List ℕ) (v' : List ℤ) (cw' : List ℕ) → ToldNumber s (number 2 (drop p s)) (Err e) → ToldSet s (coded_in w v cw n m) n p (Err e) w' v' cw' (m + 1)
+  unfolding ToldSet ToldCommand command_of ToldNumber
+  set_bad e w' v' cw' f b = rw (f.0, f.1)
 
-  module _ (z p₀ : ℕ) (ey : y ≡ Got z p₀) where
+  module _ (z p₀ : ℕ) (f : ToldNumber s (number 2 (drop p s)) (Ok (z, p₀))) where
     at_set : (b : ℕ) → command_of (limits_of b) n 2 (drop p s) ≡ set_of (limits_of b) n z (drop p₀ s)
-    unfolding command_of Told
-    at_set b = let f : Told s (Got z p₀) (number 2 (drop p s)) = rw ey at ty in rw f.0
+    unfolding command_of ToldNumber
+    at_set b = rw f.0
 
     at_other : (b : ℕ) → (z ≡ 0 → ⊥) → set_of (limits_of b) n z (drop p₀ s) ≡ onward (read_expr node_limit depth_limit n (drop p₀ s)) (λ v u. got (set_other v) u)
     unfolding set_of read_term
     at_other b h = let q : z ≡ suc (z - 1) = omega arith in ap (λ (g : ℕ). set_of (limits_of b) n g (drop p₀ s)) q
 
-    pub set_no : (j : ℕ) (w' : List ℕ) (v' : List ℤ) (cw' : List ℕ) → read_expr node_limit depth_limit n (drop p₀ s) ≡ refused j → ToldSet s (coded_in w v cw n m) n p (No j) w' v' cw' (m + 1)
+    pub set_no : (e : Refusal) (w' : List ℕ) (v' : List ℤ) (cw' : List ℕ) → read_expr node_limit depth_limit n (drop p₀ s) ≡ refused (refusal_number e) → ToldSet s (coded_in w v cw n m) n p (Err e) w' v' cw' (m + 1)
     unfolding ToldSet ToldCommand set_of read_term
-    set_no j w' v' cw' f b = at_set b ∙ any z
+    set_no e w' v' cw' g b = at_set b ∙ any z
       where
-        any : (z : ℕ) → set_of (limits_of b) n z (drop p₀ s) ≡ refused j
-        any zero = rw f
-        any (suc g) = rw f
+        any : (z : ℕ) → set_of (limits_of b) n z (drop p₀ s) ≡ refused (refusal_number e)
+        any zero = rw g
+        any (suc z) = rw g
 
     module _ (w₁ : List ℕ) (v₁ : List ℤ) (n₁ p₁ : ℕ) (T : Term s w v p₀ n w₁ v₁ n₁ p₁) where
-      pub set_other_lem : (j : ℕ) (cw' : List ℕ) → (z ≡ 0 → ⊥) → PushedCommand cw m 2 0 (n₁ - 1) 1 cw' j → ToldSet s (coded_in w v cw n m) n p (Done n₁ p₁) w₁ v₁ cw' (m + 1)
+      pub set_other_lem : (j : ℕ) (cw' : List ℕ) → (z ≡ 0 → ⊥) → PushedCommand cw m 2 0 (n₁ - 1) 1 cw' j → ToldSet s (coded_in w v cw n m) n p (Ok (n₁, p₁)) w₁ v₁ cw' (m + 1)
       unfolding ToldSet ToldCommand put_command command_nodes
       set_other_lem j cw' h u b = record {
         tree = set_other T.tree;
@@ -156,11 +140,11 @@ module _ (s : List ℕ) (w : List ℕ) (v : List ℤ) (cw : List ℕ) (n m p : �
       unfolding set_of read_term
       value b h = at_set b ∙ rw (h, T.read, ← T.counted)
 
-      pub set_no_2 : (j : ℕ) (w' : List ℕ) (v' : List ℤ) (cw' : List ℕ) → z ≡ 0 → read_expr node_limit depth_limit n₁ (drop p₁ s) ≡ refused j → ToldSet s (coded_in w v cw n m) n p (No j) w' v' cw' (m + 1)
+      pub set_no_2 : (e : Refusal) (w' : List ℕ) (v' : List ℤ) (cw' : List ℕ) → z ≡ 0 → read_expr node_limit depth_limit n₁ (drop p₁ s) ≡ refused (refusal_number e) → ToldSet s (coded_in w v cw n m) n p (Err e) w' v' cw' (m + 1)
       unfolding ToldSet ToldCommand
-      set_no_2 j w' v' cw' h f b = value b h ∙ rw f
+      set_no_2 e w' v' cw' h g b = value b h ∙ rw g
 
-      pub set_variable_lem : (w₂ : List ℕ) (v₂ : List ℤ) (n₂ p₂ : ℕ) → Term s w₁ v₁ p₁ n₁ w₂ v₂ n₂ p₂ → (j : ℕ) (cw' : List ℕ) → z ≡ 0 → PushedCommand cw m 2 (n₁ - 1) (n₂ - 1) 0 cw' j → ToldSet s (coded_in w v cw n m) n p (Done n₂ p₂) w₂ v₂ cw' (m + 1)
+      pub set_variable_lem : (w₂ : List ℕ) (v₂ : List ℤ) (n₂ p₂ : ℕ) → Term s w₁ v₁ p₁ n₁ w₂ v₂ n₂ p₂ → (j : ℕ) (cw' : List ℕ) → z ≡ 0 → PushedCommand cw m 2 (n₁ - 1) (n₂ - 1) 0 cw' j → ToldSet s (coded_in w v cw n m) n p (Ok (n₂, p₂)) w₂ v₂ cw' (m + 1)
       unfolding ToldSet ToldCommand put_command command_nodes
       set_variable_lem w₂ v₂ n₂ p₂ U j cw' h u b =
           let all : nodes_in w₂ v₂ n₂ ≡ put_expr (put_expr (nodes_in w v n) T.tree) U.tree = U.after ∙ ap (λ (N : Nodes). put_expr N U.tree) T.after in
@@ -175,31 +159,31 @@ module _ (s : List ℕ) (w : List ℕ) (v : List ℤ) (cw : List ℕ) (n m p : �
 
 -- ---- by the code
 
-more_than_four : (l : Limits) (n c : ℕ) (t : List ℕ) → (c ≡ 0 → ⊥) → (c ≡ 1 → ⊥) → (c ≡ 2 → ⊥) → (c ≡ 3 → ⊥) → (c ≡ 4 → ⊥) → command_of l n c t ≡ got other_command t
+more_than_four : (l : Limits) (n c : ℕ) (t : List ℕ) → 4 < c → command_of l n c t ≡ got other_command t
 unfolding command_of
-more_than_four l n zero t a b d e f = absurd (a refl)
-more_than_four l n (suc zero) t a b d e f = absurd (b refl)
-more_than_four l n (suc (suc zero)) t a b d e f = absurd (d refl)
-more_than_four l n (suc (suc (suc zero))) t a b d e f = absurd (e refl)
-more_than_four l n (suc (suc (suc (suc zero)))) t a b d e f = absurd (f refl)
-more_than_four l n (suc (suc (suc (suc (suc c))))) t a b d e f = refl
+more_than_four l n zero t h = absurd (omega arith)
+more_than_four l n (suc zero) t h = absurd (omega arith)
+more_than_four l n (suc (suc zero)) t h = absurd (omega arith)
+more_than_four l n (suc (suc (suc zero))) t h = absurd (omega arith)
+more_than_four l n (suc (suc (suc (suc zero)))) t h = absurd (omega arith)
+more_than_four l n (suc (suc (suc (suc (suc c))))) t h = refl
 
-module _ (s : List ℕ) (w : List ℕ) (v : List ℤ) (cw : List ℕ) (n m b at : ℕ) (r : Num) (q : Told s r (number 6 (drop at s))) where
-  pub command_bad : (w' : List ℕ) (v' : List ℤ) (cw' : List ℕ) → r ≡ Bad → ToldCommand s (coded_in w v cw n m) (read_command (limits_of b) n (drop at s)) (No bad_image) w' v' cw' (m + 1)
-  unfolding ToldCommand read_command Told
-  command_bad w' v' cw' e = let a : Told s Bad (number 6 (drop at s)) = rw e at q in rw a
+module _ (s : List ℕ) (w : List ℕ) (v : List ℤ) (cw : List ℕ) (n m b at : ℕ) where
+  pub command_bad : (e : Refusal) (w' : List ℕ) (v' : List ℤ) (cw' : List ℕ) → ToldNumber s (number 6 (drop at s)) (Err e) → ToldCommand s (coded_in w v cw n m) (read_command (limits_of b) n (drop at s)) (Err e) w' v' cw' (m + 1)
+  unfolding ToldCommand read_command ToldNumber
+  command_bad e w' v' cw' a = rw (a.0, a.1)
 
-  module _ (c p : ℕ) (e : r ≡ Got c p) where
+  module _ (c p : ℕ) (a : ToldNumber s (number 6 (drop at s)) (Ok (c, p))) where
     at_code : read_command (limits_of b) n (drop at s) ≡ command_of (limits_of b) n c (drop p s)
-    unfolding read_command Told
-    at_code = let a : Told s (Got c p) (number 6 (drop at s)) = rw e at q in rw a.0
+    unfolding read_command ToldNumber
+    at_code = rw a.0
 
     here : p ≤ length s
-    unfolding Told
-    here = let a : Told s (Got c p) (number 6 (drop at s)) = rw e at q in a.1
+    unfolding ToldNumber
+    here = a.1
 
     -- a command without node or block
-    pub return_done : (j : ℕ) (cw' : List ℕ) → n ≤ node_limit → c ≡ 0 → PushedCommand cw m 0 0 0 0 cw' j → ToldCommand s (coded_in w v cw n m) (read_command (limits_of b) n (drop at s)) (Done n p) w v cw' (m + 1)
+    pub return_done : (j : ℕ) (cw' : List ℕ) → n ≤ node_limit → c ≡ 0 → PushedCommand cw m 0 0 0 0 cw' j → ToldCommand s (coded_in w v cw n m) (read_command (limits_of b) n (drop at s)) (Ok (n, p)) w v cw' (m + 1)
     unfolding ToldCommand command_of put_command command_nodes
     return_done j cw' low k u = record {
       tree = return;
@@ -210,20 +194,20 @@ module _ (s : List ℕ) (w : List ℕ) (v : List ℤ) (cw : List ℕ) (n m b at 
       low = low;
     }
 
-    pub other_done : (j : ℕ) (cw' : List ℕ) → n ≤ node_limit → (c ≡ 0 → ⊥) → (c ≡ 1 → ⊥) → (c ≡ 2 → ⊥) → (c ≡ 3 → ⊥) → (c ≡ 4 → ⊥) → PushedCommand cw m 5 0 0 0 cw' j → ToldCommand s (coded_in w v cw n m) (read_command (limits_of b) n (drop at s)) (Done n p) w v cw' (m + 1)
+    pub other_done : (j : ℕ) (cw' : List ℕ) → n ≤ node_limit → 4 < c → PushedCommand cw m 5 0 0 0 cw' j → ToldCommand s (coded_in w v cw n m) (read_command (limits_of b) n (drop at s)) (Ok (n, p)) w v cw' (m + 1)
     unfolding ToldCommand put_command command_nodes
-    other_done j cw' low k0 k1 k2 k3 k4 u = record {
+    other_done j cw' low more u = record {
       tree = other_command;
-      read = at_code ∙ more_than_four (limits_of b) n c (drop p s) k0 k1 k2 k3 k4;
+      read = at_code ∙ more_than_four (limits_of b) n c (drop p s) more;
       place = here;
       after = ap (λ (x : List ℕ). coded_in w v x n (m + 1)) u.is;
       counted = sym (add-zero n);
       low = low;
     }
 
-    pub goto_told : (x : Step) (cw' : List ℕ) → n ≤ node_limit → c ≡ 1 → ToldJump s (read_block_no b (drop p s)) cw n m 1 x cw' → ToldCommand s (coded_in w v cw n m) (read_command (limits_of b) n (drop at s)) x w v cw' (m + 1)
+    pub goto_told : (x : Result (ℕ × ℕ) Refusal) (cw' : List ℕ) → n ≤ node_limit → c ≡ 1 → ToldJump s (read_block_no b (drop p s)) cw n m 1 x cw' → ToldCommand s (coded_in w v cw n m) (read_command (limits_of b) n (drop at s)) x w v cw' (m + 1)
     unfolding ToldCommand ToldJump command_of put_command command_nodes
-    goto_told (Done k p') cw' low kk (e, J) = record {
+    goto_told (Ok (k, p')) cw' low kk (e, J) = record {
       tree = goto J.to;
       read = at_code ∙ rw (kk, J.read);
       place = J.place;
@@ -231,11 +215,11 @@ module _ (s : List ℕ) (w : List ℕ) (v : List ℤ) (cw : List ℕ) (n m b at 
       counted = e ∙ sym (add-zero n);
       low = rw e low;
     }
-    goto_told (No k) cw' low kk f = at_code ∙ rw (kk, f)
+    goto_told (Err k) cw' low kk f = at_code ∙ rw (kk, f)
 
-    pub endif_told : (x : Step) (cw' : List ℕ) → n ≤ node_limit → c ≡ 4 → ToldJump s (read_block_no b (drop p s)) cw n m 4 x cw' → ToldCommand s (coded_in w v cw n m) (read_command (limits_of b) n (drop at s)) x w v cw' (m + 1)
+    pub endif_told : (x : Result (ℕ × ℕ) Refusal) (cw' : List ℕ) → n ≤ node_limit → c ≡ 4 → ToldJump s (read_block_no b (drop p s)) cw n m 4 x cw' → ToldCommand s (coded_in w v cw n m) (read_command (limits_of b) n (drop at s)) x w v cw' (m + 1)
     unfolding ToldCommand ToldJump command_of put_command command_nodes
-    endif_told (Done k p') cw' low kk (e, J) = record {
+    endif_told (Ok (k, p')) cw' low kk (e, J) = record {
       tree = end_if J.to;
       read = at_code ∙ rw (kk, J.read);
       place = J.place;
@@ -243,9 +227,9 @@ module _ (s : List ℕ) (w : List ℕ) (v : List ℤ) (cw : List ℕ) (n m b at 
       counted = e ∙ sym (add-zero n);
       low = rw e low;
     }
-    endif_told (No k) cw' low kk f = at_code ∙ rw (kk, f)
+    endif_told (Err k) cw' low kk f = at_code ∙ rw (kk, f)
 
-    module _ (x : Step) (w' : List ℕ) (v' : List ℤ) (cw' : List ℕ) where
+    module _ (x : Result (ℕ × ℕ) Refusal) (w' : List ℕ) (v' : List ℤ) (cw' : List ℕ) where
       pub if_told : c ≡ 3 → ToldCommand s (coded_in w v cw n m) (command_of (limits_of b) n 3 (drop p s)) x w' v' cw' (m + 1) → ToldCommand s (coded_in w v cw n m) (read_command (limits_of b) n (drop at s)) x w' v' cw' (m + 1)
       if_told kk t = rw (at_code, kk) t
 

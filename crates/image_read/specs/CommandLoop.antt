@@ -1,5 +1,5 @@
 -- Commands, read one after the other: what holds at the head of the loop. Assumes nothing.
-use Rattle.std.specs.Prelude.{◌≡◌, List, [], ◌∷◌, ◌++◌, ℤ, length, drop}
+use Rattle.std.specs.Prelude.{◌≡◌, Ok, Err, List, [], ◌∷◌, ◌++◌, ℤ, length, drop}
 use Rattle.std.proofs.Math.Path.{refl, ap}
 use Rattle.std.proofs.Common.{sym, ◌∙◌, append-nil}
 use Prim.Native.Nat.{ℕ, suc, ◌+◌, ◌-◌, ◌≤◌, ◌<◌}
@@ -11,8 +11,8 @@ use Rattle.model.specs.Image.{Limits, read_command, read_commands}
 use Rattle.model.specs.Memory.{Coded, coded_in, put_command, put_commands}
 use Rattle.image_numbers.specs.Answers.{seen_more, seen_none}
 use Rattle.image_read.specs.Told.{limits_of, ToldCommand, PutOne, ToldCommands, PutMany}
-use Rattle.image_read.specs.declared.Step.{Step}
-use Rattle.image_read.specs.declared.Step.TheVariants.{Got as Done, No}
+use Rattle.model.specs.Refusals.{refusal_number}
+use Rattle.model.specs.declared.Refusal.{Refusal}
 
 -- some were read, c are left
 
@@ -77,25 +77,22 @@ module _ (s : List ℕ) (w : List ℕ) (v : List ℤ) (cw : List ℕ) (n m c b a
 
   module _ (i k p : ℕ) (w₁ : List ℕ) (v₁ : List ℤ) (cw₁ : List ℕ) (lt : i < c)
       (P : CommandsPart s (coded_in w v cw n m) (limits_of b) (read_commands (limits_of b) c n (drop at s)) (c - i) k p (coded_in w₁ v₁ cw₁ k (m + i)))
-      (r : Step) (w₂ : List ℕ) (v₂ : List ℤ) (cw₂ : List ℕ)
-      (t : ToldCommand s (coded_in w₁ v₁ cw₁ k (m + i)) (read_command (limits_of b) k (drop p s)) r w₂ v₂ cw₂ (m + i + 1)) where
-    pub commands_next : (k' p' : ℕ) → r ≡ Done k' p' → CommandsPart s (coded_in w v cw n m) (limits_of b) (read_commands (limits_of b) c n (drop at s)) (c - (i + 1)) k' p' (coded_in w₂ v₂ cw₂ k' (m + (i + 1)))
+      (w₂ : List ℕ) (v₂ : List ℤ) (cw₂ : List ℕ) where
+    pub commands_next : (k' p' : ℕ) → ToldCommand s (coded_in w₁ v₁ cw₁ k (m + i)) (read_command (limits_of b) k (drop p s)) (Ok (k', p')) w₂ v₂ cw₂ (m + i + 1) → CommandsPart s (coded_in w v cw n m) (limits_of b) (read_commands (limits_of b) c n (drop at s)) (c - (i + 1)) k' p' (coded_in w₂ v₂ cw₂ k' (m + (i + 1)))
     unfolding ToldCommand
-    commands_next k' p' e =
-        let x : PutOne s (coded_in w₁ v₁ cw₁ k (m + i)) (read_command (limits_of b) k (drop p s)) p' (coded_in w₂ v₂ cw₂ k' (m + i + 1)) = rw e at t in
+    commands_next k' p' x =
         let f : c - (i + 1) ≡ c - i - 1 = omega arith in
         let g : m + (i + 1) ≡ m + i + 1 = omega arith in
         rw (f, g) (part_next s (coded_in w v cw n m) (limits_of b) (read_commands (limits_of b) c n (drop at s)) (c - i) k p (coded_in w₁ v₁ cw₁ k (m + i)) refl (omega arith) P k' p' (coded_in w₂ v₂ cw₂ k' (m + i + 1)) x refl)
 
-    pub commands_no : (e : ℕ) (w₃ : List ℕ) (v₃ : List ℤ) (cw₃ : List ℕ) → r ≡ No e → ToldCommands s (coded_in w v cw n m) (read_commands (limits_of b) c n (drop at s)) (No e) w₃ v₃ cw₃ (m + c)
+    pub commands_no : (e : Refusal) (w₃ : List ℕ) (v₃ : List ℤ) (cw₃ : List ℕ) → ToldCommand s (coded_in w₁ v₁ cw₁ k (m + i)) (read_command (limits_of b) k (drop p s)) (Err e) w₂ v₂ cw₂ (m + i + 1) → ToldCommands s (coded_in w v cw n m) (read_commands (limits_of b) c n (drop at s)) (Err e) w₃ v₃ cw₃ (m + c)
     unfolding ToldCommand ToldCommands
-    commands_no e w₃ v₃ cw₃ q =
-        let x : read_command (limits_of b) k (drop p s) ≡ refused e = rw q at t in
-        part_no s (coded_in w v cw n m) (limits_of b) (read_commands (limits_of b) c n (drop at s)) (c - i) k p (coded_in w₁ v₁ cw₁ k (m + i)) refl (omega arith) P e x
+    commands_no e w₃ v₃ cw₃ x =
+        part_no s (coded_in w v cw n m) (limits_of b) (read_commands (limits_of b) c n (drop at s)) (c - i) k p (coded_in w₁ v₁ cw₁ k (m + i)) refl (omega arith) P (refusal_number e) x
 
   pub commands_done : (i k p : ℕ) (w₁ : List ℕ) (v₁ : List ℤ) (cw₁ : List ℕ) → i ≤ c → c ≤ i
       → CommandsPart s (coded_in w v cw n m) (limits_of b) (read_commands (limits_of b) c n (drop at s)) (c - i) k p (coded_in w₁ v₁ cw₁ k (m + i))
-      → ToldCommands s (coded_in w v cw n m) (read_commands (limits_of b) c n (drop at s)) (Done k p) w₁ v₁ cw₁ (m + c)
+      → ToldCommands s (coded_in w v cw n m) (read_commands (limits_of b) c n (drop at s)) (Ok (k, p)) w₁ v₁ cw₁ (m + c)
   unfolding ToldCommands
   commands_done i k p w₁ v₁ cw₁ h g P =
       let f : m + c ≡ m + i = omega arith in

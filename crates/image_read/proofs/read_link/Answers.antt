@@ -1,0 +1,15 @@
+-- The steps are laws of specs/BlockLaws.antt.
+use Rattle.std.proofs.lemmas.Result.{err_from_is_err_and}
+use Rattle.image_read.specs.BlockLaws.{link_in_lem, link_out, link_bad}
+use Rattle.image_read.proofs.read_link.Goals as goal
+
+pub returns-in_err-k : goal.returns-in_err-k
+returns-in_err-k c =
+    let p = err_from_is_err_and c.from_residual.result c.from_residual.ensures.1 in
+    rw (p.1, p.2) (link_bad _ _ _ _ c.in_err-k.ensures.told)
+
+pub returns-then-k-from : goal.returns-then-k-from
+returns-then-k-from c = link_out _ _ _ _ _ c.in_ok-k.ensures.told (rw c.from.ensures at c.if-k-from.true)
+
+pub returns : goal.returns
+returns c = link_in_lem _ _ _ _ _ c.in_ok-k.ensures.told (rw c.from.ensures at c.if-k-from.false)
