@@ -7,6 +7,7 @@ use native.Mathlib.Numerals.{add-one}
 use native.Mathlib.Omega.{arith}
 use lib.ListN.{length, drop, get_or, drop_of_length-le, length-map}
 use lib.Seq.{drop-cons}
+use Rattle.std.specs.List.{list_all}
 use Rattle.model.specs.Sheet.{all}
 
 -- the first i elements passed
@@ -27,6 +28,11 @@ module _ {A : Type 0} (p : A → Bool) (xs : List A) where
 
     pub done : length xs ≤ i → true ≡ all p xs
     done h = sym (t.is ∙ ap (all p) (drop_of_length-le xs h))
+
+-- the test of std is the definitions'
+pub all_same : {A : Type 0} (p : A → Bool) (xs : List A) → list_all p xs ≡ all p xs
+all_same p [] = refl
+all_same p (x ∷ xs) = ap (λ b. p x && b) (all_same p xs)
 
 pub all_map : {A B : Type 0} (p : B → Bool) (f : A → B) (xs : List A) → all p (map f xs) ≡ all (λ x. p (f x)) xs
 all_map p f [] = refl
