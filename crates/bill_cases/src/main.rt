@@ -1,77 +1,40 @@
 // Bills of four slots (02, A.11 and A.12): runs the cases of its standard input, one to a line, and says of each whether it answered what the line says.
 #![tactic(auto)]
 
+ghost use Rattle.std.specs.Prelude.{◌<◌};
+
 use bill::{Billed, bill};
-use case_lines::{
-    ANSWER, Answer, Tally, WORDS, Words, letter, line_end, low8, low16, none, numbers, tell, total,
-    wide8,
-};
+use case_lines::{Answer, WORDS, Words, low8, low16, run_cases, wide8};
 use model::{FLAGS, ItemId, TIMES, VARIABLES, Variables};
 use shop::{COUNT_FIRST, ITEM_FIRST, SLOTS, Sheet};
-
-// The standard input.
-const STDIN: i32 = 0;
 
 // The slots that a case gives, and the lines that are told of its bill.
 const TOLD: usize = 4;
 
 const BILLION: u64 = 1000000000;
 
-// What is told of a number that 32 bits do not hold.
-const MOST: u64 = 4294967295;
-
 fn main() {
     let mut input: [u8; 8192] = [0; 8192];
-    start(&mut input);
-}
-
-// Large arrays are not read where they are made: the proof would go through their elements.
-fn start(input: &mut [u8]) {
-    let n = io::read_full(STDIN, input);
-    cases(&input[..n]);
-}
-
-fn cases(text: &[u8]) {
-    let mut tally = none();
-    let mut at: usize = 0;
-    while at < text.len() {
-        let end = line_end(text, at);
-        tally = case(&text[at..end], tally);
-        at = end + 1;
-    }
-    total(tally);
-}
-
-fn case(line: &[u8], tally: Tally) -> Tally {
-    let mut a: Words = [0; WORDS];
-    let mut t: Answer = [0; ANSWER];
-    done(line, &mut a, &mut t, tally)
-}
-
-fn done(line: &[u8], a: &mut Words, t: &mut Answer, tally: Tally) -> Tally {
-    let colon = numbers(line, WORDS, a);
-    let kind = letter(line);
-    if kind == b'B' || kind == b'L' {
-        asked(kind, a, t);
-    }
-    tell(b"BL", line, colon, a, t, tally)
+    run_cases(&mut input, b"BL", |_| WORDS, |op, a, t| {
+        if op == b'B' || op == b'L' {
+            asked(op, a, t);
+        }
+    });
 }
 
 // Every other slot has item 7, of which none is taken.
 fn asked(kind: u8, a: &Words, t: &mut Answer) {
     let mut vars: Variables = [7; VARIABLES];
     let mut basket: [i32; SLOTS] = [0; SLOTS];
-    put_slot(a, 0, &mut vars, &mut basket);
-    put_slot(a, 1, &mut vars, &mut basket);
-    put_slot(a, 2, &mut vars, &mut basket);
-    put_slot(a, 3, &mut vars, &mut basket);
+    for i in 0..TOLD {
+        put_slot(a, i, &mut vars, &mut basket);
+    }
     made(kind, a, &vars, &basket, t);
 }
 
-fn put_slot(a: &Words, i: usize, vars: &mut Variables, basket: &mut [i32; SLOTS]) {
-    if TOLD <= i {
-        return;
-    }
+fn put_slot(a: &Words, i: usize, vars: &mut Variables, basket: &mut [i32; SLOTS])
+    requires { i < 4 }
+{
     let item = ints::from_bits(a[6 + 3 * i]);
     let count = ints::from_bits(a[7 + 3 * i]);
     let number = ints::from_bits(a[8 + 3 * i]);
@@ -150,25 +113,11 @@ fn whole(r: Billed, ids: &[i32; SLOTS], slots: &[u8; SLOTS], sums: &[u64; SLOTS]
     t[0] = r.refusal as u32;
     t[1] = capped(r.total / BILLION);
     t[2] = capped(r.total % BILLION);
-    put_line(ids, slots, sums, 0, t);
-    put_line(ids, slots, sums, 1, t);
-    put_line(ids, slots, sums, 2, t);
-    put_line(ids, slots, sums, 3, t);
-}
-
-fn put_line(
-    ids: &[i32; SLOTS],
-    slots: &[u8; SLOTS],
-    sums: &[u64; SLOTS],
-    i: usize,
-    t: &mut Answer,
-) {
-    if TOLD <= i {
-        return;
+    for i in 0..TOLD {
+        t[3 + 3 * i] = ints::to_bits(ids[i]);
+        t[4 + 3 * i] = wide8(slots[i]);
+        t[5 + 3 * i] = capped(sums[i]);
     }
-    t[3 + 3 * i] = ints::to_bits(ids[i]);
-    t[4 + 3 * i] = wide8(slots[i]);
-    t[5 + 3 * i] = capped(sums[i]);
 }
 
 fn line_of(
@@ -189,9 +138,7 @@ fn line_of(
     t[4] = capped(sums[i] % BILLION);
 }
 
+// What is told of a number that 32 bits do not hold is the largest that they do.
 fn capped(x: u64) -> u32 {
-    if MOST < x {
-        return MOST as u32;
-    }
-    x as u32
+    u32::try_from(x).unwrap_or(u32::MAX)
 }

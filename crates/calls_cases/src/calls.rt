@@ -1,19 +1,16 @@
 // Each call with the numbers of a line, and what it answered as numbers: compile, parse, run beside preview, judge, and an image read or written.
-use crate::changes::size;
 use births::start_anew;
 use case_lines::{Answer, Words, bit, bits16, kind_in, low8, low16, number_in, row, signed16};
 use compile::{Compiled, compile};
-use image_read::{Image, read_script};
-use image_write::{Written, write_script};
-use judge_record::{Judged, judge_record};
-use memory::{BLOCKS, Births, BlockWords, CommandWords, Counts, NodeWords, Values};
-use model::{BlockNo, FLAGS, ItemId, Loader, TIMES, VARIABLES, Variables};
-use parse::{ParsedShop, parse};
+use image_read::read_script;
+use image_write::write_script;
+use judge_record::judge_record;
+use memory::{Births, BlockWords, CommandWords, Counts, NodeWords, Values};
+use model::{BlockNo, FLAGS, ItemId, Loader, Refusal, TIMES, VARIABLES, Variables, WIDE, refusal_in};
+use parse::parse;
 use preview::{Previewed, preview};
 use runner::{Ran, run};
-use shop::{
-    COUNT_FIRST, ITEM_FIRST, Row, SLOTS, Sheet, Shop, Slot, SlotItem, empty_shop, with_slot,
-};
+use shop::{COUNT_FIRST, ITEM_FIRST, Row, SLOTS, Sheet, Shop, Slot, empty_shop, with_slot};
 
 // ---- counts
 
@@ -33,10 +30,10 @@ pub fn counts(blocks: u32, commands: u32, nodes: u32) -> Counts {
 }
 
 pub fn tell_counts(t: &mut Answer, refusal: u8, k: Counts) {
-    t[0] = refusal as u32;
-    t[1] = k.blocks as u32;
-    t[2] = k.commands as u32;
-    t[3] = k.nodes as u32;
+    t[0] = u32::from(refusal);
+    t[1] = u32::from(k.blocks);
+    t[2] = u32::from(k.commands);
+    t[3] = u32::from(k.nodes);
 }
 
 // ---- sheet and shop
@@ -70,11 +67,8 @@ fn shop_of(a: &Words) -> Shop {
 }
 
 // Item 999 stands for none.
-fn item_of(x: u16) -> SlotItem {
-    if x == 999 {
-        return SlotItem::Nothing;
-    }
-    SlotItem::Of(ItemId(x))
+fn item_of(x: u16) -> Option<ItemId> {
+    if x == 999 { None } else { Some(ItemId(x)) }
 }
 
 // ---- compile
@@ -93,15 +87,18 @@ pub fn compiled(
     let held = kept.counts;
     let before = whole(ws, val, cw, bw, births, held, kept.compiles);
     let c = compile_by(a, ws, val, cw, bw, births, kept);
-    let k = c.counts;
-    let after = whole(ws, val, cw, bw, births, k, c.compiles);
-    tell_counts(t, c.refusal, k);
+    let k = match c {
+        Ok(done) => Kept {
+            counts: done.counts,
+            compiles: done.compiles,
+        },
+        Err(_) => kept,
+    };
+    let after = whole(ws, val, cw, bw, births, k.counts, k.compiles);
+    tell_counts(t, refusal_in(c.map(|_| ())), k.counts);
     t[4] = root_of(bw, low16(a[8]));
     t[5] = bit(before == after);
-    Kept {
-        counts: k,
-        compiles: c.compiles,
-    }
+    k
 }
 
 fn compile_by(
@@ -112,7 +109,7 @@ fn compile_by(
     bw: &mut BlockWords,
     births: &mut Births,
     kept: Kept,
-) -> Compiled {
+) -> Result<Compiled, Refusal> {
     let atcs = attached();
     let sheet = sheet_with(low16(a[9]));
     let at = BlockNo(a[8]);
@@ -145,18 +142,10 @@ fn loader_of(x: u32) -> Loader {
 
 // The block that a setup block has as next; 0 where it has none.
 fn root_of(bw: &BlockWords, at: u16) -> u32 {
-    if at < 4096 {
-        let i = at as usize;
-        return block_of(bw[5 * i + 3]);
+    match bw.get(5 * at as usize + 3) {
+        Some(link) => u32::from(link.saturating_sub(1)),
+        None => 0,
     }
-    0
-}
-
-fn block_of(link: u16) -> u32 {
-    if link == 0 {
-        return 0;
-    }
-    (link - 1) as u32
 }
 
 // ---- a sum over the whole script with its marks and the count of compiles, with the place of each word
@@ -170,62 +159,35 @@ pub fn whole(
     k: Counts,
     compiles: u32,
 ) -> u64 {
-    sum_births(births, mixed(sum(ws, val, cw, bw, k), compiles))
+    summed(births, mixed(sum(ws, val, cw, bw, k), compiles), |x| x)
 }
 
 fn sum(ws: &NodeWords, val: &Values, cw: &CommandWords, bw: &BlockWords, k: Counts) -> u64 {
-    let a = mixed(
-        mixed(mixed(0, k.nodes as u32), k.commands as u32),
-        k.blocks as u32,
-    );
-    sum_words(bw, sum_words(cw, sum_numbers(val, sum_words(ws, a))))
+    let counts = [k.nodes, k.commands, k.blocks];
+    let a = summed(&counts, 0, |x| u32::from(x));
+    let nodes = summed(ws, a, |x| u32::from(x));
+    let values = summed(val, nodes, ints::to_bits);
+    let commands = summed(cw, values, |x| u32::from(x));
+    summed(bw, commands, |x| u32::from(x))
 }
 
-fn sum_words(s: &[u16], from: u64) -> u64 {
-    let mut h = from;
-    let mut i: usize = 0;
-    while i < s.len() {
-        h = mixed(h, wide(s[i]));
-        i += 1;
-    }
-    h
-}
-
-fn sum_numbers(s: &[i32], from: u64) -> u64 {
-    let mut h = from;
-    let mut i: usize = 0;
-    while i < s.len() {
-        h = mixed(h, ints::to_bits(s[i]));
-        i += 1;
-    }
-    h
-}
-
-fn sum_births(s: &[u32], from: u64) -> u64 {
-    let mut h = from;
-    let mut i: usize = 0;
-    while i < s.len() {
-        h = mixed(h, s[i]);
-        i += 1;
-    }
-    h
-}
-
-pub fn wide(x: u16) -> u32 {
-    x as u32
+fn summed<T: Copy, F: Fn(T) -> u32>(s: &[T], from: u64, word: F) -> u64
+    requires { F.IsAlwaysCallable word }
+{
+    s.iter().fold(from, |h, x| mixed(h, word(*x)))
 }
 
 fn mixed(h: u64, x: u32) -> u64 {
-    h % 4294967296 * 31 + x as u64
+    h % WIDE * 31 + u64::from(x)
 }
 
 // ---- birth marks
 
 // The mark of a place of a block, and the count of accepted compiles.
 pub fn asked(here: bool, a: &Words, births: &Births, compiles: u32, t: &mut Answer) {
-    let i = size(a[1]);
-    if here && i < BLOCKS {
-        t[0] = births[i];
+    let mark = births.get(a[1] as usize);
+    if let (true, Some(mark)) = (here, mark) {
+        t[0] = *mark;
         t[1] = compiles;
     }
 }
@@ -247,67 +209,34 @@ pub fn parsed(
     tell_parsed(p, t);
 }
 
-// How many slots are empty, and slot 0.
-fn tell_parsed(p: ParsedShop, t: &mut Answer) {
-    let shop = p.shop;
-    t[0] = p.refusal as u32;
-    t[1] = empties(shop);
-    tell_slot(shop.slots[0], t);
+// How many slots are empty, and slot 0. A refused parse is told as twenty empty slots.
+fn tell_parsed(p: Result<Shop, Refusal>, t: &mut Answer) {
+    let shop = p.unwrap_or(empty_shop());
+    t[0] = u32::from(refusal_in(p.map(|_| ())));
+    t[1] = empties(&shop);
+    tell_slot(&shop.slots[0], t);
 }
 
 // Item, limit, how many requirements, and kind and number of the first five.
-fn tell_slot(slot: Slot, t: &mut Answer) {
-    let item = slot.item;
-    let codes = slot.requirements;
-    let limit = slot.limit;
-    t[2] = item_number(item);
-    t[3] = bits16(limit);
-    t[4] = slot.len as u32;
-    requirements(codes, slot.len as usize, t);
+fn tell_slot(slot: &Slot, t: &mut Answer) {
+    t[2] = slot.item.map_or(999, |w| u32::from(w.0));
+    t[3] = bits16(slot.limit);
+    t[4] = u32::from(slot.len);
+    requirements(&slot.requirements, usize::from(slot.len), t);
 }
 
-fn item_number(item: SlotItem) -> u32 {
-    match item {
-        SlotItem::Nothing => 999,
-        SlotItem::Of(w) => w.0 as u32,
+fn requirements(codes: &Row, n: usize, t: &mut Answer) {
+    for (i, code) in codes.iter().take(n.min(5)).enumerate() {
+        t[5 + 2 * i] = kind_in(*code);
+        t[6 + 2 * i] = number_in(*code);
     }
 }
 
-fn requirements(codes: Row, n: usize, t: &mut Answer) {
-    let mut i: usize = 0;
-    while i < n {
-        if 5 <= i {
-            return;
-        }
-        t[5 + 2 * i] = kind_in(codes[i]);
-        t[6 + 2 * i] = number_in(codes[i]);
-        i += 1;
-    }
-}
-
-fn empties(shop: Shop) -> u32 {
-    let mut n: u32 = 0;
-    let mut i: usize = 0;
-    while i < 20 {
-        n = one_more(n, shop.slots[i]);
-        i += 1;
-    }
-    n
-}
-
-// One more where the slot is empty.
-fn one_more(n: u32, slot: Slot) -> u32 {
-    if slot.len != 0 || slot.limit != 0 {
-        return n;
-    }
-    if 20 <= n {
-        return n;
-    }
-    let item = slot.item;
-    match item {
-        SlotItem::Nothing => n + 1,
-        SlotItem::Of(_) => n,
-    }
+fn empties(shop: &Shop) -> u32 {
+    shop.slots
+        .iter()
+        .map(|slot| bit(slot.item.is_none() && slot.limit == 0 && slot.len == 0))
+        .fold(0, |n, one| n.wrapping_add(one))
 }
 
 // ---- run and preview
@@ -331,9 +260,8 @@ pub fn ran(
 }
 
 fn set_flag(flags: &mut [u8; FLAGS], flag: u32) {
-    let i = flag as usize;
-    if i < FLAGS {
-        flags[i] = 1;
+    if let Some(set) = flags.get_mut(flag as usize) {
+        *set = 1;
     }
 }
 
@@ -359,7 +287,12 @@ fn meet(
     tell_ran(r, &vars, p, t);
 }
 
-fn preview_by(shop: Shop, items: &[i16], flags: &[u8; FLAGS], vars: &Variables) -> Previewed {
+fn preview_by(
+    shop: Shop,
+    items: &[i16],
+    flags: &[u8; FLAGS],
+    vars: &Variables,
+) -> Result<Previewed, Refusal> {
     let entries = attached();
     let atcs: [u8; 1] = [0; 1];
     let times: [i16; TIMES] = [0; TIMES];
@@ -408,42 +341,24 @@ fn run_by(
 }
 
 // Blocks entered, the pair of slot 0, variable 5, and what the preview says.
-fn tell_ran(r: Ran, vars: &Variables, p: Previewed, t: &mut Answer) {
-    t[0] = r.refusal as u32;
+fn tell_ran(r: Ran, vars: &Variables, p: Result<Previewed, Refusal>, t: &mut Answer) {
+    t[0] = u32::from(refusal_in(r.outcome));
     t[1] = r.entered;
     t[2] = ints::to_bits(vars[ITEM_FIRST]);
     t[3] = ints::to_bits(vars[COUNT_FIRST]);
     t[4] = ints::to_bits(vars[5]);
-    t[5] = p.refusal as u32;
-    t[6] = bit(agrees(vars, p));
+    t[5] = u32::from(refusal_in(p.map(|_| ())));
+    t[6] = match p {
+        Ok(shown) => bit(agrees(vars, &shown)),
+        Err(_) => 0,
+    };
 }
 
 // All pairs and variable 0.
-fn agrees(vars: &Variables, p: Previewed) -> bool {
-    if p.refusal != 0 {
-        return false;
-    }
-    if vars[0] != p.temp {
-        return false;
-    }
-    let items = p.items;
-    let counts = p.counts;
-    hold(vars, ITEM_FIRST, &items) && hold(vars, COUNT_FIRST, &counts)
-}
-
-// Whether the twenty variables from first on are xs.
-fn hold(vars: &Variables, first: usize, xs: &[i32; SLOTS]) -> bool {
-    if 1000 < first {
-        return false;
-    }
-    let mut i: usize = 0;
-    while i < 20 {
-        if vars[first + i] != xs[i] {
-            return false;
-        }
-        i += 1;
-    }
-    true
+fn agrees(vars: &Variables, p: &Previewed) -> bool {
+    vars[0] == p.temp
+        && vars[ITEM_FIRST..ITEM_FIRST + SLOTS] == p.items[..]
+        && vars[COUNT_FIRST..COUNT_FIRST + SLOTS] == p.counts[..]
 }
 
 // ---- the record and its image
@@ -456,15 +371,14 @@ pub fn judged(
     kept: Counts,
     t: &mut Answer,
 ) {
-    let r = judge_record(ws, val, cw, bw, kept);
-    match r {
-        Judged::Fine(len) => t[1] = short(len),
-        Judged::No(e) => t[0] = e as u32,
+    match judge_record(ws, val, cw, bw, kept) {
+        Ok(len) => t[1] = short(len),
+        Err(e) => t[0] = u32::from(e.number()),
     }
 }
 
 fn short(x: usize) -> u32 {
-    (x % 4294967296) as u32
+    (x as u64 % WIDE) as u32
 }
 
 // The script of the image; one of no blocks where it is refused. Either way birth marks and the count of compiles start anew, as in the library's read.
@@ -479,10 +393,10 @@ pub fn read(
     t: &mut Answer,
 ) -> Kept {
     start_anew(births);
-    if image.len() < len {
-        return none();
+    match image.get(..len) {
+        Some(given) => tell_read(read_script(given, 0, ws, val, cw, bw), t),
+        None => none(),
     }
-    tell_read(read_script(&image[0..len], 0, ws, val, cw, bw), t)
 }
 
 pub fn none() -> Kept {
@@ -492,17 +406,17 @@ pub fn none() -> Kept {
     }
 }
 
-fn tell_read(r: Image, t: &mut Answer) -> Kept {
+fn tell_read(r: Result<Counts, Refusal>, t: &mut Answer) -> Kept {
     match r {
-        Image::Read(k) => {
+        Ok(k) => {
             tell_counts(t, 0, k);
             Kept {
                 counts: k,
                 compiles: 0,
             }
         }
-        Image::No(e) => {
-            t[0] = e as u32;
+        Err(e) => {
+            t[0] = u32::from(e.number());
             none()
         }
     }
@@ -525,12 +439,18 @@ pub fn written(
     tell_written(w, image, len, &out, t);
 }
 
-fn tell_written(w: Written, image: &[u8; 65600], len: usize, out: &[u8; 65600], t: &mut Answer) {
-    let n = w.len;
-    t[0] = w.refusal as u32;
+fn tell_written(
+    w: Result<usize, Refusal>,
+    image: &[u8; 65600],
+    len: usize,
+    out: &[u8; 65600],
+    t: &mut Answer,
+) {
+    let n = w.unwrap_or(0);
+    t[0] = u32::from(refusal_in(w.map(|_| ())));
     t[1] = short(n);
-    t[2] = bit(n == len && same(image, out, n));
-    t[3] = bit(sevens(out, n));
+    t[2] = bit(n == len && n <= 65600 && image[..n] == out[..n]);
+    t[3] = bit(out.iter().skip(n).all(|b| *b == 7));
 }
 
 fn write_by(
@@ -541,37 +461,7 @@ fn write_by(
     bw: &BlockWords,
     kept: Counts,
     out: &mut [u8],
-) -> Written {
-    let room = most as usize;
-    if out.len() < room {
-        return write_script(ws, val, cw, bw, kept, out);
-    }
-    write_script(ws, val, cw, bw, kept, &mut out[0..room])
-}
-
-// Whether the first n bytes are the same.
-fn same(a: &[u8; 65600], b: &[u8; 65600], n: usize) -> bool {
-    let mut i: usize = 0;
-    while i < n {
-        if 65600 <= i {
-            return false;
-        }
-        if a[i] != b[i] {
-            return false;
-        }
-        i += 1;
-    }
-    true
-}
-
-// Whether each byte from n on is 7.
-fn sevens(a: &[u8; 65600], n: usize) -> bool {
-    let mut i = n;
-    while i < 65600 {
-        if a[i] != 7 {
-            return false;
-        }
-        i += 1;
-    }
-    true
+) -> Result<usize, Refusal> {
+    let room = out.len().min(most as usize);
+    write_script(ws, val, cw, bw, kept, &mut out[..room])
 }

@@ -6,7 +6,7 @@ mod changes;
 mod reclaims;
 
 use calls::{Kept, asked, compiled, counts, judged, parsed, ran, read, written};
-use case_lines::{ANSWER, Answer, Tally, WORDS, Words, letter, line_end, numbers, tell, total};
+use case_lines::{Answer, WORDS, Words, run_cases};
 use changes::{bytes, change, mark};
 use memory::{
     BLOCK_WORDS, BLOCKS, Births, BlockWords, COMMAND_WORDS, CommandWords, Counts, NODE_WORDS,
@@ -14,17 +14,6 @@ use memory::{
 };
 use model::INPUT;
 use reclaims::reclaimed;
-
-// The standard input.
-const STDIN: i32 = 0;
-
-// What goes from a line to the next: the counts of the script and of its accepted compiles, the length of the image, and the tally.
-#[derive(Clone, Copy)]
-struct Held {
-    kept: Kept,
-    image: usize,
-    tally: Tally,
-}
 
 fn main() {
     let mut input: [u8; INPUT] = [0; INPUT];
@@ -45,9 +34,9 @@ fn main() {
     );
 }
 
-// Large arrays are not read where they are made: the proof would go through their elements.
+// Large arrays are not read where they are made: the proof would go through their elements. The script, its counts and the length of the image go from line to line.
 fn start(
-    input: &mut [u8],
+    input: &mut [u8; INPUT],
     image: &mut [u8; 65600],
     ws: &mut NodeWords,
     val: &mut Values,
@@ -55,78 +44,12 @@ fn start(
     bw: &mut BlockWords,
     births: &mut Births,
 ) {
-    let n = io::read_full(STDIN, input);
-    cases(&input[..n], image, ws, val, cw, bw, births);
-}
-
-// ---- lines
-
-fn cases(
-    text: &[u8],
-    image: &mut [u8; 65600],
-    ws: &mut NodeWords,
-    val: &mut Values,
-    cw: &mut CommandWords,
-    bw: &mut BlockWords,
-    births: &mut Births,
-) {
-    let mut h = nothing();
-    let mut at: usize = 0;
-    while at < text.len() {
-        let end = line_end(text, at);
-        h = case(&text[at..end], image, ws, val, cw, bw, births, h);
-        at = end + 1;
-    }
-    let tally = h.tally;
-    total(tally);
-}
-
-fn nothing() -> Held {
-    Held {
-        kept: calls::none(),
-        image: 0,
-        tally: case_lines::none(),
-    }
-}
-
-fn case(
-    line: &[u8],
-    image: &mut [u8; 65600],
-    ws: &mut NodeWords,
-    val: &mut Values,
-    cw: &mut CommandWords,
-    bw: &mut BlockWords,
-    births: &mut Births,
-    h: Held,
-) -> Held {
-    let mut a: Words = [0; WORDS];
-    let mut t: Answer = [0; ANSWER];
-    done(line, &mut a, &mut t, image, ws, val, cw, bw, births, h)
-}
-
-fn done(
-    line: &[u8],
-    a: &mut Words,
-    t: &mut Answer,
-    image: &mut [u8; 65600],
-    ws: &mut NodeWords,
-    val: &mut Values,
-    cw: &mut CommandWords,
-    bw: &mut BlockWords,
-    births: &mut Births,
-    h: Held,
-) -> Held {
-    let op = letter(line);
-    let colon = numbers(line, hex_from(op), a);
-    let len = bytes(op, a, image, h.image);
-    let before = h.kept;
-    let k = step(op, a, image, len, ws, val, cw, bw, births, before, t);
-    let tally = h.tally;
-    Held {
-        kept: k,
-        image: len,
-        tally: tell(b"ACIJPRTW", line, colon, a, t, tally),
-    }
+    let mut kept = calls::none();
+    let mut len = 0;
+    run_cases(input, b"ACIJPRTW", hex_from, |op, a, t| {
+        len = bytes(op, a, image, len);
+        kept = step(op, a, image, len, ws, val, cw, bw, births, kept, t);
+    });
 }
 
 // Bytes are hexadecimal.
@@ -162,23 +85,21 @@ fn step(
     if op == b'I' {
         return read(image, len, ws, val, cw, bw, births, t);
     }
-    let held = k.counts;
     change(op, a, ws, val, cw, bw);
     mark(op, a, births);
-    shown(op, a, image, len, ws, val, cw, bw, held, t);
+    shown(op, a, image, len, ws, val, cw, bw, k.counts, t);
     asked(op == b'A', a, births, k.compiles, t);
     kept(op, a, k)
 }
 
 fn kept(op: u8, a: &Words, k: Kept) -> Kept {
-    let held = k.counts;
     match op {
         b'K' => Kept {
             counts: counts(a[1], a[2], a[3]),
             compiles: k.compiles,
         },
         b'N' => Kept {
-            counts: held,
+            counts: k.counts,
             compiles: a[1],
         },
         _ => k,

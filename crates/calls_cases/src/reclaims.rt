@@ -1,8 +1,8 @@
 // A reclaim with the numbers of a line, and what it answered as numbers.
-use crate::calls::{Kept, tell_counts, whole, wide};
-use crate::changes::size;
+use crate::calls::{Kept, tell_counts, whole};
 use case_lines::{Answer, Words, bit};
 use memory::{BLOCKS, Births, BlockWords, CommandWords, NodeWords, Values};
+use model::refusal_in;
 use reclaim::reclaim;
 
 // More roots than are allowed can be given.
@@ -39,27 +39,21 @@ fn reclaim_some(
     kept: Kept,
     t: &mut Answer,
 ) -> Kept {
-    let all: &[u32] = roots;
-    if all.len() < n {
-        return kept;
+    match roots.get(..n) {
+        Some(given) => reclaim_by(a, given, moved, ws, val, cw, bw, births, kept, t),
+        None => kept,
     }
-    reclaim_by(a, &all[..n], moved, ws, val, cw, bw, births, kept, t)
 }
 
 // How many roots, the first, and what each further one is more.
 fn fill(a: &Words, roots: &mut [u32; MOST]) -> usize {
-    let n = size(a[1]);
+    let n = MOST.min(a[1] as usize);
     let mut root = a[2];
-    let mut i: usize = 0;
-    while i < n {
-        if MOST <= i {
-            return i;
-        }
-        roots[i] = root;
-        root = std::num::wrapping_add_u32(root, a[3]);
-        i += 1;
+    for place in roots.iter_mut().take(n) {
+        *place = root;
+        root = root.wrapping_add(a[3]);
     }
-    i
+    n
 }
 
 fn reclaim_by(
@@ -77,21 +71,13 @@ fn reclaim_by(
     let held = kept.counts;
     let before = whole(ws, val, cw, bw, births, held, kept.compiles);
     let r = reclaim(ws, val, cw, bw, births, held, roots, moved);
-    let k = r.counts;
+    let k = r.unwrap_or(held);
     let after = whole(ws, val, cw, bw, births, k, kept.compiles);
-    tell_counts(t, r.refusal, k);
-    t[4] = word_of(moved, size(a[4]));
+    tell_counts(t, refusal_in(r.map(|_| ())), k);
+    t[4] = moved.get(a[4] as usize).map_or(0, |b| u32::from(*b));
     t[5] = bit(before == after);
     Kept {
         counts: k,
         compiles: kept.compiles,
     }
-}
-
-// Past the array's end 0.
-fn word_of(moved: &[u16], b: usize) -> u32 {
-    if b < moved.len() {
-        return wide(moved[b]);
-    }
-    0
 }

@@ -6,19 +6,13 @@ ghost use Rattle.model.specs.Limits.{node_limit};
 ghost use Rattle.model.specs.Memory.{Nodes, nodes_in};
 ghost use Rattle.expr_cases.specs.Stands.{Stands, Leaf, rank_of};
 
-use case_lines::{
-    ANSWER, Answer, Tally, WORDS, Words, letter, line_end, low8, low16, none, numbers, signed16,
-    tell, total,
-};
-use expr::{Value, evaluate};
+use case_lines::{Answer, WORDS, Words, low8, low16, run_cases, signed16};
+use expr::evaluate;
 use expr_negate::negate;
 use memory::{
     NODE_LIMIT, NODE_WORDS, NODES, NodeWords, Values, code_one, code_two, kind_of, push_node,
 };
 use model::{Kind, Op1, Op2, VARIABLES};
-
-// The standard input.
-const STDIN: i32 = 0;
 
 fn main() {
     let mut input: [u8; 4096] = [0; 4096];
@@ -27,54 +21,21 @@ fn main() {
     start(&mut input, &mut ws, &mut val);
 }
 
-// Large arrays are not read where they are made: the proof would go through their elements.
-fn start(input: &mut [u8], ws: &mut NodeWords, val: &mut Values) {
-    let n = io::read_full(STDIN, input);
-    cases(&input[..n], ws, val);
-}
-
-fn cases(text: &[u8], ws: &mut NodeWords, val: &mut Values) {
-    let mut tally = none();
-    let mut at: usize = 0;
-    while at < text.len() {
-        let end = line_end(text, at);
-        tally = case(&text[at..end], ws, val, tally);
-        at = end + 1;
-    }
-    total(tally);
-}
-
-fn case(line: &[u8], ws: &mut NodeWords, val: &mut Values, tally: Tally) -> Tally {
-    let mut a: Words = [0; WORDS];
-    let mut t: Answer = [0; ANSWER];
-    done(line, &mut a, &mut t, ws, val, tally)
-}
-
-fn done(
-    line: &[u8],
-    a: &mut Words,
-    t: &mut Answer,
-    ws: &mut NodeWords,
-    val: &mut Values,
-    tally: Tally,
-) -> Tally {
-    let colon = numbers(line, WORDS, a);
-    match letter(line) {
+// Large arrays are not read where they are made: the proof would go through their elements. The nodes go from line to line.
+fn start(input: &mut [u8; 4096], ws: &mut NodeWords, val: &mut Values) {
+    run_cases(input, b"EN", |_| WORDS, |op, a, t| match op {
         b'n' => nodes(a, ws, val),
         b'E' => evaluated(a, ws, val, t),
         b'N' => negated(a, ws, val, t),
         _ => (),
-    }
-    tell(b"EN", line, colon, a, t, tally)
+    });
 }
 
 // ---- a row of nodes
 
 fn nodes(a: &mut Words, ws: &mut NodeWords, val: &mut Values) {
-    let mut left = a[2];
-    while left > 0 {
+    for _ in 0..a[2] {
         node(a, ws, val);
-        left -= 1;
     }
 }
 
@@ -93,9 +54,9 @@ fn node(a: &mut Words, ws: &mut NodeWords, val: &mut Values) {
         low16(a[6]),
         ints::from_bits(a[7]),
     );
-    a[1] = std::num::wrapping_add_u32(a[1], a[3]);
-    a[5] = std::num::wrapping_add_u32(a[5], a[8]);
-    a[6] = std::num::wrapping_add_u32(a[6], a[9]);
+    a[1] = a[1].wrapping_add(a[3]);
+    a[5] = a[5].wrapping_add(a[8]);
+    a[6] = a[6].wrapping_add(a[9]);
 }
 
 // ---- what a node is worth
@@ -110,17 +71,12 @@ fn evaluated(a: &Words, ws: &NodeWords, val: &Values, t: &mut Answer) {
     let flags = [low8(a[4]); 1];
     let times = [signed16(a[5]); 1];
     let vars = [ints::from_bits(a[6]); VARIABLES];
-    let v = evaluate(ws, val, i + 1, i, &items, &atcs, &flags, &times, &vars);
-    told(v, t);
-}
-
-fn told(v: Value, t: &mut Answer) {
-    match v {
-        Value::Is(z) => {
+    match evaluate(ws, val, i + 1, i, &items, &atcs, &flags, &times, &vars) {
+        Ok(z) => {
             t[0] = 1;
             t[1] = ints::to_bits(z);
         }
-        Value::Refused(n) => t[1] = n as u32,
+        Err(e) => t[1] = u32::from(e.number()),
     }
 }
 

@@ -3,14 +3,8 @@
 
 ghost use Rattle.filter_cases.specs.Four.{Fits};
 
-use case_lines::{
-    ANSWER, Answer, Tally, WORDS, Words, letter, line_end, low16, none, numbers, tell, total,
-};
-use memory::index_of;
+use case_lines::{Answer, WORDS, Words, low16, run_cases};
 use parse_filter::filter_alive;
-
-// The standard input.
-const STDIN: i32 = 0;
 
 // The first n of four words.
 #[derive(Clone, Copy)]
@@ -33,40 +27,13 @@ pub struct Others {
 
 fn main() {
     let mut input: [u8; 4096] = [0; 4096];
-    start(&mut input);
-}
-
-// Large arrays are not read where they are made: the proof would go through their elements.
-fn start(input: &mut [u8]) {
-    let n = io::read_full(STDIN, input);
-    cases(&input[..n]);
-}
-
-fn cases(text: &[u8]) {
-    let mut tally = none();
-    let mut at: usize = 0;
-    while at < text.len() {
-        let end = line_end(text, at);
-        tally = case(&text[at..end], tally);
-        at = end + 1;
-    }
-    total(tally);
-}
-
-fn case(line: &[u8], tally: Tally) -> Tally {
-    let mut a: Words = [0; WORDS];
-    let mut t: Answer = [0; ANSWER];
-    done(line, &mut a, &mut t, tally)
-}
-
-fn done(line: &[u8], a: &mut Words, t: &mut Answer, tally: Tally) -> Tally {
-    let colon = numbers(line, WORDS, a);
-    match letter(line) {
-        b'F' => told(kept(a), t),
-        b'A' => t[0] = first_wrong() as u32,
-        _ => (),
-    }
-    tell(b"AF", line, colon, a, t, tally)
+    run_cases(&mut input, b"AF", |_| WORDS, |op, a, t| {
+        match op {
+            b'F' => told(kept(a), t),
+            b'A' => t[0] = u32::from(first_wrong()),
+            _ => (),
+        }
+    });
 }
 
 // What the filter keeps of the words of a line, reduced to what it asks for.
@@ -89,7 +56,7 @@ fn kept(a: &Words) -> Entries {
 }
 
 fn told(k: Entries, t: &mut Answer) {
-    t[0] = k.n as u32;
+    t[0] = u32::from(k.n);
     t[1] = held(k, 0);
     t[2] = held(k, 1);
     t[3] = held(k, 2);
@@ -99,7 +66,7 @@ fn told(k: Entries, t: &mut Answer) {
 // Word i of those that are kept; past them, 0.
 fn held(k: Entries, i: u16) -> u32 {
     if i < k.n {
-        return word(k, i) as u32;
+        return u32::from(word(k, i));
     }
     0
 }
@@ -111,29 +78,21 @@ fn has(x: Entries, e: u16) -> bool {
 }
 
 fn other(t: Others, e: u16) -> u16 {
-    if e == 0 {
-        return t.p;
+    match e {
+        0 => t.p,
+        1 => t.q,
+        2 => t.r,
+        _ => t.s,
     }
-    if e == 1 {
-        return t.q;
-    }
-    if e == 2 {
-        return t.r;
-    }
-    t.s
 }
 
 fn word(x: Entries, i: u16) -> u16 {
-    if i == 0 {
-        return x.a;
+    match i {
+        0 => x.a,
+        1 => x.b,
+        2 => x.c,
+        _ => x.d,
     }
-    if i == 1 {
-        return x.b;
-    }
-    if i == 2 {
-        return x.c;
-    }
-    x.d
 }
 
 // How many of the words k were met once word i of x was looked for where it has to be; 5 where one was not there.
@@ -161,7 +120,7 @@ fn filtered(x: Entries, t: Others) -> Entries
     let companions = [t.p, t.q, t.r, t.s];
     let seen = [has(x, 0), has(x, 1), has(x, 2), has(x, 3), has(x, 4)];
     let mut words = [x.a, x.b, x.c, x.d];
-    let n = filter_alive(&companions, &seen, &mut words, index_of(x.n));
+    let n = filter_alive(&companions, &seen, &mut words, usize::from(x.n));
     Entries {
         a: words[0],
         b: words[1],
@@ -186,39 +145,33 @@ fn agrees(x: Entries, t: Others) -> bool
 fn first_table(x: Entries) -> u16
     requires { Fits x (record { p = 0; q = 0; r = 0; s = 0 }) }
 {
-    let mut i: u16 = 0;
-    while i < 625 {
-        if !agrees(
-            x,
-            Others {
-                p: i % 5,
-                q: i / 5 % 5,
-                r: i / 25 % 5,
-                s: i / 125 % 5,
-            },
-        ) {
+    for i in 0..625 {
+        let companions = Others {
+            p: i % 5,
+            q: i / 5 % 5,
+            r: i / 25 % 5,
+            s: i / 125 % 5,
+        };
+        if !agrees(x, companions) {
             return i;
         }
-        i += 1;
     }
-    i
+    625
 }
 
 // The number of the first set that is filtered wrongly; 1,280 where there is none.
 fn first_wrong() -> u16 {
-    let mut i: u16 = 0;
-    while i < 1280 {
-        if first_table(Entries {
+    for i in 0..1280 {
+        let set = Entries {
             a: i % 4,
             b: i / 4 % 4,
             c: i / 16 % 4,
             d: i / 64 % 4,
             n: i / 256,
-        }) < 625
-        {
+        };
+        if first_table(set) < 625 {
             return i;
         }
-        i += 1;
     }
-    i
+    1280
 }

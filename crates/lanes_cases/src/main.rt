@@ -1,20 +1,16 @@
 // Walks for many saves (02, A.8 and A.10), through the exported call: runs the cases of its standard input, one to a line, and says of each whether it answered what the line says.
 #![tactic(auto)]
 
+ghost use Rattle.std.specs.Prelude.{◌≤◌};
+
 use capi_lanes::{Walked, lk_run_all};
-use case_lines::{
-    ANSWER, Answer, Tally, WORDS, Words, letter, line_end, low16, none, numbers, signed16, tell,
-    total, wide8,
-};
+use case_lines::{Answer, WORDS, Words, low16, run_cases, signed16, wide8};
 use lanes_expr::LANES;
 use memory::{
-    BLOCK_WORDS, BLOCKS, BlockWords, COMMAND_WORDS, COMMANDS, CommandWords, NODE_WORDS, NODES,
+    BLOCK_WORDS, BlockWords, COMMAND_WORDS, CommandWords, NODE_WORDS, NODES,
     NodeWords, Values,
 };
 use model::{FLAGS, VARIABLES};
-
-// The standard input.
-const STDIN: i32 = 0;
 
 fn main() {
     let mut input: [u8; 8192] = [0; 8192];
@@ -25,139 +21,45 @@ fn main() {
     start(&mut input, &mut ws, &mut val, &mut cw, &mut bw);
 }
 
-// Large arrays are not read where they are made: the proof would go through their elements.
+// Large arrays are not read where they are made: the proof would go through their elements. The script goes from line to line.
 fn start(
-    input: &mut [u8],
+    input: &mut [u8; 8192],
     ws: &mut NodeWords,
     val: &mut Values,
     cw: &mut CommandWords,
     bw: &mut BlockWords,
 ) {
-    let n = io::read_full(STDIN, input);
-    cases(&input[..n], ws, val, cw, bw);
-}
-
-// ---- lines
-
-fn cases(
-    text: &[u8],
-    ws: &mut NodeWords,
-    val: &mut Values,
-    cw: &mut CommandWords,
-    bw: &mut BlockWords,
-) {
-    let mut tally = none();
-    let mut at: usize = 0;
-    while at < text.len() {
-        let end = line_end(text, at);
-        tally = case(&text[at..end], ws, val, cw, bw, tally);
-        at = end + 1;
-    }
-    total(tally);
-}
-
-fn case(
-    line: &[u8],
-    ws: &mut NodeWords,
-    val: &mut Values,
-    cw: &mut CommandWords,
-    bw: &mut BlockWords,
-    tally: Tally,
-) -> Tally {
-    let mut a: Words = [0; WORDS];
-    let mut t: Answer = [0; ANSWER];
-    done(line, &mut a, &mut t, ws, val, cw, bw, tally)
-}
-
-fn done(
-    line: &[u8],
-    a: &mut Words,
-    t: &mut Answer,
-    ws: &mut NodeWords,
-    val: &mut Values,
-    cw: &mut CommandWords,
-    bw: &mut BlockWords,
-    tally: Tally,
-) -> Tally {
-    let colon = numbers(line, WORDS, a);
-    let op = letter(line);
-    nodes(op == b'n', a, ws, val);
-    commands(op == b'c', a, cw);
-    blocks(op == b'b', a, bw);
-    if op == b'W' {
-        walked(a, ws, val, cw, bw, t);
-    }
-    tell(b"W", line, colon, a, t, tally)
+    run_cases(input, b"W", |_| WORDS, |op, a, t| match op {
+        b'n' => node(a, ws, val),
+        b'c' => words(cw, 4, a),
+        b'b' => words(bw, 5, a),
+        b'W' => walked(a, ws, val, cw, bw, t),
+        _ => (),
+    });
 }
 
 // ---- the script
 
-// Where a line of that letter writes; a line of another, past every array.
-fn place(here: bool, x: u32) -> usize {
-    if here {
-        return x as usize;
-    }
-    NODES
-}
-
-fn nodes(here: bool, a: &Words, ws: &mut NodeWords, val: &mut Values) {
-    let i = place(here, a[1]);
-    let value = ints::from_bits(a[4]);
-    node(ws, val, i, low16(a[2]), low16(a[3]), low16(a[5]), value);
-}
-
-fn node(
-    ws: &mut NodeWords,
-    val: &mut Values,
-    i: usize,
-    code: u16,
-    left: u16,
-    right: u16,
-    value: i32,
-) {
+// Node by number: its code, left, value and right.
+fn node(a: &Words, ws: &mut NodeWords, val: &mut Values) {
+    let i = a[1] as usize;
     if i < NODES {
-        ws[3 * i] = code;
-        ws[3 * i + 1] = left;
-        ws[3 * i + 2] = right;
-        val[i] = value;
+        ws[3 * i] = low16(a[2]);
+        ws[3 * i + 1] = low16(a[3]);
+        ws[3 * i + 2] = low16(a[5]);
+        val[i] = ints::from_bits(a[4]);
     }
 }
 
-fn commands(here: bool, a: &Words, cw: &mut CommandWords) {
-    let i = place(here, a[1]);
-    command(cw, i, low16(a[2]), low16(a[3]), low16(a[4]), low16(a[5]));
-}
-
-fn command(cw: &mut CommandWords, i: usize, kind: u16, first: u16, second: u16, target: u16) {
-    if i < COMMANDS {
-        cw[4 * i] = kind;
-        cw[4 * i + 1] = first;
-        cw[4 * i + 2] = second;
-        cw[4 * i + 3] = target;
-    }
-}
-
-fn blocks(here: bool, a: &Words, bw: &mut BlockWords) {
-    let i = place(here, a[1]);
-    let next = low16(a[5]);
-    block(
-        bw,
-        i,
-        low16(a[2]),
-        low16(a[3]),
-        low16(a[4]),
-        next,
-        low16(a[6]),
-    );
-}
-
-fn block(bw: &mut BlockWords, i: usize, kind: u16, first: u16, many: u16, next: u16, other: u16) {
-    if i < BLOCKS {
-        bw[5 * i] = kind;
-        bw[5 * i + 1] = first;
-        bw[5 * i + 2] = many;
-        bw[5 * i + 3] = next;
-        bw[5 * i + 4] = other;
+// A command or a block by number: its words, so many. One past the array is not written.
+fn words(to: &mut [u16], size: usize, a: &Words)
+    requires { size ≤ 5 }
+{
+    let first = a[1] as usize * size;
+    for j in 0..size {
+        if let Some(word) = to.get_mut(first + j) {
+            *word = low16(a[2 + j]);
+        }
     }
 }
 
@@ -206,7 +108,7 @@ fn shown(
         &mut refusals,
         &mut entered,
     );
-    t[0] = r.refusal as u32;
+    t[0] = u32::from(r.refusal);
     t[1] = r.read;
     t[2] = wide8(refusals[0]);
     t[3] = entered[0];

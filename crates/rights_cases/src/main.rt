@@ -4,15 +4,12 @@
 use capi_rights::{lk_edit, lk_show};
 use capi_values::sheet_by;
 use case_lines::{
-    ANSWER, Answer, Tally, WORDS, Words, bits16, code, kind_in, letter, line_end, low8, low16,
-    none, number_in, numbers, signed16, tell, total, wide8,
+    Answer, WORDS, Words, bits16, code, kind_in, low8, low16, number_in, run_cases, signed16, wide8,
 };
+use model::refusal_in;
 use rights::{Field, RIGHTS};
-use shop::{CODES, Codes, ENTRIES, Row, SLOTS};
+use shop::{CODES, Codes, ENTRIES, Row, SLOTS, empty_shop};
 use shop_arrays::{arrays_of, clear_arrays, put_entries, shop_from, slot_by};
-
-// The standard input.
-const STDIN: i32 = 0;
 
 fn main() {
     let mut input: [u8; 8192] = [0; 8192];
@@ -31,77 +28,26 @@ fn main() {
     );
 }
 
-// Large arrays are not read where they are made: the proof would go through their elements.
+// Large arrays are not read where they are made: the proof would go through their elements. Rights and arrays go from line to line.
 fn start(
-    input: &mut [u8],
+    input: &mut [u8; 8192],
     rights: &mut [u8; RIGHTS],
     items: &mut [i32; SLOTS],
     limits: &mut [i16; SLOTS],
     codes: &mut Codes,
     lens: &mut [u8; SLOTS],
 ) {
-    let n = io::read_full(STDIN, input);
-    cases(&input[..n], rights, items, limits, codes, lens);
+    run_cases(input, b"ESVW", |_| WORDS, |op, a, t| {
+        step(op, a, rights, items, limits, codes, lens, t);
+    });
 }
 
 // ---- lines
 
-fn cases(
-    text: &[u8],
-    rights: &mut [u8; RIGHTS],
-    items: &mut [i32; SLOTS],
-    limits: &mut [i16; SLOTS],
-    codes: &mut Codes,
-    lens: &mut [u8; SLOTS],
-) {
-    let mut tally = none();
-    let mut at: usize = 0;
-    while at < text.len() {
-        let end = line_end(text, at);
-        tally = case(&text[at..end], rights, items, limits, codes, lens, tally);
-        at = end + 1;
-    }
-    total(tally);
-}
-
-fn case(
-    line: &[u8],
-    rights: &mut [u8; RIGHTS],
-    items: &mut [i32; SLOTS],
-    limits: &mut [i16; SLOTS],
-    codes: &mut Codes,
-    lens: &mut [u8; SLOTS],
-    tally: Tally,
-) -> Tally {
-    let mut a: Words = [0; WORDS];
-    let mut t: Answer = [0; ANSWER];
-    done(
-        line, &mut a, &mut t, rights, items, limits, codes, lens, tally,
-    )
-}
-
-fn done(
-    line: &[u8],
-    a: &mut Words,
-    t: &mut Answer,
-    rights: &mut [u8; RIGHTS],
-    items: &mut [i32; SLOTS],
-    limits: &mut [i16; SLOTS],
-    codes: &mut Codes,
-    lens: &mut [u8; SLOTS],
-    tally: Tally,
-) -> Tally {
-    let colon = numbers(line, WORDS, a);
-    let op = letter(line);
-    put_right(op == b'R', a, rights);
-    step(op, a, rights, items, limits, codes, lens, t);
-    tell(b"ESVW", line, colon, a, t, tally)
-}
-
 fn step(
     op: u8,
     a: &Words,
-    rights: &[u8; RIGHTS],
+    rights: &mut [u8; RIGHTS],
     items: &mut [i32; SLOTS],
     limits: &mut [i16; SLOTS],
     codes: &mut Codes,
@@ -109,6 +55,7 @@ fn step(
     t: &mut Answer,
 ) {
     match op {
+        b'R' => put_right(a, rights),
         b'X' => clear_arrays(items, limits, codes, lens),
         b'I' => put_words(a, items, limits, codes, lens),
         b'E' => edit(a, rights, items, limits, codes, lens, t),
@@ -122,10 +69,10 @@ fn step(
 // ---- what goes from line to line
 
 // R: user, slot and the byte of rights.
-fn put_right(here: bool, a: &Words, rights: &mut [u8; RIGHTS]) {
-    let i = low16(a[1]) as usize * SLOTS + low16(a[2]) as usize;
-    if here && i < RIGHTS {
-        rights[i] = low8(a[3]);
+fn put_right(a: &Words, rights: &mut [u8; RIGHTS]) {
+    let i = usize::from(low16(a[1])) * SLOTS + usize::from(low16(a[2]));
+    if let Some(right) = rights.get_mut(i) {
+        *right = low8(a[3]);
     }
 }
 
@@ -137,7 +84,7 @@ fn put_words(
     codes: &mut Codes,
     lens: &mut [u8; SLOTS],
 ) {
-    let i = low8(a[1]) as usize;
+    let i = usize::from(low8(a[1]));
     if SLOTS <= i {
         return;
     }
@@ -211,7 +158,7 @@ fn show(
 
 // ---- the calls on a shop as a value
 
-// V: as E, on the shop that the arrays stand for; they become those of the shop that is answered.
+// V: as E, on the shop that the arrays stand for; they become those of the shop that is answered. Refused, they stay.
 fn edit_value(
     a: &Words,
     rights: &[u8; RIGHTS],
@@ -228,9 +175,11 @@ fn edit_value(
     let shop = shop_from(items, limits, codes, lens);
     let field = field_of(a[4]);
     let r = rights::edit(&attached, sheet, rights, shop, a[2], a[3], field, content);
-    let after = r.shop;
-    arrays_of(after, items, limits, codes, lens);
-    slots(r.refusal, items, limits, codes, lens, t);
+    if let Ok(after) = r {
+        arrays_of(after, items, limits, codes, lens);
+    }
+    let refusal = refusal_in(r.map(|_| ()));
+    slots(refusal, items, limits, codes, lens, t);
 }
 
 fn field_of(x: u32) -> Field {
@@ -241,7 +190,7 @@ fn field_of(x: u32) -> Field {
     }
 }
 
-// W: a user. The shop stays as it is.
+// W: a user. The shop stays as it is. A refused call is told as twenty empty slots.
 fn show_value(
     a: &Words,
     rights: &[u8; RIGHTS],
@@ -256,7 +205,7 @@ fn show_value(
     let mut shown_limits: [i16; SLOTS] = [0; SLOTS];
     let mut shown_codes: Codes = [0; CODES];
     let mut shown_lens: [u8; SLOTS] = [0; SLOTS];
-    let shop = r.shop;
+    let shop = r.unwrap_or(empty_shop());
     arrays_of(
         shop,
         &mut shown_items,
@@ -265,7 +214,7 @@ fn show_value(
         &mut shown_lens,
     );
     slots(
-        r.refusal,
+        refusal_in(r.map(|_| ())),
         &shown_items,
         &shown_limits,
         &shown_codes,
@@ -285,7 +234,7 @@ fn slots(
     lens: &[u8; SLOTS],
     t: &mut Answer,
 ) {
-    t[0] = refusal as u32;
+    t[0] = u32::from(refusal);
     t[1] = ints::to_bits(items[0]);
     t[2] = bits16(limits[0]);
     t[3] = wide8(lens[0]);

@@ -2,48 +2,15 @@
 #![tactic(auto)]
 
 use capi_settings::lk_settings;
-use case_lines::{
-    ANSWER, Answer, Tally, WORDS, Words, letter, line_end, low8, low16, none, numbers, row,
-    signed16, tell, total,
-};
-
-// The standard input.
-const STDIN: i32 = 0;
+use case_lines::{Answer, WORDS, Words, low8, low16, row, run_cases, signed16};
 
 fn main() {
     let mut input: [u8; 4096] = [0; 4096];
-    start(&mut input);
-}
-
-// Large arrays are not read where they are made: the proof would go through their elements.
-fn start(input: &mut [u8]) {
-    let n = io::read_full(STDIN, input);
-    cases(&input[..n]);
-}
-
-fn cases(text: &[u8]) {
-    let mut tally = none();
-    let mut at: usize = 0;
-    while at < text.len() {
-        let end = line_end(text, at);
-        tally = case(&text[at..end], tally);
-        at = end + 1;
-    }
-    total(tally);
-}
-
-fn case(line: &[u8], tally: Tally) -> Tally {
-    let mut a: Words = [0; WORDS];
-    let mut t: Answer = [0; ANSWER];
-    done(line, &mut a, &mut t, tally)
-}
-
-fn done(line: &[u8], a: &mut Words, t: &mut Answer, tally: Tally) -> Tally {
-    let colon = numbers(line, WORDS, a);
-    if letter(line) == b'S' {
-        asked(a, t);
-    }
-    tell(b"S", line, colon, a, t, tally)
+    run_cases(&mut input, b"S", |_| WORDS, |op, a, t| {
+        if op == b'S' {
+            asked(a, t);
+        }
+    });
 }
 
 // The first items of eight, of which item 1 has atc 0 and item 6 atc 1.

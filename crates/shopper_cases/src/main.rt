@@ -1,16 +1,10 @@
 // Shoppers in a shop of three slots (02, A.13): runs the cases of its standard input, one to a line, and says of each whether it answered what the line says.
 #![tactic(auto)]
 
-use case_lines::{
-    ANSWER, Answer, Tally, WORDS, Words, bits16, code, letter, line_end, low8, low16, none,
-    numbers, signed16, tell, total, wide8,
-};
+use case_lines::{Answer, WORDS, Words, bits16, code, low8, low16, run_cases, signed16, wide8};
 use model::{FLAGS, ItemId, TIMES, VARIABLES, Variables};
 use shop::{CODES, ENTRIES, SLOTS, Sheet};
 use shopper::{Shopped, WISHES, shopping};
-
-// The standard input.
-const STDIN: i32 = 0;
 
 // One wish more than there may be.
 const LIST: usize = WISHES + 1;
@@ -20,38 +14,11 @@ const TOLD: usize = 4;
 
 fn main() {
     let mut input: [u8; 8192] = [0; 8192];
-    start(&mut input);
-}
-
-// Large arrays are not read where they are made: the proof would go through their elements.
-fn start(input: &mut [u8]) {
-    let n = io::read_full(STDIN, input);
-    cases(&input[..n]);
-}
-
-fn cases(text: &[u8]) {
-    let mut tally = none();
-    let mut at: usize = 0;
-    while at < text.len() {
-        let end = line_end(text, at);
-        tally = case(&text[at..end], tally);
-        at = end + 1;
-    }
-    total(tally);
-}
-
-fn case(line: &[u8], tally: Tally) -> Tally {
-    let mut a: Words = [0; WORDS];
-    let mut t: Answer = [0; ANSWER];
-    done(line, &mut a, &mut t, tally)
-}
-
-fn done(line: &[u8], a: &mut Words, t: &mut Answer, tally: Tally) -> Tally {
-    let colon = numbers(line, WORDS, a);
-    if letter(line) == b'S' {
-        asked(a, t);
-    }
-    tell(b"S", line, colon, a, t, tally)
+    run_cases(&mut input, b"S", |_| WORDS, |op, a, t| {
+        if op == b'S' {
+            asked(a, t);
+        }
+    });
 }
 
 // ---- a shopper
@@ -83,10 +50,10 @@ fn shopped(
     let mut atcs: [u8; 1] = [0; 1];
     let r = in_shop(a, &all[0..n], &mut items, &mut atcs, answers, coins);
     put_end(r, &items, &atcs, t);
-    put_step(answers, coins, 0, t);
-    put_step(answers, coins, 1, t);
-    put_step(answers, coins, 2, t);
-    put_step(answers, coins, 3, t);
+    for i in 0..TOLD {
+        t[3 + 2 * i] = wide8(answers[i]);
+        t[4 + 2 * i] = coins[i];
+    }
 }
 
 // Slot 1 has item 4, slot 2 item 5, whose requirement is that item 7 is held.
@@ -169,12 +136,4 @@ fn put_end(r: Shopped, items: &[i16; 8], atcs: &[u8; 1], t: &mut Answer) {
     t[11] = bits16(items[3]);
     t[12] = bits16(items[4]);
     t[13] = wide8(atcs[0]);
-}
-
-fn put_step(answers: &[u8; WISHES], coins: &[u32; WISHES], i: usize, t: &mut Answer) {
-    if TOLD <= i {
-        return;
-    }
-    t[3 + 2 * i] = wide8(answers[i]);
-    t[4 + 2 * i] = coins[i];
 }

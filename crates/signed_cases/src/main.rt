@@ -3,49 +3,18 @@
 
 use capi_signed::lk_check;
 use case_lines::{
-    ANSWER, Answer, Tally, WORDS, Words, code, kind_in, letter, line_end, low8, low16, none,
-    number_in, numbers, signed16, tell, total,
+    Answer, WORDS, Words, code, kind_in, low8, low16, number_in, run_cases, signed16,
 };
 use shop::{CODES, ENTRIES, SLOTS};
 use signed_check::Finding;
 
-// The standard input.
-const STDIN: i32 = 0;
-
 fn main() {
     let mut input: [u8; 4096] = [0; 4096];
-    start(&mut input);
-}
-
-// Large arrays are not read where they are made: the proof would go through their elements.
-fn start(input: &mut [u8]) {
-    let n = io::read_full(STDIN, input);
-    cases(&input[..n]);
-}
-
-fn cases(text: &[u8]) {
-    let mut tally = none();
-    let mut at: usize = 0;
-    while at < text.len() {
-        let end = line_end(text, at);
-        tally = case(&text[at..end], tally);
-        at = end + 1;
-    }
-    total(tally);
-}
-
-fn case(line: &[u8], tally: Tally) -> Tally {
-    let mut a: Words = [0; WORDS];
-    let mut t: Answer = [0; ANSWER];
-    done(line, &mut a, &mut t, tally)
-}
-
-fn done(line: &[u8], a: &mut Words, t: &mut Answer, tally: Tally) -> Tally {
-    let colon = numbers(line, WORDS, a);
-    if letter(line) == b'S' {
-        asked(a, t);
-    }
-    tell(b"S", line, colon, a, t, tally)
+    run_cases(&mut input, b"S", |_| WORDS, |op, a, t| {
+        if op == b'S' {
+            asked(a, t);
+        }
+    });
 }
 
 // Eight items, of which item 6 has atc 1. Slot 0 has item 7, limit 3 and F2, slot 1 what the line says; the others are empty. A requirement that the line does not give is I0.
