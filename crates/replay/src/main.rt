@@ -1,22 +1,22 @@
 // Replays recorded answers of the original through the proved calls, and says how many are as recorded. rust/record/src/format.rs has the file's form.
 #![tactic(auto)]
 
-ghost use Rattle.std.specs.Prelude.{◌≡◌, ◌+◌, ◌≤◌, ◌<◌, length};
+ghost use Rattle.std.specs.Prelude.{◌≡◌, ◌+◌, ◌≤◌, ◌<◌, IfSome};
 ghost use Rattle.model.specs.Limits.{wide16};
 ghost use Rattle.replay.specs.Tally.{Fair, one};
 
 use births::start_anew;
 use compile::compile;
-use image_numbers::{Num, read_number};
-use image_read::{Image, read_script};
+use image_numbers::read_number;
+use image_read::read_script;
 use image_write::write_script;
 use memory::{
     BLOCK_WORDS, BLOCKS, Births, BlockWords, COMMAND_WORDS, CommandWords, Counts, NODE_WORDS,
     NODES, NodeWords, Values,
 };
-use model::{BlockNo, ItemId, Loader, WIDE16};
-use shop::{ENTRIES, Row, Sheet, Shop, Slot, SlotItem, empty_shop, with_slot};
-use slots_sheet::{Heading, read_heading};
+use model::{BlockNo, ItemId, Loader, Refusal, WIDE, WIDE16, refusal_in};
+use shop::{ENTRIES, Row, Sheet, Shop, Slot, empty_shop, with_slot};
+use slots_sheet::read_heading;
 
 // The standard input.
 const STDIN: i32 = 0;
@@ -24,44 +24,12 @@ const STDIN: i32 = 0;
 // The standard output.
 const STDOUT: i32 = 1;
 
-const MOST_ENTRIES: u64 = ENTRIES as u64;
-
-// The place after something malformed. Nothing can be read there, so all that follows is malformed too.
-const MALFORMED: usize = 18446744073709551615;
-
-// A number and the place after it.
-#[derive(Clone, Copy)]
-struct Number {
-    value: u64,
-    at: usize,
-}
-
-// Where a run of bytes lies, and the place after it.
-#[derive(Clone, Copy)]
-struct Run {
-    from: usize,
-    end: usize,
-    at: usize,
-}
-
-// A shop and the place after it.
-#[derive(Clone, Copy)]
-struct Given {
-    shop: Shop,
-    at: usize,
-}
-
-// A slot and the place after it.
-#[derive(Clone, Copy)]
-struct Filled {
-    slot: Slot,
-    at: usize,
-}
+// The room for the whole input.
+const ROOM: usize = 655360;
 
 // A script that was read, with its sheet.
 #[derive(Clone, Copy)]
 struct Before {
-    ok: bool,
     items: usize,
     sheet: Sheet,
     counts: Counts,
@@ -73,157 +41,113 @@ struct Listed {
     counts: Counts,
     compiles: u32,
     same: bool,
-    at: usize,
 }
 
-// Whether a case is as recorded, how many compiles it has, and the place after it.
+// Whether a case is as recorded, and how many compiles it has.
 #[derive(Clone, Copy)]
 struct Case {
     same: bool,
     compiles: u64,
-    at: usize,
 }
 
-// Over cases: how many, how many of them as recorded, the first that is not (0 where there is none), and all compiles.
+// Over cases: how many, how many of them as recorded, the first that is not, and all compiles.
 #[derive(Clone, Copy)]
 struct Tally {
     cases: u64,
     same: u64,
-    first: u64,
+    first: Option<u64>,
     compiles: u64,
-    at: usize,
 }
 
 fn main() {
-    let mut room = [0u8; 655360];
+    let mut room = [0u8; ROOM];
     read_input(&mut room);
 }
 
 // An input that fills the room may be longer than it.
-fn read_input(room: &mut [u8; 655360]) {
+fn read_input(room: &mut [u8; ROOM]) {
     let n = io::read_full(STDIN, room);
     if room.len() <= n {
-        malformed();
+        put(b"malformed\n");
         return;
     }
-    replay(&room[..n]);
+    match replay(&room[..n]) {
+        Some((parses, lists)) => {
+            parse_line(parses);
+            compile_line(lists);
+        }
+        None => put(b"malformed\n"),
+    }
 }
 
-fn replay(s: &[u8]) {
-    let parses = parse_cases(s);
-    let lists = compile_lists(s, parses.at);
-    if lists.at != s.len() {
-        malformed();
-        return;
+// The tallies of both kinds of cases; none where something is malformed or bytes are left over.
+fn replay(s: &[u8]) -> Option<(Tally, Tally)> {
+    let (parses, at) = parse_cases(s)?;
+    let (lists, at) = compile_lists(s, at)?;
+    if at == s.len() {
+        Some((parses, lists))
+    } else {
+        None
     }
-    parse_line(parses);
-    compile_line(lists);
 }
 
 // ---- numbers and runs
 
-fn number_at(s: &[u8], at: usize, most: u64) -> Number
-    ensures { result.value ≤ most }
+// A number of at most most and the place after it.
+fn number_at(s: &[u8], at: usize, most: u64) -> Option<(u64, usize)>
+    ensures { IfSome result (λ x. x.0 ≤ most) }
 {
-    let k = read_number(s, at, 4294967296);
-    match k {
-        Num::Got(v, p) => {
-            if most < v {
-                return no_number();
-            }
-            Number { value: v, at: p }
-        }
-        Num::Bad => no_number(),
+    let (value, after) = read_number(s, at, WIDE)?;
+    if value <= most {
+        Some((value, after))
+    } else {
+        None
     }
 }
 
-fn no_number() -> Number
-    ensures { result.value ≡ 0 }
-{
-    Number {
-        value: 0,
-        at: MALFORMED,
-    }
-}
-
-fn run_at(s: &[u8], at: usize) -> Run
-    ensures { (result.from ≤ result.end) × (result.end ≤ length s.now) }
-{
-    let n = number_at(s, at, 655360);
-    let from = n.at;
-    let len = n.value as usize;
-    if s.len() < from {
-        return no_run();
-    }
-    if s.len() - from < len {
-        return no_run();
-    }
-    Run {
-        from: from,
-        end: from + len,
-        at: from + len,
-    }
-}
-
-fn no_run() -> Run
-    ensures { (result.from ≡ 0) × (result.end ≡ 0) }
-{
-    Run {
-        from: 0,
-        end: 0,
-        at: MALFORMED,
-    }
+// The bytes of a run and the place after it.
+fn run_at(s: &[u8], at: usize) -> Option<(&[u8], usize)> {
+    let (len, from) = number_at(s, at, ROOM as u64)?;
+    let end = from.checked_add(len as usize)?;
+    Some((s.get(from..end)?, end))
 }
 
 // ---- parse cases
 
-fn parse_cases(s: &[u8]) -> Tally {
-    let n = number_at(s, 0, 1000000);
-    let mut t = no_cases(n.at);
-    let mut i: u64 = 0;
-    while i < n.value {
-        t = tallied(t, parse_case(s, t.at));
-        i += 1;
+fn parse_cases(s: &[u8]) -> Option<(Tally, usize)> {
+    let (n, mut at) = number_at(s, 0, 1000000)?;
+    let mut t = no_cases();
+    for _ in 0..n {
+        let (case, after) = parse_case(s, at)?;
+        t = tallied(t, case);
+        at = after;
     }
-    t
+    Some((t, at))
 }
 
 // An input of the program slots, and what it prints.
-fn parse_case(s: &[u8], at: usize) -> Case
-    ensures { result.compiles ≤ 1000 }
+fn parse_case(s: &[u8], at: usize) -> Option<(Case, usize)>
+    ensures { IfSome result (λ x. x.0.compiles ≤ 1000) }
 {
-    let input = run_at(s, at);
-    let text = run_at(s, input.at);
-    if text.at == MALFORMED {
-        return no_case();
-    }
-    Case {
-        same: prints(s, input, text),
+    let (input, at) = run_at(s, at)?;
+    let (text, at) = run_at(s, at)?;
+    let case = Case {
+        same: prints(input, text),
         compiles: 0,
-        at: text.at,
-    }
+    };
+    Some((case, at))
 }
 
-fn prints(s: &[u8], input: Run, text: Run) -> bool
-    requires { (input.from ≤ input.end) × (input.end ≤ length s.now) × (text.from ≤ text.end) × (text.end ≤ length s.now) }
-{
-    let a = input.from;
-    let b = input.end;
-    let c = text.from;
-    let d = text.end;
-    printed(&s[a..b], &s[c..d])
-}
-
-fn printed(input: &[u8], text: &[u8]) -> bool {
+fn prints(input: &[u8], text: &[u8]) -> bool {
     let mut out = [0u8; 16384];
     let m = slots_print::slots(input, &mut out);
-    check::same(&out[..m], text)
+    out[..m] == *text
 }
 
 // ---- lists of compiles
 
 // The large arrays are made here and lent.
-fn compile_lists(s: &[u8], at: usize) -> Tally {
+fn compile_lists(s: &[u8], at: usize) -> Option<(Tally, usize)> {
     let mut ws = [0u16; NODE_WORDS];
     let mut val = [0i32; NODES];
     let mut cw = [0u16; COMMAND_WORDS];
@@ -240,18 +164,18 @@ fn all_lists(
     cw: &mut CommandWords,
     bw: &mut BlockWords,
     births: &mut Births,
-) -> Tally {
-    let n = number_at(s, at, 1000000);
-    let mut t = no_cases(n.at);
-    let mut i: u64 = 0;
-    while i < n.value {
-        t = tallied(t, compile_list(s, t.at, ws, val, cw, bw, births));
-        i += 1;
+) -> Option<(Tally, usize)> {
+    let (n, mut at) = number_at(s, at, 1000000)?;
+    let mut t = no_cases();
+    for _ in 0..n {
+        let (case, after) = compile_list(s, at, ws, val, cw, bw, births)?;
+        t = tallied(t, case);
+        at = after;
     }
-    t
+    Some((t, at))
 }
 
-// The script before, the compiles with their answers, the image after.
+// The script before, the compiles with their answers, the image after. A script that is refused is not as recorded.
 fn compile_list(
     s: &[u8],
     at: usize,
@@ -260,107 +184,68 @@ fn compile_list(
     cw: &mut CommandWords,
     bw: &mut BlockWords,
     births: &mut Births,
-) -> Case
-    ensures { result.compiles ≤ 1000 }
+) -> Option<(Case, usize)>
+    ensures { IfSome result (λ x. x.0.compiles ≤ 1000) }
 {
     let mut attached = [0u8; 512];
-    let run = run_at(s, at);
-    let before = before_list(s, run, &mut attached, ws, val, cw, bw);
+    let (run, at) = run_at(s, at)?;
+    let read = before_list(run, &mut attached, ws, val, cw, bw);
     start_anew(births);
-    let n = number_at(s, run.at, 1000);
-    let listed = compiles(s, n, &attached, before, ws, val, cw, bw, births);
-    let after = run_at(s, listed.at);
-    if after.at == MALFORMED {
-        return no_case();
-    }
-    Case {
-        same: listed.same && writes(s, after, ws, val, cw, bw, listed.counts),
-        compiles: n.value,
-        at: after.at,
-    }
+    let (n, at) = number_at(s, at, 1000)?;
+    let before = read.unwrap_or(nothing());
+    let start = Listed {
+        counts: before.counts,
+        compiles: 0,
+        same: read.is_ok(),
+    };
+    let items = attached.get(..before.items)?;
+    let (listed, at) = compiles(s, at, n, items, before.sheet, start, ws, val, cw, bw, births)?;
+    let (after, at) = run_at(s, at)?;
+    let case = Case {
+        same: listed.same && writes(after, ws, val, cw, bw, listed.counts),
+        compiles: n,
+    };
+    Some((case, at))
 }
 
-// Sheet and script from an input of the program slots. One that is refused is not as recorded.
+// Sheet and script from an input of the program slots.
 fn before_list(
-    s: &[u8],
-    run: Run,
+    run: &[u8],
     attached: &mut [u8; 512],
     ws: &mut NodeWords,
     val: &mut Values,
     cw: &mut CommandWords,
     bw: &mut BlockWords,
-) -> Before
-    requires { (run.from ≤ run.end) × (run.end ≤ length s.now) }
-{
-    let a = run.from;
-    let b = run.end;
-    let h = read_heading(&s[a..b], attached);
-    let k = read_script(&s[a..b], h.at, ws, val, cw, bw);
-    match k {
-        Image::Read(counts) => before_of(h, counts, h.refusal == 0),
-        Image::No(_) => before_of(h, no_counts(), false),
-    }
-}
-
-fn before_of(h: Heading, counts: Counts, ok: bool) -> Before {
-    let sheet = h.sheet;
-    Before {
-        ok: ok,
-        items: h.items as usize,
-        sheet: sheet,
+) -> Result<Before, Refusal> {
+    let heading = read_heading(run, attached)?;
+    let counts = read_script(run, heading.at, ws, val, cw, bw)?;
+    Ok(Before {
+        items: usize::from(heading.items),
+        sheet: heading.sheet,
         counts: counts,
+    })
+}
+
+fn nothing() -> Before {
+    Before {
+        items: 0,
+        sheet: Sheet {
+            atcs: 0,
+            timer5: ItemId(0),
+            timer10: ItemId(0),
+            timer15: ItemId(0),
+        },
+        counts: Counts {
+            nodes: 0,
+            commands: 0,
+            blocks: 0,
+        },
     }
 }
 
-fn no_counts() -> Counts {
-    Counts {
-        nodes: 0,
-        commands: 0,
-        blocks: 0,
-    }
-}
-
-// The items' part of the array is lent; no more than the array has.
 fn compiles(
     s: &[u8],
-    n: Number,
-    attached: &[u8; 512],
-    before: Before,
-    ws: &mut NodeWords,
-    val: &mut Values,
-    cw: &mut CommandWords,
-    bw: &mut BlockWords,
-    births: &mut Births,
-) -> Listed {
-    let all: &[u8] = attached;
-    let items = before.items;
-    let sheet = before.sheet;
-    let counts = before.counts;
-    let start = Listed {
-        counts: counts,
-        compiles: 0,
-        same: before.ok,
-        at: n.at,
-    };
-    if all.len() < items {
-        return start;
-    }
-    all_compiles(
-        s,
-        n.value,
-        &all[..items],
-        sheet,
-        start,
-        ws,
-        val,
-        cw,
-        bw,
-        births,
-    )
-}
-
-fn all_compiles(
-    s: &[u8],
+    at: usize,
     n: u64,
     attached: &[u8],
     sheet: Sheet,
@@ -370,19 +255,21 @@ fn all_compiles(
     cw: &mut CommandWords,
     bw: &mut BlockWords,
     births: &mut Births,
-) -> Listed {
+) -> Option<(Listed, usize)> {
     let mut t = start;
-    let mut i: u64 = 0;
-    while i < n {
-        t = one_compile(s, attached, sheet, t, ws, val, cw, bw, births);
-        i += 1;
+    let mut place = at;
+    for _ in 0..n {
+        let (next, after) = one_compile(s, place, attached, sheet, t, ws, val, cw, bw, births)?;
+        t = next;
+        place = after;
     }
-    t
+    Some((t, place))
 }
 
 // Setup number, shop, answer. Recorded compiles are for the disc.
 fn one_compile(
     s: &[u8],
+    at: usize,
     attached: &[u8],
     sheet: Sheet,
     t: Listed,
@@ -391,13 +278,12 @@ fn one_compile(
     cw: &mut CommandWords,
     bw: &mut BlockWords,
     births: &mut Births,
-) -> Listed {
-    let setup = number_at(s, t.at, 4294967295);
-    let given = shop_at(s, setup.at);
-    let answer = number_at(s, given.at, 255);
-    let counts = t.counts;
-    let shop = given.shop;
-    let c = compile(
+) -> Option<(Listed, usize)> {
+    let (setup, at) = number_at(s, at, WIDE - 1)?;
+    let (shop, at) = shop_at(s, at)?;
+    let (answer, at) = number_at(s, at, 255)?;
+    let start = BlockNo(setup as u32);
+    let done = compile(
         attached,
         sheet,
         ws,
@@ -405,99 +291,79 @@ fn one_compile(
         cw,
         bw,
         births,
-        counts,
+        t.counts,
         t.compiles,
         Loader::Disc,
-        BlockNo(setup.value as u32),
+        start,
         shop,
     );
-    let left = c.counts;
-    Listed {
-        counts: left,
-        compiles: c.compiles,
-        same: t.same && c.refusal as u64 == answer.value,
-        at: answer.at,
-    }
+    let same = t.same && u64::from(refusal_in(done.map(|_| ()))) == answer;
+    let listed = match done {
+        Ok(c) => Listed {
+            counts: c.counts,
+            compiles: c.compiles,
+            same: same,
+        },
+        Err(_) => Listed {
+            counts: t.counts,
+            compiles: t.compiles,
+            same: same,
+        },
+    };
+    Some((listed, at))
 }
 
 fn writes(
-    s: &[u8],
-    after: Run,
-    ws: &NodeWords,
-    val: &Values,
-    cw: &CommandWords,
-    bw: &BlockWords,
-    counts: Counts,
-) -> bool
-    requires { (after.from ≤ after.end) × (after.end ≤ length s.now) }
-{
-    let mut out = [0u8; 131072];
-    let a = after.from;
-    let b = after.end;
-    written(&s[a..b], ws, val, cw, bw, counts, &mut out)
-}
-
-fn written(
     image: &[u8],
     ws: &NodeWords,
     val: &Values,
     cw: &CommandWords,
     bw: &BlockWords,
     counts: Counts,
-    out: &mut [u8],
 ) -> bool {
-    let w = write_script(ws, val, cw, bw, counts, out);
-    let len = w.len;
-    if w.refusal != 0 {
-        return false;
+    let mut out = [0u8; 131072];
+    match write_script(ws, val, cw, bw, counts, &mut out) {
+        Ok(len) => out.get(..len) == Some(image),
+        Err(_) => false,
     }
-    if out.len() < len {
-        return false;
-    }
-    check::same(&out[..len], image)
 }
 
 // ---- a shop
 
 // A slot past the last is dropped, as the original does.
-fn shop_at(s: &[u8], at: usize) -> Given {
-    let n = number_at(s, at, 255);
+fn shop_at(s: &[u8], at: usize) -> Option<(Shop, usize)> {
+    let (n, mut at) = number_at(s, at, 255)?;
     let mut shop = empty_shop();
-    let mut p = n.at;
-    let mut i: usize = 0;
-    while i < n.value as usize {
-        let f = slot_at(s, p);
-        let slot = f.slot;
+    for i in 0..n as usize {
+        let (slot, after) = slot_at(s, at)?;
         shop = with_slot(shop, i, slot);
-        p = f.at;
-        i += 1;
+        at = after;
     }
-    Given { shop: shop, at: p }
+    Some((shop, at))
 }
 
 // Item + 1 or 0 for none, limit, how many entries, and those.
-fn slot_at(s: &[u8], at: usize) -> Filled {
-    let mut codes = [0u64; ENTRIES];
-    let item = number_at(s, at, WIDE16);
-    let limit = number_at(s, item.at, 65535);
-    let n = number_at(s, limit.at, 255);
-    let p = entries_at(s, n, &mut codes);
+fn slot_at(s: &[u8], at: usize) -> Option<(Slot, usize)> {
+    let (item, at) = number_at(s, at, WIDE16)?;
+    let (limit, at) = number_at(s, at, WIDE16 - 1)?;
+    let (n, at) = number_at(s, at, 255)?;
+    let (codes, at) = entries_at(s, at, n as usize)?;
     let slot = Slot {
-        item: item_of(item.value),
-        limit: limit_of(limit.value),
+        item: item_of(item),
+        limit: limit_of(limit),
         requirements: codes,
-        len: n.value as u8,
+        len: n as u8,
     };
-    Filled { slot: slot, at: p }
+    Some((slot, at))
 }
 
-fn item_of(x: u64) -> SlotItem
+fn item_of(x: u64) -> Option<ItemId>
     requires { x ≤ wide16 }
 {
     if x == 0 {
-        return SlotItem::Nothing;
+        return None;
     }
-    SlotItem::Of(ItemId((x - 1) as u16))
+    Some(ItemId((x - 1) as u16))
 }
 
 // A signed number is twice itself, or twice what it is below 0, less one.
@@ -511,23 +377,18 @@ fn limit_of(x: u64) -> i16
 }
 
 // Entries past the array are read and dropped: their number alone has the shop refused.
-fn entries_at(s: &[u8], n: Number, codes: &mut Row) -> usize {
-    let mut p = n.at;
-    let mut i: u64 = 0;
-    while i < n.value {
-        let kind = number_at(s, p, 5);
-        let x = number_at(s, kind.at, 4294967295);
-        put_code(codes, i, code_of(kind.value, x.value));
-        p = x.at;
-        i += 1;
+fn entries_at(s: &[u8], at: usize, n: usize) -> Option<(Row, usize)> {
+    let mut codes: Row = [0; ENTRIES];
+    let mut place = at;
+    for i in 0..n {
+        let (kind, after) = number_at(s, place, 5)?;
+        let (x, after) = number_at(s, after, WIDE - 1)?;
+        if let Some(code) = codes.get_mut(i) {
+            *code = code_of(kind, x);
+        }
+        place = after;
     }
-    p
-}
-
-fn put_code(codes: &mut Row, i: u64, code: u64) {
-    if i < MOST_ENTRIES {
-        codes[i as usize] = code;
-    }
+    Some((codes, place))
 }
 
 // Kind * 2^32 + number + 2^31.
@@ -542,25 +403,14 @@ fn code_of(kind: u64, x: u64) -> u64
 
 // ---- tallies
 
-fn no_case() -> Case
-    ensures { result.compiles ≤ 1000 }
-{
-    Case {
-        same: false,
-        compiles: 0,
-        at: MALFORMED,
-    }
-}
-
-fn no_cases(at: usize) -> Tally
+fn no_cases() -> Tally
     ensures { Fair 0 result }
 {
     Tally {
         cases: 0,
         same: 0,
-        first: 0,
+        first: None,
         compiles: 0,
-        at: at,
     }
 }
 
@@ -569,30 +419,13 @@ fn tallied(t: Tally, case: Case) -> Tally
     ensures { Fair (t.cases + 1) result × (result.same ≡ t.same + one case.same) }
 {
     let cases = t.cases + 1;
-    let compiles = t.compiles + case.compiles;
-    if case.same {
-        return Tally {
-            cases: cases,
-            same: t.same + 1,
-            first: t.first,
-            compiles: compiles,
-            at: case.at,
-        };
-    }
+    let first = if case.same { None } else { Some(cases) };
     Tally {
         cases: cases,
-        same: t.same,
-        first: first_of(t.first, cases),
-        compiles: compiles,
-        at: case.at,
+        same: t.same + u64::from(case.same),
+        first: t.first.or(first),
+        compiles: t.compiles + case.compiles,
     }
-}
-
-fn first_of(first: u64, now: u64) -> u64 {
-    if first == 0 {
-        return now;
-    }
-    first
 }
 
 // ---- text
@@ -612,15 +445,11 @@ fn compile_line(t: Tally) {
 
 fn agreed(t: Tally) {
     counted(t.same, b" as recorded");
-    if t.first != 0 {
+    if let Some(first) = t.first {
         put(b", the first that differs is ");
-        io::print_decimal(STDOUT, t.first);
+        io::print_decimal(STDOUT, first);
     }
     put(b"\n");
-}
-
-fn malformed() {
-    put(b"malformed\n");
 }
 
 fn counted(n: u64, what: &[u8]) {
