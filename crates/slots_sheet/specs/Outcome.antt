@@ -1,6 +1,8 @@
 -- What reading the sheet and the setup number promises (01, Image and printer and Refusals 1 and 2). Assumes nothing: these are definitions.
-use Rattle.std.specs.Prelude.{List, ℕ, zero, suc, ◌≤◌, length, take, drop, replicate}
+use Rattle.std.specs.Prelude.{List, ℕ, ◌≤◌, length, take, drop, replicate, Result, Ok, Err}
 use Rattle.model.specs.Limits.{most_items, wide}
+use Rattle.model.specs.Refusals.{refusal_number}
+use Rattle.model.specs.declared.Refusal.{Refusal}
 use Rattle.model.specs.Reading.{Answer, got, refused, onward, number}
 use Rattle.model.specs.Sheet
 use Rattle.model.specs.Sheet.{item_count}
@@ -17,19 +19,15 @@ pub record Head : Type 0 where
 unfoldable pub read_head : List ℕ → Answer Head
 read_head s = onward (read_sheet s) (λ h r. onward (number wide r) (λ b t. got (record { sheet = h; setup = b }) t))
 
--- a refused read hands out nothing
-abbrev pub no_heading : ℕ → Heading
-no_heading e = record { refusal = e; items = 0; sheet = record { atcs = 0; timer5 = record { 0 = 0 }; timer10 = record { 0 = 0 }; timer15 = record { 0 = 0 } }; setup = 0; at = 0 }
-
 -- what was read with the bytes left and what the array holds past the items, or a refusal with what it leaves in the array
 pub data Outcome : Type 0 where
   held : Head → List ℕ → List ℕ → Outcome
-  nothing : Heading → List ℕ → Outcome
+  nothing : ℕ → List ℕ → Outcome
 
 -- what lies past the items stays; on a refusal the array is zero
 abbrev pub into : List ℕ → Answer Head → Outcome
 into ks (got h r) = held h r (drop (item_count h.sheet) ks)
-into ks (refused e) = nothing (no_heading e) (replicate most_items 0)
+into ks (refused e) = nothing e (replicate most_items 0)
 
 unfoldable pub read_into : List ℕ → List ℕ → Outcome
 read_into s ks = into ks (read_head s)
@@ -38,13 +36,10 @@ read_into s ks = into ks (read_head s)
 abbrev pub head_of : Heading → List ℕ → Head
 head_of r ks = record { sheet = sheet_of (take r.items ks) r.sheet; setup = r.setup }
 
-abbrev pub by : ℕ → List ℕ → Heading → List ℕ → Outcome
-by zero s r ks = held (head_of r ks) (drop r.at s) (drop r.items ks)
-by (suc e) s r ks = nothing r ks
-
 -- what the program answers and leaves in its array
-unfoldable pub outcome : List ℕ → Heading → List ℕ → Outcome
-outcome s r ks = by r.refusal s r ks
+unfoldable pub outcome : List ℕ → Result Heading Refusal → List ℕ → Outcome
+outcome s (Ok r) ks = held (head_of r ks) (drop r.at s) (drop r.items ks)
+outcome s (Err e) ks = nothing (refusal_number e) ks
 
 -- the place lies in the bytes, and the items in the array, so that their part of it can be lent
 pub record Within (s : List ℕ) (r : Heading) (ks : List ℕ) : Type 0 where

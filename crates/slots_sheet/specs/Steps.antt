@@ -1,8 +1,9 @@
 -- The steps of reading a sheet: one number judged as read, the items' atcs one by one, the three timers. Assumes nothing.
-use Rattle.std.specs.Prelude.{◌≡◌, refl, Bool, true, false, not, ◌&&◌, leb, eqb, length, take, set}
+use Rattle.std.specs.Prelude.{◌≡◌, refl, Bool, true, false, not, ◌&&◌, leb, eqb, length, take, set, Result, Ok, Err, Some, None}
+use Rattle.std.specs.Prelude as prelude
+use Rattle.std.proofs.Math.Option.{Option}
 use Rattle.std.proofs.Common.{ap, sym, ◌∙◌, add-one, le-leb, lt-ltb, le-ltb, ltb-true, leb-true, eq-eqb, ne_eqb, length-set, take-suc-set, drop-set-lt, drop-drop}
 use Rattle.std.proofs.Math.Path.{subst}
-use Rattle.std.proofs.Math.Option.{Option}
 use mathlib.Core.List.{List, [], ◌∷◌, ◌++◌, map, append-nil, map-append}
 use Prim.Native.Nat.{ℕ, suc, ◌+◌, ◌-◌, ◌≤◌, ◌<◌}
 use native.Mathlib.Omega.{arith}
@@ -11,6 +12,8 @@ use Rattle.std.proofs.Math.Dec.{ltb, leb-zero}
 use Rattle.std.proofs.Math.ListN.{drop}
 use Rattle.model.specs.Limits.{most_items, wide}
 use Rattle.model.specs.Refusal.{bad_sheet, bad_image}
+use Rattle.model.specs.Refusals.{refusal_number}
+use Rattle.model.specs.declared.Refusal.{Refusal}
 use Rattle.model.specs.Reading.{Answer, got, refused, onward, number}
 use Rattle.model.proofs.Laws.Reading.{refused≢got}
 use Rattle.model.proofs.Laws.Checks.{and_right}
@@ -18,45 +21,43 @@ use Rattle.model.specs.Sheet
 use Rattle.model.specs.Printer.{must, atc_entry, read_atcs, read_timers}
 use Rattle.image_numbers.specs.Told.{Told}
 use Rattle.image_numbers.specs.Answers.{seen_more, seen_none}
-use Rattle.image_numbers.specs.declared.Num.{Num}
-use Rattle.image_numbers.specs.declared.Num.TheVariants.{Got, Bad}
-use Rattle.slots_sheet.specs.Told.{Either, took, left, no_entry, within, timer, judged, Passed, ToldEntry, AtcsRead, TimersRead}
-use Rattle.slots_sheet.specs.declared.Entry.{Entry}
-
--- ---- by a refusal's number
-
-pub accepted : {n : ℕ} {A B : Type 0} → n ≡ 0 → Either n A B → A
-accepted e (took z x) = x
-accepted e (left z x) = absurd (z e)
-
-pub rejected : {n : ℕ} {A B : Type 0} → (n ≡ 0 → ⊥) → Either n A B → B
-rejected e (took z x) = absurd (e z)
-rejected e (left z x) = x
-
--- of a number as it was told: read, or refused
-pub entry_read : (s : List ℕ) (at : ℕ) (ok : ℕ → Bool) (r : Entry) → r.refusal ≡ 0 → ToldEntry s at ok r → Passed s at ok r.value r.at
-entry_read s at ok r e t = accepted e t
-
-pub entry_refused : (s : List ℕ) (at : ℕ) (ok : ℕ → Bool) (r : Entry) → (r.refusal ≡ 0 → ⊥) → ToldEntry s at ok r → judged ok (drop at s) ≡ refused r.refusal
-entry_refused s at ok r e t = rejected e t
+use Rattle.slots_sheet.specs.Told.{within, timer, judged, Passed, SetupRead, ToldSetup, ToldEntry, AtcsRead, TimersRead}
 
 -- ---- one number
 
-module _ (s : List ℕ) (at : ℕ) (ok : ℕ → Bool) (r : Num) (t : Told s r (number wide (drop at s))) where
-  pub entry_bad : r ≡ Bad → (x : Entry) → x ≡ no_entry bad_image → ToldEntry s at ok x
+-- a number as image_numbers tells it
+module _ (s : List ℕ) (at : ℕ) {r : prelude.Option (ℕ × ℕ)} (t : Told s r (number wide (drop at s))) where
+  pub number_found : {x : ℕ × ℕ} → r ≡ Some x → SetupRead s at x.0 x.1
   unfolding Told
-  entry_bad e x q = rw q (left (λ z. omega arith) (let a : number wide (drop at s) ≡ refused bad_image = rw e at t in rw a))
+  number_found w = let u = rw w at t in record { read = u.0; place = u.1 }
 
-  module _ (v p : ℕ) (e : r ≡ Got v p) where
-    read_is : (number wide (drop at s) ≡ got v (drop p s)) × (p ≤ length s)
-    unfolding Told
-    read_is = rw e at t
+  pub number_bad : r ≡ None → number wide (drop at s) ≡ refused bad_image
+  unfolding Told
+  number_bad w = rw w at t
 
-    pub entry_no : ok v ≡ false → (x : Entry) → x ≡ no_entry bad_sheet → ToldEntry s at ok x
-    entry_no h x q = rw q (left (λ z. omega arith) (rw (read_is.0, h)))
+-- a number as it was told: read, or refused
+module _ (s : List ℕ) (at : ℕ) {r : Result (ℕ × ℕ) Refusal} (t : ToldSetup s at r) where
+  pub number_read : {x : ℕ × ℕ} → r ≡ Ok x → SetupRead s at x.0 x.1
+  number_read w = rw w at t
 
-    pub entry_got : ok v ≡ true → ToldEntry s at ok (record { refusal = 0; value = v; at = p })
-    entry_got h = took refl (record { read = read_is.0; good = h; place = read_is.1 })
+  pub number_refused : {e : Refusal} → r ≡ Err e → number wide (drop at s) ≡ refused (refusal_number e)
+  number_refused w = rw w at t
+
+  pub judged_refused : (ok : ℕ → Bool) {e : Refusal} → r ≡ Err e → judged ok (drop at s) ≡ refused (refusal_number e)
+  judged_refused ok w = rw (number_refused w)
+
+  pub entry_no : (ok : ℕ → Bool) {x : ℕ × ℕ} → r ≡ Ok x → ok x.0 ≡ false → judged ok (drop at s) ≡ refused bad_sheet
+  entry_no ok w h = rw ((number_read w).read, h)
+
+  pub entry_got : (ok : ℕ → Bool) {x : ℕ × ℕ} → r ≡ Ok x → ok x.0 ≡ true → Passed s at ok x.0 x.1
+  entry_got ok w h = let u = number_read w in record { read = u.read; good = h; place = u.place }
+
+module _ (s : List ℕ) (at : ℕ) (ok : ℕ → Bool) {r : Result (ℕ × ℕ) Refusal} (t : ToldEntry s at ok r) where
+  pub entry_read : {x : ℕ × ℕ} → r ≡ Ok x → Passed s at ok x.0 x.1
+  entry_read w = rw w at t
+
+  pub entry_refused : {e : Refusal} → r ≡ Err e → judged ok (drop at s) ≡ refused (refusal_number e)
+  entry_refused w = rw w at t
 
 -- what the tests of the definitions are, for a number that was read
 pub within_low : (a b v : ℕ) → v < a → within a b v ≡ false
@@ -207,7 +208,7 @@ module _ (s : List ℕ) (at n : ℕ) where
           at_ten xs m l
           ∙ judged_on (timer n a b) (λ k. ltb k (length xs) && (not (eqb k a) && not (eqb k b))) (fifteen_same xs n l a b) (λ k u. got (record { atc_of = xs; atc_count = m; timer5 = a; timer10 = b; timer15 = k }) u) (drop q s) e h
 
-      pub timers_got : (c r : ℕ) → Passed s q (timer n a b) c r → TimersRead s at n (record { refusal = 0; timer5 = a; timer10 = b; timer15 = c; at = r })
+      pub timers_got : (c r : ℕ) → Passed s q (timer n a b) c r → TimersRead s at n (record { timer5 = a; timer10 = b; timer15 = c; at = r })
       timers_got c r z = record {
         read = λ xs m l. at_ten xs m l ∙ passed_on (timer n a b) (λ k. ltb k (length xs) && (not (eqb k a) && not (eqb k b))) (fifteen_same xs n l a b) (λ k u. got (record { atc_of = xs; atc_count = m; timer5 = a; timer10 = b; timer15 = k }) u) z;
         place = z.place;

@@ -1,45 +1,30 @@
 -- The steps that read the sheet and the setup number, and what the promise says to a caller. Assumes nothing.
-use Rattle.std.specs.Prelude.{◌≡◌, refl, List, map, ℕ, zero, suc, ◌≤◌, ◌<◌, leb, length, take, drop, replicate}
+use Rattle.std.specs.Result.{is_err}
+use Rattle.std.specs.Prelude.{◌≡◌, refl, true, false, IfOk, List, map, ℕ, ◌≤◌, ◌<◌, leb, length, take, drop, replicate, Result, Ok, Err}
 use Rattle.std.proofs.Math.Path.{ap, sym}
 use Rattle.std.proofs.Common.{◌∙◌, arith, length-take-le}
 use Rattle.std.proofs.Math.Option.{Option}
 use Rattle.std.proofs.lemmas.List.{length-map}
 use Rattle.model.specs.Limits.{fewest_items, most_items, most_atcs, wide}
-use Rattle.model.specs.Refusal.{bad_image}
 use Rattle.model.specs.Reading.{Answer, got, refused, onward, number}
 use Rattle.model.proofs.Laws.Reading.{number_low}
 use Rattle.model.specs.Sheet
 use Rattle.model.specs.Printer.{must, atc_entry, read_atcs, read_timers, read_sheet, read_input, Input}
 use Rattle.model.specs.Image.{read_image}
 use Rattle.shop.specs.Shapes.{sheet_of}
-use Rattle.image_numbers.specs.Told.{Told}
-use Rattle.image_numbers.specs.declared.Num.{Num}
-use Rattle.image_numbers.specs.declared.Num.TheVariants.{Got, Bad}
-use Rattle.slots_sheet.specs.Outcome.{Head, head_of, read_head, no_heading, held, nothing, by, into, outcome, read_into, Within}
-use Rattle.slots_sheet.specs.Told.{took, left, within, judged, Passed, SetupRead, ToldSetup, ToldAtcs, ItemsRead, timed, TimersRead, HeadRead, ToldHead}
-use Rattle.slots_sheet.specs.Steps.{accepted, rejected, within_most, passed_on, judged_on, from_zero}
-use Rattle.slots_sheet.specs.declared.Entry.{Entry}
+use Rattle.model.specs.Refusals.{refusal_number}
+use Rattle.model.specs.declared.Refusal.{Refusal}
+use Rattle.slots_sheet.specs.Outcome.{Head, head_of, read_head, held, nothing, into, outcome, read_into, Within}
+use Rattle.slots_sheet.specs.Told.{within, judged, Passed, SetupRead, AtcsRead, ToldAtcs, ItemsRead, ToldItems, timed, TimersRead, ToldTimers, HeadRead, ToldHead}
+use Rattle.slots_sheet.specs.Steps.{within_most, passed_on, judged_on, from_zero}
 use Rattle.slots_sheet.specs.declared.Items.{Items}
 use Rattle.slots_sheet.specs.declared.Timers.{Timers}
 use Rattle.slots_sheet.specs.declared.Heading.{Heading}
 
 -- ---- the setup number
 
-module _ (s : List ℕ) (at : ℕ) (r : Num) (t : Told s r (number wide (drop at s))) where
-  pub setup_bad : r ≡ Bad → ToldSetup s at (record { refusal = bad_image; number = 0; at = 0 })
-  unfolding Told
-  setup_bad e = left (λ z. omega arith) (rw e at t)
-
-  module _ (v p : ℕ) (e : r ≡ Got v p) where
-    setup_is : (number wide (drop at s) ≡ got v (drop p s)) × (p ≤ length s)
-    unfolding Told
-    setup_is = rw e at t
-
-    pub setup_low : v < wide
-    setup_low = number_low wide (drop at s) v (drop p s) setup_is.0
-
-    pub setup_got : ToldSetup s at (record { refusal = 0; number = v; at = p })
-    setup_got = took refl (record { read = setup_is.0; place = setup_is.1 })
+pub setup_low : (s : List ℕ) (at v p : ℕ) → SetupRead s at v p → v < wide
+setup_low s at v p u = number_low wide (drop at s) v (drop p s) u.read
 
 -- ---- items and atcs
 
@@ -64,11 +49,11 @@ module _ (s : List ℕ) where
       at_atcs : read_sheet s ≡ on_items n m (drop q s)
       at_atcs = at_items ∙ passed_on (within 0 most_atcs) (λ k. leb k most_atcs) (from_zero most_atcs) (on_items n) y
 
-      pub atcs_refused : (ks : List ℕ) (r : Entry) (ks' : List ℕ) → (r.refusal ≡ 0 → ⊥) → ToldAtcs s q n m ks r ks' → read_sheet s ≡ refused r.refusal
-      atcs_refused ks r ks' z t = at_atcs ∙ rw (rejected z t)
+      pub atcs_refused : (e : ℕ) → read_atcs n m (drop q s) ≡ refused e → read_sheet s ≡ refused e
+      atcs_refused e t = at_atcs ∙ rw t
 
-      pub items_got : (ks : List ℕ) (r : Entry) (ks' : List ℕ) → r.refusal ≡ 0 → ToldAtcs s q n m ks r ks' → ItemsRead s ks (record { refusal = 0; items = n; atcs = m; at = r.at }) ks'
-      items_got ks r ks' z t = let u = accepted z t in record { read = at_atcs ∙ rw u.read; rest = u.rest; place = u.place; size = u.size; few = within_most fewest_items most_items n x.good }
+      pub items_got : (ks : List ℕ) (p' : ℕ) (ks' : List ℕ) → AtcsRead s q n m ks p' ks' → ItemsRead s ks (record { items = n; atcs = m; at = p' }) ks'
+      items_got ks p' ks' u = record { read = at_atcs ∙ rw u.read; rest = u.rest; place = u.place; size = u.size; few = within_most fewest_items most_items n x.good }
 
 -- ---- the whole
 
@@ -94,44 +79,58 @@ module _ (s ks : List ℕ) where
       setup_no e h = rw (sheet_is, h)
 
       pub head_got : (b p : ℕ) → SetupRead s t.at b p
-          → HeadRead s ks (record { refusal = 0; items = i.items; sheet = record { atcs = i.atcs; timer5 = record { 0 = t.timer5 }; timer10 = record { 0 = t.timer10 }; timer15 = record { 0 = t.timer15 } }; setup = b; at = p }) ks'
+          → HeadRead s ks (record { items = i.items; sheet = record { atcs = i.atcs; timer5 = record { 0 = t.timer5 }; timer10 = record { 0 = t.timer10 }; timer15 = record { 0 = t.timer15 } }; setup = b; at = p }) ks'
       unfolding read_head sheet_of
       head_got b p w = record { read = rw (sheet_is, w.read); rest = u.rest; place = w.place; size = u.size; few = u.few }
 
-  pub told_no : (e : ℕ) → (e ≡ 0 → ⊥) → read_head s ≡ refused e → (x : Heading) → x ≡ no_heading e → (ks' : List ℕ) → ToldHead s ks x ks'
-  told_no e d h x q ks' = rw q (left d (h, refl))
+-- ---- what an answer says, by its case
+
+module _ (s ks : List ℕ) (n m q : ℕ) (ks' : List ℕ) {r : Result ℕ Refusal} (t : ToldAtcs s q n m ks r ks') where
+  pub atcs_got : {p : ℕ} → r ≡ Ok p → AtcsRead s q n m ks p ks'
+  atcs_got w = rw w at t
+
+  pub atcs_not : {e : Refusal} → r ≡ Err e → read_atcs n m (drop q s) ≡ refused (refusal_number e)
+  atcs_not w = rw w at t
+
+module _ (s ks ks' : List ℕ) {r : Result Items Refusal} (t : ToldItems s ks r ks') where
+  pub items_are : {i : Items} → r ≡ Ok i → ItemsRead s ks i ks'
+  items_are w = rw w at t
+
+  pub items_not : {e : Refusal} → r ≡ Err e → read_sheet s ≡ refused (refusal_number e)
+  items_not w = rw w at t
+
+module _ (s : List ℕ) (at n : ℕ) {r : Result Timers Refusal} (t : ToldTimers s at n r) where
+  pub timers_are : {i : Timers} → r ≡ Ok i → TimersRead s at n i
+  timers_are w = rw w at t
+
+  pub timers_not : {e : Refusal} → r ≡ Err e → (xs : List (Option ℕ)) (m : ℕ) → length xs ≡ n → read_timers xs m (drop at s) ≡ refused (refusal_number e)
+  timers_not w = rw w at t
 
 -- ---- the promise
 
-by_no : (n : ℕ) (s : List ℕ) (r : Heading) (ks : List ℕ) → (n ≡ 0 → ⊥) → by n s r ks ≡ nothing r ks
-by_no zero s r ks e = absurd (e refl)
-by_no (suc n) s r ks e = refl
+module _ (s ks : List ℕ) where
+  pub outcome_held : (r : Heading) (ks' : List ℕ) → HeadRead s ks r ks' → outcome s (Ok r) ks' ≡ read_into s ks
+  unfolding outcome read_into sheet_of
+  outcome_held r ks' u = rw (u.read, many r.items ks' u.size, u.rest)
 
-module _ (s ks : List ℕ) (r : Heading) (ks' : List ℕ) (t : ToldHead s ks r ks') where
-  module _ (e : r.refusal ≡ 0) where
-    found : HeadRead s ks r ks'
-    found = accepted e t
+  pub held_within : (r : Heading) (ks' : List ℕ) → HeadRead s ks r ks' → Within s r ks'
+  held_within r ks' u = record { place = u.place; few = u.few; lent = u.size }
 
-    pub outcome_held : outcome s r ks' ≡ read_into s ks
-    unfolding outcome read_into sheet_of
-    outcome_held = rw (found.read, e, many r.items ks' found.size, found.rest)
+  pub outcome_nothing : (e : Refusal) → read_head s ≡ refused (refusal_number e) → outcome s (Err e) (replicate most_items 0) ≡ read_into s ks
+  unfolding outcome read_into
+  outcome_nothing e h = rw h
 
-    pub held_within : Within s r ks'
-    held_within = record { place = found.place; few = found.few; lent = found.size }
+  pub outcome_kept : (r : Result Heading Refusal) (ks' : List ℕ) → ToldHead s ks r ks' → is_err r ≡ false → outcome s r ks' ≡ read_into s ks
+  outcome_kept (Ok h) ks' t e = outcome_held h ks' t
+  outcome_kept (Err x) ks' t e = cc
 
-  module _ (e : r.refusal ≡ 0 → ⊥) where
-    lost : (read_head s ≡ refused r.refusal) × (r ≡ no_heading r.refusal)
-    lost = rejected e t
+  pub outcome_cleared : (r : Result Heading Refusal) (ks' : List ℕ) → ToldHead s ks r ks' → is_err r ≡ true → outcome s r (replicate most_items 0) ≡ read_into s ks
+  outcome_cleared (Ok h) ks' t e = cc
+  outcome_cleared (Err x) ks' t e = outcome_nothing x t
 
-    pub outcome_nothing : outcome s r (replicate most_items 0) ≡ read_into s ks
-    unfolding outcome read_into
-    outcome_nothing =
-        by_no r.refusal s r (replicate most_items 0) e
-        ∙ ap (λ (x : Heading). nothing x (replicate most_items 0)) lost.1
-        ∙ sym (ap (into ks) lost.0)
-
-    pub nothing_within : (ls : List ℕ) → Within s r ls
-    nothing_within ls = rw lost.1 (record { place = omega arith; few = omega arith; lent = omega arith })
+  pub kept_within : (r : Result Heading Refusal) (ks' : List ℕ) → ToldHead s ks r ks' → IfOk r (λ h. Within s h ks')
+  kept_within (Ok h) ks' t = held_within h ks' t
+  kept_within (Err x) ks' t = tt
 
 -- .. and what it says to a caller
 
@@ -139,18 +138,18 @@ held_only : (ks : List ℕ) (a : Answer Head) (h : Head) (t past : List ℕ) →
 held_only ks (got x u) h t past p = cc
 held_only ks (refused e) h t past p = let z : ◌≡◌ {A = ℕ} 0 1 = cc in absurd (omega arith)
 
-nothing_only : (ks : List ℕ) (a : Answer Head) (r : Heading) (l : List ℕ) → nothing r l ≡ into ks a → a ≡ refused r.refusal
-nothing_only ks (got x u) r l p = let z : ◌≡◌ {A = ℕ} 0 1 = cc in absurd (omega arith)
-nothing_only ks (refused e) r l p = let q : r ≡ no_heading e = cc in ap refused (sym (ap (λ (x : Heading). x.refusal) q))
+nothing_only : (ks : List ℕ) (a : Answer Head) (e : ℕ) (l : List ℕ) → nothing e l ≡ into ks a → a ≡ refused e
+nothing_only ks (got x u) e l p = let z : ◌≡◌ {A = ℕ} 0 1 = cc in absurd (omega arith)
+nothing_only ks (refused n) e l p = let q : e ≡ n = cc in ap refused (sym q)
 
-module _ (s ks : List ℕ) (r : Heading) (ks' : List ℕ) (p : outcome s r ks' ≡ read_into s ks) where
-  pub was_read : r.refusal ≡ 0 → read_head s ≡ got (head_of r ks') (drop r.at s)
+module _ (s ks ks' : List ℕ) where
+  pub was_read : (r : Heading) → outcome s (Ok r) ks' ≡ read_into s ks → read_head s ≡ got (head_of r ks') (drop r.at s)
   unfolding outcome read_into
-  was_read e = held_only ks (read_head s) (head_of r ks') (drop r.at s) (drop r.items ks') (sym (ap (λ (n : ℕ). by n s r ks') e) ∙ p)
+  was_read r p = held_only ks (read_head s) (head_of r ks') (drop r.at s) (drop r.items ks') p
 
-  pub was_refused : (r.refusal ≡ 0 → ⊥) → read_head s ≡ refused r.refusal
+  pub was_refused : (e : Refusal) → outcome s (Err e) ks' ≡ read_into s ks → read_head s ≡ refused (refusal_number e)
   unfolding outcome read_into
-  was_refused e = nothing_only ks (read_head s) r ks' (sym (by_no r.refusal s r ks' e) ∙ p)
+  was_refused e p = nothing_only ks (read_head s) (refusal_number e) ks' p
 
 -- ---- the whole input: what stands before the image, then the image
 
