@@ -1,5 +1,5 @@
 -- What the call answers and leaves: refused by the judgement, by the slice's length, or written. Assumes nothing.
-use Rattle.std.specs.Prelude.{◌≡◌, ◌&&◌, ℕ, zero, suc, ◌+◌, ◌≤◌, ◌<◌, drop}
+use Rattle.std.specs.Prelude.{◌≡◌, Result, Ok, Err, IfOk, ◌&&◌, ℕ, zero, suc, ◌+◌, ◌≤◌, ◌<◌, drop}
 use Rattle.std.proofs.Math.Path.{ap}
 use Rattle.std.proofs.Common.{◌∙◌, subst, arith}
 use Rattle.std.proofs.Math.Bool.{true, false}
@@ -22,8 +22,9 @@ use Rattle.model.proofs.Laws.Checks.{and_left, and_right}
 use Rattle.memory.specs.RecordLaws.{judged_sound, proper_record}
 use Rattle.judge_terms.specs.Told.{Kept}
 use Rattle.judge_record.specs.Stages.{Accepted, JudgedAs}
-use Rattle.judge_record.specs.declared.Judged.{Judged}
-use Rattle.judge_record.specs.declared.Judged.TheVariants.{No}
+use Rattle.model.specs.Refusals.{refusal_number, refusal_in}
+use Rattle.model.specs.declared.Refusal.{Refusal}
+use Rattle.model.specs.declared.Refusal.TheVariants.{SliceShort}
 use Rattle.image_numbers.specs.Stored.{Stored, Room}
 
 -- ---- the answer as the contract says it
@@ -40,23 +41,27 @@ length_of (suc n) b = 0
 unfoldable pub length_in : Memory → List ℕ → ℕ
 length_in m out = length_of (write_in m out).answer (image (script_of m).blocks)
 
-abbrev Called : Memory → List ℕ → ℕ → ℕ → List ℕ → Type 0
-Called m xs n len ys = (wrote n ys ≡ write_in m xs) × (len ≡ length_in m xs)
+abbrev Called : Memory → List ℕ → Result ℕ Refusal → List ℕ → Type 0
+Called m xs r ys = (wrote (refusal_in r) ys ≡ write_in m xs) × IfOk r (λ n. n ≡ length_in m xs)
 
 -- ---- refused by the judgement
 
-pub call_no : (m : Memory) (xs : List ℕ) (r : Judged) (k : ℕ) → JudgedAs m r → r ≡ No k → Called m xs k 0 xs
-unfolding JudgedAs write_in write_checked length_in
-call_no m xs r k t e = go k (rw e at t) (subst Proper (rw e at t) (proper_record m))
+pub call_no : (m : Memory) (xs : List ℕ) (e : Refusal) → JudgedAs m (Err e) → Called m xs (Err e) xs
+unfolding JudgedAs write_in write_checked
+call_no m xs e j = (go (refusal_number e) j (subst Proper j (proper_record m)), tt)
   where
-    go : (n : ℕ) → judged_record m ≡ refused n → 0 < n → (wrote n xs ≡ write_in m xs) × (0 ≡ length_in m xs)
+    go : (n : ℕ) → judged_record m ≡ refused n → 0 < n → wrote n xs ≡ write_in m xs
     go zero j h = absurd (omega arith)
-    go (suc n) j h = (rw j, rw j)
+    go (suc n) j h = rw j
 
 -- ---- judged fine
 
 pub over_is : (xs b : List ℕ) → length b ≤ length xs → sets xs 0 b ≡ over b xs
 over_is xs b h = let e : 0 + length b ≡ length b = omega arith in sets-eq b xs 0 (omega arith) ∙ ap (λ (k : ℕ). b ++ drop k xs) e
+
+pub accepted_of : {m : Memory} {len : ℕ} → JudgedAs m (Ok len) → Accepted m len
+unfolding JudgedAs
+accepted_of j = j
 
 module _ {m : Memory} {len : ℕ} (A : Accepted m len) where
   pub fine_kept : Kept m.coded.nodes.count m.coded.count m.count
@@ -77,13 +82,13 @@ module _ {m : Memory} {len : ℕ} (A : Accepted m len) where
     pub fine_room : len ≤ length xs → Room xs 0 (record_image m)
     fine_room h = record { fits = omega (arith, A.bytes, ap length A.same) }
 
-    pub call_short : length xs < len → Called m xs 16 0 xs
-    unfolding write_in write_checked length_in
+    pub call_short : length xs < len → Called m xs (Err SliceShort) xs
+    unfolding write_in write_checked
     call_short h =
         let l : leb (length (image A.blocks)) (length xs) ≡ false = lt-leb (length (image A.blocks)) (length xs) (omega (arith, A.bytes)) in
-        (rw (A.judged, blocks_are, l), rw (A.judged, blocks_are, l))
+        (rw (A.judged, blocks_are, l), tt)
 
-    pub call_fine : len ≤ length xs → {ys : List ℕ} {r : ℕ} → Stored xs 0 (record_image m) ys r → Called m xs 0 r ys
+    pub call_fine : len ≤ length xs → {ys : List ℕ} {r : ℕ} → Stored xs 0 (record_image m) ys r → Called m xs (Ok r) ys
     unfolding write_in write_checked length_in
     call_fine h {ys} {r} s =
         let l : leb (length (image A.blocks)) (length xs) ≡ true = le-leb (length (image A.blocks)) (length xs) (omega (arith, A.bytes)) in

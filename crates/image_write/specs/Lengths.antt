@@ -125,3 +125,7 @@ record_short m bs r e =
 
 pub plain_accepted : (m : Memory) (p : Plain m) → Accepted m (length (image p.blocks))
 plain_accepted m p = record { blocks = p.blocks; judged = p.judged; same = (judged_sound m p.blocks [] p.judged).image_is; bytes = refl }
+
+-- so it fits where so many bytes do
+pub plain_fits : (m : Memory) (p : Plain m) (n : ℕ) → most_bytes m.count m.coded.count m.coded.nodes.count ≤ n → length (image p.blocks) ≤ n
+plain_fits m p n h = omega (arith, record_short m p.blocks _ p.judged)

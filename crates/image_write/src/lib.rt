@@ -1,11 +1,12 @@
 // Writing a script record as its image: judged first, then measured against the slice, then written piece by piece.
 #![tactic(auto)]
 
-ghost use Rattle.std.specs.Prelude.{◌≡◌, suc, ◌+◌, ◌≤◌, ◌<◌};
+ghost use Rattle.std.specs.Prelude.{◌≡◌, IfOk, suc, ◌+◌, ◌≤◌, ◌<◌};
 ghost use Rattle.model.specs.Limits.{node_limit};
 ghost use Rattle.model.specs.Memory.{nodes_in};
 ghost use Rattle.model.specs.Record.{node_image, root_image, command_tail, command_image_in, commands_image_in, block_tail, blocks_image_in, record_image};
 ghost use Rattle.model.specs.RecordCalls.{write_in};
+ghost use Rattle.model.specs.Refusals.{refusal_in};
 ghost use Rattle.memory.specs.View.{nodes_of, coded_of, memory_of};
 ghost use Rattle.image_numbers.specs.Stored.{Stored, Room};
 ghost use Rattle.judge_record.specs.Stages.{KeptBy, block_image_in};
@@ -14,16 +15,9 @@ ghost use Rattle.image_write.specs.Lengths.{most_bytes};
 
 use image_numbers::{write_short, write_value};
 use judge_plain::is_plain;
-use judge_record::{Judged, judge_record};
+use judge_record::judge_record;
 use memory::{BlockWords, CommandWords, Counts, NodeWords, Values, index_of, kind_of};
-use model::Kind;
-
-// The refusal's number, or 0 and the length of the image in bytes.
-#[derive(Clone, Copy)]
-pub struct Written {
-    pub refusal: u8,
-    pub len: usize,
-}
+use model::{Kind, Refusal};
 
 // ---- expressions
 
@@ -287,33 +281,24 @@ fn write_judged(
     bw: &BlockWords,
     counts: Counts,
     out: &mut [u8],
-) -> Written
-    ensures { (wrote result.refusal out.new ≡ write_in (memory_of ws.now val.now cw.now bw.now counts) out.old) × (result.len ≡ length_in (memory_of ws.now val.now cw.now bw.now counts) out.old) }
+) -> Result<usize, Refusal>
+    ensures { (wrote (refusal_in result) out.new ≡ write_in (memory_of ws.now val.now cw.now bw.now counts) out.old) × IfOk result (λ n. n ≡ length_in (memory_of ws.now val.now cw.now bw.now counts) out.old) }
 {
-    let judged = judge_record(ws, val, cw, bw, counts);
-    match judged {
-        Judged::Fine(len) => {
-            if len > out.len() {
-                return Written {
-                    refusal: 16,
-                    len: 0,
-                };
-            }
-            let end = write_record(ws, val, cw, bw, counts, out);
-            Written {
-                refusal: 0,
-                len: end,
-            }
-        }
-        Judged::No(k) => Written { refusal: k, len: 0 },
+    let len = judge_record(ws, val, cw, bw, counts)?;
+    if len > out.len() {
+        return Err(Refusal::SliceShort);
     }
+    Ok(write_record(ws, val, cw, bw, counts, out))
 }
 
 // So many bytes hold the image of any accepted record with these counts.
 fn most_bytes(counts: Counts) -> usize
     ensures { result ≡ most_bytes counts.blocks counts.commands counts.nodes }
 {
-    5 + 16 * counts.blocks as usize + 6 * counts.commands as usize + 6 * counts.nodes as usize
+    let blocks = usize::from(counts.blocks);
+    let commands = usize::from(counts.commands);
+    let nodes = usize::from(counts.nodes);
+    5 + 16 * blocks + 6 * commands + 6 * nodes
 }
 
 // A record that is plainly fine needs no judgement where the slice holds any such record; the others are judged step by step, which also tells the length.
@@ -324,17 +309,11 @@ pub fn write_script(
     bw: &BlockWords,
     counts: Counts,
     out: &mut [u8],
-) -> Written
-    ensures { (wrote result.refusal out.new ≡ write_in (memory_of ws.now val.now cw.now bw.now counts) out.old) × (result.len ≡ length_in (memory_of ws.now val.now cw.now bw.now counts) out.old) }
+) -> Result<usize, Refusal>
+    ensures { (wrote (refusal_in result) out.new ≡ write_in (memory_of ws.now val.now cw.now bw.now counts) out.old) × IfOk result (λ n. n ≡ length_in (memory_of ws.now val.now cw.now bw.now counts) out.old) }
 {
-    if most_bytes(counts) <= out.len() {
-        if is_plain(ws, val, cw, bw, counts) {
-            let end = write_record(ws, val, cw, bw, counts, out);
-            return Written {
-                refusal: 0,
-                len: end,
-            };
-        }
+    if most_bytes(counts) <= out.len() && is_plain(ws, val, cw, bw, counts) {
+        return Ok(write_record(ws, val, cw, bw, counts, out));
     }
     write_judged(ws, val, cw, bw, counts, out)
 }
