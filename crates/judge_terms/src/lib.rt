@@ -45,7 +45,7 @@ fn judge_expr(
     if i >= b {
         return Err(Refusal::BadImage);
     }
-    let j = i as usize;
+    let j = usize::from(i);
     let c = ws[3 * j];
     if c >= 19 {
         return Err(Refusal::BadImage);
