@@ -1,7 +1,8 @@
 -- The run of a command: how many from it on hold nothing past the kept counts. A block holds nothing past them where its commands are no more than the run of its first. Assumes nothing.
-use Rattle.std.specs.Prelude.{◌≡◌, Bool, cond, ◌&&◌, List, leb, eqb, ℤ, get_or, set, length}
+use Rattle.std.specs.Prelude.{◌≡◌, Bool, MatchBool, cond, ◌&&◌, List, leb, eqb, ℤ, get_or, set, length}
 use Rattle.std.proofs.Math.Path.{refl, sym}
 use Rattle.std.proofs.Common.{ap, ◌∙◌, get_or-set_same, get_or-set_other}
+use mathlib.Core.Bool.{and-false}
 use Rattle.std.proofs.Math.Bool.{true, false}
 use Prim.Native.Nat.{ℕ, zero, suc, ◌+◌, ◌-◌, ◌*◌, ◌≤◌, ◌<◌}
 use native.Mathlib.Omega.{arith}
@@ -9,7 +10,7 @@ use Rattle.std.proofs.Math.Decide.{ℕ_discrete}
 use Rattle.std.proofs.Math.Dec.{leb-suc-suc}
 use borrow.Author.Tests.{lt-ltb, le-ltb, le-leb, lt-leb, ne_eqb}
 use Rattle.memory.specs.declared.Counts.{Counts}
-use Rattle.model.specs.Memory.{Coded, Memory, coded_in, command_word}
+use Rattle.model.specs.Memory.{Coded, Memory, coded_in, command_word, block_word}
 use Rattle.model.specs.Record.{root_kept, set_kept, roots_kept, command_kept, commands_kept, block_kept, blocks_kept, held_kept}
 use Rattle.memory.specs.View.{memory_of}
 use Rattle.memory.specs.NodeLaws.{first_word}
@@ -141,32 +142,27 @@ module _ (ws : List ℕ) (vs : List ℤ) (cw bw : List ℕ) (k : Counts) where
   unfolding block_kept
   kept_past i t e g l = rw e (sym (past_is me.coded (get_or bw (5 * i + 2) 0) (get_or bw (5 * i + 1) 0) (omega arith)))
 
--- i blocks were looked at
-pub record Passed (bw t : List ℕ) (k : Counts) (i : ℕ) : Type 0 where
-  pub low : i ≤ k.blocks
-  pub is : (ws : List ℕ) (vs : List ℤ) (cw : List ℕ) → Runs cw k t 0 → held_kept (me ws vs cw bw k) ≡ blocks_kept (me ws vs cw bw k) (k.blocks - i) i
+module _ (m : Memory) where
+  kept_from : (d c : ℕ) → ((i : ℕ) → c ≤ i → i < c + d → true ≡ block_kept m i (block_word m i 0)) → blocks_kept m d c ≡ true
+  unfolding blocks_kept
+  kept_from zero c p = refl
+  kept_from (suc d) c p = rw (← p c (omega arith) (omega arith)) (kept_from d (suc c) (λ i l h. p i (omega arith) (omega arith)))
+
+  past_at : (d c i : ℕ) → c ≤ i → i < c + d → false ≡ block_kept m i (block_word m i 0) → blocks_kept m d c ≡ false
+  unfolding blocks_kept
+  past_at zero c i l h e = absurd (omega arith)
+  past_at (suc d) c i l h e = by (ℕ_discrete i c) (λ n. past_at d (suc c) i (omega arith) (omega arith) e)
+    where
+      by : Dec (i ≡ c) → ((i ≡ c → ⊥) → blocks_kept m d (suc c) ≡ false) → (block_kept m c (block_word m c 0) && blocks_kept m d (suc c)) ≡ false
+      by (yes q) r = rw (← q, ← e)
+      by (no n) r = rw (r n) (and-false (block_kept m c (block_word m c 0)))
+
+-- block i has the answer b, whatever the nodes and the commands are that have these runs
+abbrev pub Block : List ℕ → List ℕ → Counts → Bool → ℕ → Type 0
+Block bw t k b i = (ws : List ℕ) (vs : List ℤ) (cw : List ℕ) → Runs cw k t 0 → b ≡ block_kept (me ws vs cw bw k) i (get_or bw (5 * i) 0)
 
 module _ (bw t : List ℕ) (k : Counts) where
-  pub passed_none : Passed bw t k 0
+  pub blocks_told : (b : Bool) → MatchBool b ((i : ℕ) → i < k.blocks → Block bw t k true i) ((i : ℕ) × (i < k.blocks) × Block bw t k false i) → (ws : List ℕ) (vs : List ℤ) (cw : List ℕ) → Runs cw k t 0 → b ≡ held_kept (me ws vs cw bw k)
   unfolding held_kept
-  passed_none = let e : k.blocks - 0 ≡ k.blocks = omega arith in record { low = omega arith; is = λ ws vs cw R. rw e }
-
-  module _ {i : ℕ} (P : Passed bw t k i) (l : i < k.blocks) {b : Bool}
-      (B : (ws : List ℕ) (vs : List ℤ) (cw : List ℕ) → Runs cw k t 0 → b ≡ block_kept (me ws vs cw bw k) i (get_or bw (5 * i) 0)) where
-    -- block i, then those after it
-    one : (ws : List ℕ) (vs : List ℤ) (cw : List ℕ) → Runs cw k t 0 → held_kept (me ws vs cw bw k) ≡ (b && blocks_kept (me ws vs cw bw k) (k.blocks - (i + 1)) (i + 1))
-    unfolding blocks_kept
-    one ws vs cw R =
-        let d : k.blocks - i ≡ suc (k.blocks - (i + 1)) = omega arith in
-        let f : suc i ≡ i + 1 = omega arith in
-        P.is ws vs cw R ∙ rw (d, first_word bw (5 * i), B ws vs cw R, f)
-
-    pub passed_more : b ≡ true → Passed bw t k (i + 1)
-    passed_more e = record { low = omega arith; is = λ ws vs cw R. one ws vs cw R ∙ rw e }
-
-    pub passed_stop : b ≡ false → (ws : List ℕ) (vs : List ℤ) (cw : List ℕ) → Runs cw k t 0 → false ≡ held_kept (me ws vs cw bw k)
-    passed_stop e ws vs cw R = sym (one ws vs cw R ∙ rw e)
-
-  pub passed_all : {i : ℕ} → Passed bw t k i → k.blocks ≤ i → (ws : List ℕ) (vs : List ℤ) (cw : List ℕ) → Runs cw k t 0 → true ≡ held_kept (me ws vs cw bw k)
-  unfolding blocks_kept
-  passed_all {i} P g ws vs cw R = let d : k.blocks - i ≡ 0 = omega arith in sym (P.is ws vs cw R ∙ rw d)
+  blocks_told true p ws vs cw R = sym (kept_from (me ws vs cw bw k) k.blocks 0 (λ i l h. rw (first_word bw (5 * i)) (p i (omega arith) ws vs cw R)))
+  blocks_told false p ws vs cw R = sym (past_at (me ws vs cw bw k) k.blocks 0 p.0 (omega arith) (omega (arith, p.1)) (rw (first_word bw (5 * p.0)) (p.2 ws vs cw R)))

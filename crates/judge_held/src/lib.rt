@@ -8,18 +8,18 @@ ghost use Rattle.model.specs.Record.{set_kept, roots_kept, block_kept, held_kept
 ghost use Rattle.memory.specs.View.{memory_of};
 ghost use Rattle.judge_held.specs.Runs.{Run, Runs};
 
-use memory::{BlockWords, CommandWords, Counts, index_of};
+use memory::{BlockWords, CommandWords, Counts};
 
 // The roots of a Set: its value, and its target where that is a Variable.
 fn set_kept(cw: &CommandWords, nodes: u16, i: usize) -> bool
     requires { i < command_limit }
     ensures { (ws : List ℕ) (vs : List ℤ) (c : ℕ) → result ≡ set_kept (coded_in ws vs cw.now nodes c) i (get_or cw.now (4 * i + 3) 0) }
 {
-    let target = cw[4 * i + 3];
-    if target == 0 {
-        return cw[4 * i + 1] < nodes && cw[4 * i + 2] < nodes;
+    if cw[4 * i + 3] == 0 {
+        cw[4 * i + 1] < nodes && cw[4 * i + 2] < nodes
+    } else {
+        cw[4 * i + 2] < nodes
     }
-    cw[4 * i + 2] < nodes
 }
 
 // Whether the roots of command i are below the kept count of nodes.
@@ -27,8 +27,7 @@ fn roots_kept(cw: &CommandWords, nodes: u16, i: usize) -> bool
     requires { i < command_limit }
     ensures { (ws : List ℕ) (vs : List ℤ) (c : ℕ) → result ≡ roots_kept (coded_in ws vs cw.now nodes c) i (get_or cw.now (4 * i) 0) }
 {
-    let code = cw[4 * i];
-    match code {
+    match cw[4 * i] {
         2 => set_kept(cw, nodes, i),
         3 => cw[4 * i + 1] < nodes,
         _ => true,
@@ -41,9 +40,10 @@ fn run_from(cw: &CommandWords, counts: Counts, i: usize, after: u16) -> u16
     ensures { Run cw.now counts i result }
 {
     if roots_kept(cw, counts.nodes, i) {
-        return after + 1;
+        after + 1
+    } else {
+        0
     }
-    0
 }
 
 // The runs of all kept commands, from the last on.
@@ -51,10 +51,8 @@ fn note_runs(cw: &CommandWords, runs: &mut [u16], counts: Counts)
     requires { (counts.commands ≤ command_limit) × (counts.commands ≤ length runs.old) }
     ensures { Runs cw.now counts runs.new 0 }
 {
-    let mut i = index_of(counts.commands);
-    let mut run: u16 = 0;
-    while i > 0 {
-        i -= 1;
+    let mut run = 0;
+    for i in (0..usize::from(counts.commands)).rev() {
         run = run_from(cw, counts, i, run);
         runs[i] = run;
     }
@@ -65,16 +63,16 @@ fn block_kept(bw: &BlockWords, runs: &[u16], counts: Counts, i: usize) -> bool
     requires { (i < block_limit) × (counts.commands ≤ length runs.now) }
     ensures { (ws : List ℕ) (vs : List ℤ) (cw : List ℕ) → Runs cw counts runs.now 0 → result ≡ block_kept (memory_of ws vs cw bw.now counts) i (get_or bw.now (5 * i) 0) }
 {
-    let kind = bw[5 * i];
-    if kind != 1 {
+    if bw[5 * i] != 1 {
         return true;
     }
     let held = bw[5 * i + 2];
-    let first = index_of(bw[5 * i + 1]);
-    if first < index_of(counts.commands) {
-        return held <= runs[first];
+    let first = bw[5 * i + 1];
+    if first < counts.commands {
+        held <= runs[usize::from(first)]
+    } else {
+        held == 0
     }
-    held == 0
 }
 
 // All blocks, by the runs of all commands.
@@ -82,15 +80,7 @@ fn blocks_kept(bw: &BlockWords, runs: &[u16], counts: Counts) -> bool
     requires { (counts.blocks ≤ block_limit) × (counts.commands ≤ length runs.now) }
     ensures { (ws : List ℕ) (vs : List ℤ) (cw : List ℕ) → Runs cw counts runs.now 0 → result ≡ held_kept (memory_of ws vs cw bw.now counts) }
 {
-    let end = index_of(counts.blocks);
-    let mut i: usize = 0;
-    while i < end {
-        if !block_kept(bw, runs, counts, i) {
-            return false;
-        }
-        i += 1;
-    }
-    true
+    (0..usize::from(counts.blocks)).all(|i| block_kept(bw, runs, counts, i))
 }
 
 // False where a block holds a command, or such a command the root of an expression, at or past its kept count. What the table held before means nothing.
