@@ -11,7 +11,7 @@ ghost use Rattle.parse_keys.specs.Search.{Table, Search};
 ghost use Rattle.parse_keys.specs.Reads.{Numbered, id_code, flag_code, sign_of, zero_sign, signed_code, ReadCode, Reading};
 ghost use Rattle.parse_keys.specs.Tables.{Tables, OfNode, Entered, ReadEntry};
 
-use expr::{MaybeNumber, number_below};
+use expr::number_below;
 use memory::{NodeWords, Values, index_of, kind_of};
 use model::{Kind, Op1, Op2};
 use shop_codes::{HAVE_ATC, HAVE_FLAG, KIND, ZERO, shifted};
@@ -76,10 +76,9 @@ fn shifted_below(ws: &NodeWords, val: &Values, b: u16, i: u16) -> u64
     requires { b ≤ node_limit }
     ensures { (n : ℕ) → Numbered result (value (tree_below (nodes_in ws.now val.now n) b i)) }
 {
-    let v = number_below(ws, val, b, i);
-    match v {
-        MaybeNumber::Is(x) => shifted(x),
-        MaybeNumber::Nothing => NO_NUMBER,
+    match number_below(ws, val, b, i) {
+        Some(x) => shifted(x),
+        None => NO_NUMBER,
     }
 }
 

@@ -10,6 +10,7 @@ use Rattle.model.specs.Limits.{block_limit, node_limit}
 use Rattle.model.specs.Expr.{Expr}
 use Rattle.model.specs.Sheet.{Sheet, all}
 use Rattle.model.specs.Memory.{Memory, block_word}
+use Rattle.model.specs.Refusals.{refusal_in}
 use Rattle.model.specs.Parse.{State, Scan, parse_requirements, update_slots, few_entries, visited}
 use Rattle.model.specs.Shop as Model
 use Rattle.model.specs.Refusal.{parse_too_many}
@@ -25,7 +26,7 @@ use Rattle.parse_scan.specs.Block.{scan_of, on_next_of, on_else_of, BlockScanned
 use Rattle.parse_scan.specs.LastIf.{last_if}
 use Rattle.parse_scan.specs.AllSlots.{slots_then}
 use Rattle.parse_scan.specs.declared.Scanned.{Scanned}
-use Rattle.parse_visit.specs.State.{no_room, scanned_walk, Stored, stored_in, Holding, state_of, scan_in, state_after, Open, Entered, nodes_at, Leaves}
+use Rattle.parse_visit.specs.State.{no_room, answer_in, stopped_by, stopped_as, scanned_walk, Stored, stored_in, Holding, state_of, scan_in, state_after, Open, Entered, nodes_at, Leaves}
 use Rattle.parse_visit.specs.LastIf.{last_low, block_rooted, last_nodes}
 use Rattle.parse_visit.specs.Slots.{Moved, Slots, means, marks_hold}
 use Rattle.parse_visit.specs.Ways.{IfFits, Left, GoesOn}
@@ -71,7 +72,7 @@ module _ {m : Memory} {x : Shop} {w : Walk} {b c : ℕ} (o : Open m x w b c) whe
     t1 = stored_in t.keys t.kids t.companions t.list seen' alive' t.cells
 
     hold1 : Holding known t1 w1 f
-    hold1 = marks_hold known t w f hold c o.low s.limit a.answer a seen' alive' sl.marked sl.most ls la
+    hold1 = marks_hold known t w f hold c o.low s.limit (stopped_by a.outcome) a seen' alive' sl.marked sl.most ls la
 
     scan_is : scan_of m.coded.nodes (f c) s ids counts ≡ scan_in m marks (f c) x w b
     scan_is = rw (many, from, lim) at (sc.is m.coded.nodes.count m.coded.count (f c))
@@ -80,7 +81,7 @@ module _ {m : Memory} {x : Shop} {w : Walk} {b c : ℕ} (o : Open m x w b c) whe
     fits = if_fits s.last_if (rw (many, from) at sc.last)
 
     module _ (h : Sheet) (k : Has h known.items known.atcs) where
-      moved : Moved (slots_then h (parse_requirements h (f c)) (table_of s.item_mask ids) (table_of s.count_mask counts) x) x' a.answer
+      moved : Moved (slots_then h (parse_requirements h (f c)) (table_of s.item_mask ids) (table_of s.count_mask counts) x) x' (refusal_in a.outcome)
       moved = sl.moved h (parse_requirements h (f c)) k.items (means known t w f hold c o.low h k)
 
       slots_then_lem : slots_then h (parse_requirements h (f c)) (table_of s.item_mask ids) (table_of s.count_mask counts) x ≡ (state_after h m marks (f c) x w b).slots
@@ -91,7 +92,7 @@ module _ {m : Memory} {x : Shop} {w : Walk} {b c : ℕ} (o : Open m x w b c) whe
       unfolding scan_of
       limit_then_lem = ap (λ (k : Scan). k.limit) scan_is
 
-      answer_then : a.answer ≡ (state_after h m marks (f c) x w b).answer
+      answer_then : refusal_in a.outcome ≡ (state_after h m marks (f c) x w b).answer
       unfolding visited
       answer_then = moved.answer ∙ ap (λ (xs : List Model.Slot). cond (all few_entries xs) 0 parse_too_many) slots_then_lem
 
@@ -103,18 +104,18 @@ module _ {m : Memory} {x : Shop} {w : Walk} {b c : ℕ} (o : Open m x w b c) whe
       unfolding scan_of
       else_is = ap (λ (k : Scan). k.on_else) scan_is
 
-      module _ (t' : Stored) (v : Visited) (g : Left m.coded.nodes known t1 w1 c s.last_if f t' v) (there : v.walk.answer ≡ no_room → ⊥) where
-        state_then : v.walk.answer ≡ 0 → state_of m.count (set marks b true) x' v.walk ≡ state_after h m marks (f c) x w b
+      module _ (t' : Stored) (v : Visited) (g : Left m.coded.nodes known t1 w1 c s.last_if f t' v) (there : answer_in v.walk.outcome ≡ no_room → ⊥) where
+        state_then : answer_in v.walk.outcome ≡ 0 → state_of m.count (set marks b true) x' v.walk ≡ state_after h m marks (f c) x w b
         unfolding visited
         state_then z =
-            let y : a.answer ≡ 0 = sym (g.answer there) ∙ z in
-            made (moved.slots y ∙ slots_then_lem) (take-set-lt m.count marks b true o.block) (g.limit ∙ limit_then_lem) (g.answer there ∙ answer_then)
+            let y : refusal_in a.outcome ≡ 0 = sym (g.answer there ∙ stopped_as a.outcome) ∙ z in
+            made (moved.slots y ∙ slots_then_lem) (take-set-lt m.count marks b true o.block) (g.limit ∙ limit_then_lem) (g.answer there ∙ stopped_as a.outcome ∙ answer_then)
 
         entered : (nx : v.next.0 ≡ block_word m b 3) → (el : v.other.0 ≡ block_word m b 4) → Entered h m marks f x w b c (set marks b true) g.conditions x' v
         entered nx el = record {
-          answer = g.answer there ∙ answer_then;
+          answer = g.answer there ∙ stopped_as a.outcome ∙ answer_then;
           state = state_then;
-          good = λ z. moved.good (sym (g.answer there) ∙ z);
+          good = λ z. moved.good (sym (g.answer there ∙ stopped_as a.outcome) ∙ z);
           on_next = λ z d. g.on_next (nodes_at m b) fits z d ∙ next_is;
           on_else = λ z d. g.on_else (nodes_at m b) fits z d ∙ else_is;
           next = nx;

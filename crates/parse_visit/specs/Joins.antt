@@ -103,7 +103,7 @@ module _ (known : Known) (t : Stored) (w : Walk) (f : ℕ → Option Expr) (hold
   t' = stored_in ks' kd' cs' ls' t.seen t.alive cw
 
   abbrev w' : Walk
-  w' = record { limit = w.limit; cells = n + 1; answer = w.answer; used = u'; keyed = m'; marked = w.marked }
+  w' = record { limit = w.limit; cells = n + 1; outcome = w.outcome; used = u'; keyed = m'; marked = w.marked }
 
   valid_up : (x : ℕ) → Valid w.keyed x → Valid m' x
   valid_up x v = record { low = v.low; high = omega (arith, v.high, a.grown.up) }

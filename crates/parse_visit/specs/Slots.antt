@@ -1,10 +1,11 @@
 -- The slots after a block: hidden under its condition, filled, or as they were; and the codes of a condition's negated requirements as the slots ask for them. Assumes nothing.
-use Rattle.std.specs.Prelude.{◌≡◌, refl, Bool, true, false, cond, List, [], map, ℕ, ◌*◌, ◌≤◌, ◌<◌, max, ℤ, length}
+use Rattle.std.specs.Prelude.{Result, ◌≡◌, refl, Bool, true, false, cond, List, [], map, ℕ, ◌*◌, ◌≤◌, ◌<◌, max, ℤ, length}
 use Rattle.std.proofs.Common.{sym, ap, ◌∙◌, arith}
 use Rattle.std.proofs.Math.Option.{Option, none, some}
 use Rattle.std.proofs.lemmas.List.{length-map}
 use Rattle.model.specs.Limits.{block_limit}
 use Rattle.model.specs.Expr.{Expr}
+use Rattle.model.specs.Refusals.{refusal_in}
 use Rattle.model.specs.Requirement.{Requirement, settled, extend}
 use Rattle.model.specs.Sheet.{Sheet, item_count, all}
 use Rattle.model.specs.Shop as Model
@@ -30,6 +31,7 @@ use Rattle.parse_scan.specs.Slots.{Stands}
 use Rattle.parse_scan.specs.AllSlots.{slots_then, UpdatedBy}
 use Rattle.parse_visit.specs.Entries.{reads_map}
 use Rattle.parse_visit.specs.State.{Stored, stored_in, gathered_of, Holding}
+use Rattle.parse_visit.specs.declared.Stop.{Stop}
 use Rattle.parse_visit.specs.declared.Walk.{Walk}
 use Rattle.parse_visit.specs.declared.Slotted.{Slotted}
 
@@ -55,11 +57,11 @@ Means ks cs cells list c rs = (codes : List ℕ) (n : ℕ) → Holds (negated_co
 pub record Slots (ks cs cells list : List ℕ) (c known first : ℕ) (ms ns : List (Option ℤ)) (shop : Shop) (seen : List Bool) (alive : List ℕ) (shop' : Shop) (r : Slotted) : Type 0 where
   pub marked : MarkedAs cs cells list seen alive r.marked
   pub most : r.marked.first ≤ max first c
-  pub fine : r.answer ≤ parse_too_many
-  pub moved : (h : Sheet) (rs : List Requirement) → item_count h ≡ known → Means ks cs cells list c rs → Moved (slots_then h rs ms ns shop) shop' r.answer
+  pub fine : refusal_in r.outcome ≤ parse_too_many
+  pub moved : (h : Sheet) (rs : List Requirement) → item_count h ≡ known → Means ks cs cells list c rs → Moved (slots_then h rs ms ns shop) shop' (refusal_in r.outcome)
 
 pub slots_updated : {ks cs cells list : List ℕ} {c known first : ℕ} {ms ns : List (Option ℤ)} {shop : Shop} {seen : List Bool} {alive : List ℕ} {shop' : Shop} {r : Slotted} {u : Bool} {m : Marked}
-    → (r.answer ≡ cond u 0 parse_too_many) × (r.marked ≡ m) → MarkedAs cs cells list seen alive m → m.first ≤ max first c
+    → (refusal_in r.outcome ≡ cond u 0 parse_too_many) × (r.marked ≡ m) → MarkedAs cs cells list seen alive m → m.first ≤ max first c
     → ((h : Sheet) (rs : List Requirement) → item_count h ≡ known → Means ks cs cells list c rs → UpdatedBy h rs shop ms ns u shop')
     → Slots ks cs cells list c known first ms ns shop seen alive shop' r
 slots_updated {u = u} e k l up = record {
@@ -118,9 +120,9 @@ module _ (known : Known) (t : Stored) (w : Walk) (f : ℕ → Option Expr) (hold
   }
 
   -- ---- the tables after: other marks
-  pub marks_hold : (l : ℤ) (a : ℕ) (r : Slotted) (seen' : List Bool) (alive' : List ℕ) → MarkedAs t.companions t.cells t.list seen' alive' r.marked → r.marked.first ≤ max w.marked.first c
+  pub marks_hold : (l : ℤ) (o : Result Unit Stop) (r : Slotted) (seen' : List Bool) (alive' : List ℕ) → MarkedAs t.companions t.cells t.list seen' alive' r.marked → r.marked.first ≤ max w.marked.first c
       → length seen' ≡ length t.seen → length alive' ≡ length t.alive
-      → Holding known (stored_in t.keys t.kids t.companions t.list seen' alive' t.cells) (record { limit = l; cells = w.cells; answer = a; used = w.used; keyed = w.keyed; marked = r.marked }) f
+      → Holding known (stored_in t.keys t.kids t.companions t.list seen' alive' t.cells) (record { limit = l; cells = w.cells; outcome = o; used = w.used; keyed = w.keyed; marked = r.marked }) f
   marks_hold l a r seen' alive' m n p q = record {
     tables = hold.tables;
     chains = rw p hold.chains;

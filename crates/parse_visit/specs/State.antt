@@ -1,5 +1,6 @@
 -- What a parse has so far as the code keeps it, and what a visit of one block leaves of it. Assumes nothing.
-use Rattle.std.specs.Prelude.{◌≡◌, Bool, true, false, List, [], ℕ, ◌+◌, ◌*◌, ◌≤◌, ◌<◌, length, set, take}
+use Rattle.std.specs.Prelude.{◌≡◌, refl, Result, Ok, Err, Bool, true, false, List, [], ℕ, ◌+◌, ◌*◌, ◌≤◌, ◌<◌, length, set, take}
+use Rattle.std.proofs.Common.{arith}
 use Rattle.std.proofs.Math.Option.{Option, none, some}
 use Rattle.model.specs.Expr.{Expr}
 use Rattle.model.specs.Sheet.{Sheet}
@@ -9,6 +10,10 @@ use Rattle.model.specs.Reading.{got}
 use Rattle.model.specs.Memory.{Memory, commands_in, block_word, script_of}
 use Rattle.model.specs.Record.{judged_record}
 use Rattle.model.specs.Parse.{State, Scan, scanned, visited}
+use Rattle.model.specs.Refusals.{refusal_number, refusal_in}
+use Rattle.model.specs.declared.Refusal.{Refusal}
+use Rattle.model.specs.declared.Refusal.TheVariants as why
+use Rattle.model.specs.declared.Refusal.TheVariants.{BadSheet, BadImage, OverLimit, TooDeep, NoSuchLink, NotBlock, NotCode, BadShop, ParseNotCode, ParseTooMany, BadSave, MetOther, NoNext, BudgetSpent, SliceShort, BornLater, BadRoots, DemoFull, NoUser, NoRight, BadWalk, NoFlag, BadTariff, BadBasket, TooManyWishes, NoSuchWish, BadMoney}
 use Rattle.expr.specs.Requirement.{Has}
 use Rattle.shop.specs.Shapes.{slots_of}
 use Rattle.shop.specs.declared.Shop.{Shop}
@@ -20,6 +25,8 @@ use Rattle.parse_conditions.specs.Gathered.{gathered}
 use Rattle.parse_filter.specs.Chains.{entries_in, Chains}
 use Rattle.parse_filter.specs.Marks.{MarkedAs}
 use Rattle.parse_visit.specs.Entries.{Reads}
+use Rattle.parse_visit.specs.declared.Stop.{Stop}
+use Rattle.parse_visit.specs.declared.Stop.TheVariants.{Refused, NoRoom}
 use Rattle.parse_visit.specs.declared.Walk.{Walk}
 use Rattle.parse_visit.specs.declared.Visited.{Visited}
 use Rattle.parse_visit.specs.declared.Slotted.{Slotted}
@@ -34,16 +41,69 @@ pub record Accepted (m : Memory) : Type 0 where
 abbrev pub no_room : ℕ
 no_room = 255
 
-abbrev pub with_answer : Walk → ℕ → Walk
-with_answer w n = record { limit = w.limit; cells = w.cells; answer = n; used = w.used; keyed = w.keyed; marked = w.marked }
+abbrev pub stop_number : Stop → ℕ
+stop_number (Refused r) = refusal_number r
+stop_number NoRoom = no_room
+
+-- the refusal of a walk, 255 where it had no room, and 0 where nothing stopped it
+abbrev pub answer_in : {A : Type 0} → Result A Stop → ℕ
+answer_in (Ok x) = 0
+answer_in (Err s) = stop_number s
+
+-- a walk that stops has another answer
+refuses : (e : Refusal) → refusal_number e ≡ 0 → ⊥
+refuses BadSheet h = absurd (omega arith)
+refuses BadImage h = absurd (omega arith)
+refuses OverLimit h = absurd (omega arith)
+refuses TooDeep h = absurd (omega arith)
+refuses NoSuchLink h = absurd (omega arith)
+refuses NotBlock h = absurd (omega arith)
+refuses NotCode h = absurd (omega arith)
+refuses BadShop h = absurd (omega arith)
+refuses why.NoRoom h = absurd (omega arith)
+refuses ParseNotCode h = absurd (omega arith)
+refuses ParseTooMany h = absurd (omega arith)
+refuses BadSave h = absurd (omega arith)
+refuses MetOther h = absurd (omega arith)
+refuses NoNext h = absurd (omega arith)
+refuses BudgetSpent h = absurd (omega arith)
+refuses SliceShort h = absurd (omega arith)
+refuses BornLater h = absurd (omega arith)
+refuses BadRoots h = absurd (omega arith)
+refuses DemoFull h = absurd (omega arith)
+refuses NoUser h = absurd (omega arith)
+refuses NoRight h = absurd (omega arith)
+refuses BadWalk h = absurd (omega arith)
+refuses NoFlag h = absurd (omega arith)
+refuses BadTariff h = absurd (omega arith)
+refuses BadBasket h = absurd (omega arith)
+refuses TooManyWishes h = absurd (omega arith)
+refuses NoSuchWish h = absurd (omega arith)
+refuses BadMoney h = absurd (omega arith)
+
+pub stops : (s : Stop) → stop_number s ≡ 0 → ⊥
+stops (Refused e) h = refuses e h
+stops NoRoom h = absurd (omega arith)
+
+-- a refusal stops the walk
+abbrev pub stopped_by : {A : Type 0} → Result A Refusal → Result A Stop
+stopped_by (Ok x) = Ok x
+stopped_by (Err r) = Err (Refused r)
+
+pub stopped_as : {A : Type 0} (o : Result A Refusal) → answer_in (stopped_by o) ≡ refusal_in o
+stopped_as (Ok x) = refl
+stopped_as (Err r) = refl
+
+abbrev pub with_outcome : Walk → Result Unit Stop → Walk
+with_outcome w o = record { limit = w.limit; cells = w.cells; outcome = o; used = w.used; keyed = w.keyed; marked = w.marked }
 
 -- after an If was read: so many entries and keys
 abbrev pub one_cell_more : Walk → ℕ → ℕ → Walk
-one_cell_more w used keyed = record { limit = w.limit; cells = w.cells + 1; answer = w.answer; used = used; keyed = keyed; marked = w.marked }
+one_cell_more w used keyed = record { limit = w.limit; cells = w.cells + 1; outcome = w.outcome; used = used; keyed = keyed; marked = w.marked }
 
 -- after the block's commands and slots
 abbrev pub scanned_walk : Walk → Scanned → Slotted → Walk
-scanned_walk w s a = record { limit = s.limit; cells = w.cells; answer = a.answer; used = w.used; keyed = w.keyed; marked = a.marked }
+scanned_walk w s a = record { limit = s.limit; cells = w.cells; outcome = stopped_by a.outcome; used = w.used; keyed = w.keyed; marked = a.marked }
 
 -- ---- the tables
 
@@ -91,7 +151,7 @@ pub record Held (known : Known) (t : Stored) (w : Walk) : Type 0 where
 
 -- the definition's state, s being the slots; marks past the blocks are never set
 abbrev pub state_of : ℕ → List Bool → Shop → Walk → State
-state_of n marks s w = record { slots = slots_of s; marks = take n marks; current = w.limit; answer = w.answer }
+state_of n marks s w = record { slots = slots_of s; marks = take n marks; current = w.limit; answer = answer_in w.outcome }
 
 abbrev pub commands_of : Memory → ℕ → List Command
 commands_of m b = commands_in m.coded (block_word m b 2) (block_word m b 1)
@@ -108,18 +168,18 @@ pub record Open (m : Memory) (s : Shop) (w : Walk) (b c : ℕ) : Type 0 where
   pub accepted : Accepted m
   pub block : b < m.count
   pub code : block_word m b 0 ≡ 1
-  pub fine : w.answer ≡ 0
+  pub fine : answer_in w.outcome ≡ 0
   pub free : w.cells < m.count
   pub low : c ≤ 2 * w.cells
   pub good : GoodShop s
 
 -- what it leaves; where it refuses only the answer counts
 pub record Entered (h : Sheet) (m : Memory) (marks : List Bool) (f : ℕ → Option Expr) (s : Shop) (w : Walk) (b c : ℕ) (marks' : List Bool) (f' : ℕ → Option Expr) (s' : Shop) (r : Visited) : Type 0 where
-  pub answer : r.walk.answer ≡ (state_after h m marks (f c) s w b).answer
-  pub state : r.walk.answer ≡ 0 → state_of m.count marks' s' r.walk ≡ state_after h m marks (f c) s w b
-  pub good : r.walk.answer ≡ 0 → GoodShop s'
-  pub on_next : r.walk.answer ≡ 0 → (r.next.0 ≡ 0 → ⊥) → f' r.then.0 ≡ (scan_in m marks (f c) s w b).on_next
-  pub on_else : r.walk.answer ≡ 0 → (r.next.0 ≡ 0 → ⊥) → f' r.otherwise.0 ≡ (scan_in m marks (f c) s w b).on_else
+  pub answer : answer_in r.walk.outcome ≡ (state_after h m marks (f c) s w b).answer
+  pub state : answer_in r.walk.outcome ≡ 0 → state_of m.count marks' s' r.walk ≡ state_after h m marks (f c) s w b
+  pub good : answer_in r.walk.outcome ≡ 0 → GoodShop s'
+  pub on_next : answer_in r.walk.outcome ≡ 0 → (r.next.0 ≡ 0 → ⊥) → f' r.then.0 ≡ (scan_in m marks (f c) s w b).on_next
+  pub on_else : answer_in r.walk.outcome ≡ 0 → (r.next.0 ≡ 0 → ⊥) → f' r.otherwise.0 ≡ (scan_in m marks (f c) s w b).on_else
   pub next : r.next.0 ≡ block_word m b 3
   pub other : r.other.0 ≡ block_word m b 4
   pub marked : marks' ≡ set marks b true
@@ -141,10 +201,10 @@ nodes_at m b = block_nodes (block_at (script_of m).blocks b)
 -- .. under the conditions f
 pub record Leaves (m : Memory) (known : Known) (t : Stored) (marks : List Bool) (s : Shop) (w : Walk) (b c : ℕ) (f : ℕ → Option Expr) (t' : Stored) (marks' : List Bool) (s' : Shop) (r : Visited) : Type 0 where
   pub conditions : ℕ → Option Expr
-  pub holding : r.walk.answer ≡ 0 → Holding known t' r.walk conditions
-  pub spent : r.walk.answer ≡ 0 → 3 * r.walk.used + w.cells ≤ 3 * w.used + nodes_at m b + r.walk.cells
-  pub entered : (r.walk.answer ≡ no_room → ⊥) → (h : Sheet) → Has h known.items known.atcs → Entered h m marks f s w b c marks' conditions s' r
-  pub room : Roomy t w (nodes_at m b) → r.walk.answer ≡ no_room → ⊥
+  pub holding : answer_in r.walk.outcome ≡ 0 → Holding known t' r.walk conditions
+  pub spent : answer_in r.walk.outcome ≡ 0 → 3 * r.walk.used + w.cells ≤ 3 * w.used + nodes_at m b + r.walk.cells
+  pub entered : (answer_in r.walk.outcome ≡ no_room → ⊥) → (h : Sheet) → Has h known.items known.atcs → Entered h m marks f s w b c marks' conditions s' r
+  pub room : Roomy t w (nodes_at m b) → answer_in r.walk.outcome ≡ no_room → ⊥
 
 abbrev pub Visits : Memory → Known → Stored → List Bool → Shop → Walk → ℕ → ℕ → Stored → List Bool → Shop → Visited → Type 0
 Visits m known t marks s w b c t' marks' s' r = (f : ℕ → Option Expr) → Holding known t w f → Leaves m known t marks s w b c f t' marks' s' r

@@ -16,7 +16,7 @@ use Rattle.parse_conditions.specs.Gathers.{gathered_size}
 use Rattle.parse_conditions.specs.Listing.{Listing, keys_of, used_of, Place, Added, NoRoom}
 use Rattle.parse_conditions.specs.ListingLaws.{listing_length}
 use Rattle.parse_scan.specs.Block.{on_next_of, on_else_of}
-use Rattle.parse_visit.specs.State.{no_room, one_cell_more, Stored, stored_in, Holding, Roomy}
+use Rattle.parse_visit.specs.State.{no_room, answer_in, one_cell_more, Stored, stored_in, Holding, Roomy}
 use Rattle.parse_visit.specs.Joins.{with_cell, with_if, if_next, if_else_lem, if_same, IfRead, if_joined}
 use Rattle.parse_visit.specs.declared.Walk.{Walk}
 use Rattle.parse_visit.specs.declared.Visited.{Visited}
@@ -39,8 +39,8 @@ pub record IfAdded (ws : List ℕ) (vs : List ℤ) (known : Known) (b i c : ℕ)
   pub walk : r ≡ one_cell_more w (used_of place) (keys_of place)
 
 pub record Joined (ws : List ℕ) (vs : List ℤ) (known : Known) (b i c : ℕ) (w : Walk) (ks ls cells ks' kd' cs' ls' cells' : List ℕ) (r : Walk) : Type 0 where
-  pub full : r.answer ≡ no_room → 3 * w.cells + 3 ≤ length cells → NoRoom ws vs known b i (λ h e. gathered h e false) (place_of w) ks ls
-  pub read : (r.answer ≡ no_room → ⊥) → IfAdded ws vs known b i c w ks ls cells ks' kd' cs' ls' cells' r
+  pub full : answer_in r.outcome ≡ no_room → 3 * w.cells + 3 ≤ length cells → NoRoom ws vs known b i (λ h e. gathered h e false) (place_of w) ks ls
+  pub read : (answer_in r.outcome ≡ no_room → ⊥) → IfAdded ws vs known b i c w ks ls cells ks' kd' cs' ls' cells' r
   pub limit : r.limit ≡ w.limit
 
 pub holds_place : {known : Known} {t : Stored} {w : Walk} {f : ℕ → Option Expr} → Holding known t w f → Place t.keys t.kids t.companions t.list (place_of w)
@@ -53,17 +53,17 @@ holds_place {t = t} {w = w} h =
 pub record Left (ns : Nodes) (known : Known) (t : Stored) (w : Walk) (c last : ℕ) (f : ℕ → Option Expr) (t' : Stored) (r : Visited) : Type 0 where
   pub conditions : ℕ → Option Expr
   pub limit : r.walk.limit ≡ w.limit
-  pub answer : (r.walk.answer ≡ no_room → ⊥) → r.walk.answer ≡ w.answer
-  pub holding : r.walk.answer ≡ 0 → Holding known t' r.walk conditions
-  pub spent : (n : ℕ) → IfFits ns last n → r.walk.answer ≡ 0 → 3 * r.walk.used + w.cells ≤ 3 * w.used + n + r.walk.cells
-  pub room : (n : ℕ) → IfFits ns last n → Roomy t w n → r.walk.answer ≡ no_room → ⊥
-  pub on_next : (n : ℕ) → IfFits ns last n → r.walk.answer ≡ 0 → (r.next.0 ≡ 0 → ⊥) → conditions r.then.0 ≡ on_next_of ns (f c) last
-  pub on_else : (n : ℕ) → IfFits ns last n → r.walk.answer ≡ 0 → (r.next.0 ≡ 0 → ⊥) → conditions r.otherwise.0 ≡ on_else_of ns (f c) last
+  pub answer : (answer_in r.walk.outcome ≡ no_room → ⊥) → answer_in r.walk.outcome ≡ answer_in w.outcome
+  pub holding : answer_in r.walk.outcome ≡ 0 → Holding known t' r.walk conditions
+  pub spent : (n : ℕ) → IfFits ns last n → answer_in r.walk.outcome ≡ 0 → 3 * r.walk.used + w.cells ≤ 3 * w.used + n + r.walk.cells
+  pub room : (n : ℕ) → IfFits ns last n → Roomy t w n → answer_in r.walk.outcome ≡ no_room → ⊥
+  pub on_next : (n : ℕ) → IfFits ns last n → answer_in r.walk.outcome ≡ 0 → (r.next.0 ≡ 0 → ⊥) → conditions r.then.0 ≡ on_next_of ns (f c) last
+  pub on_else : (n : ℕ) → IfFits ns last n → answer_in r.walk.outcome ≡ 0 → (r.next.0 ≡ 0 → ⊥) → conditions r.otherwise.0 ≡ on_else_of ns (f c) last
   pub same : (k : ℕ) → k ≤ 2 * w.cells → conditions k ≡ f k
-  pub more : (r.walk.answer ≡ no_room → ⊥) → w.cells ≤ r.walk.cells
-  pub most : (r.walk.answer ≡ no_room → ⊥) → r.walk.cells ≤ w.cells + 1
-  pub low_next : (r.walk.answer ≡ no_room → ⊥) → r.then.0 ≤ 2 * r.walk.cells
-  pub low_else : (r.walk.answer ≡ no_room → ⊥) → r.otherwise.0 ≤ 2 * r.walk.cells
+  pub more : (answer_in r.walk.outcome ≡ no_room → ⊥) → w.cells ≤ r.walk.cells
+  pub most : (answer_in r.walk.outcome ≡ no_room → ⊥) → r.walk.cells ≤ w.cells + 1
+  pub low_next : (answer_in r.walk.outcome ≡ no_room → ⊥) → r.then.0 ≤ 2 * r.walk.cells
+  pub low_else : (answer_in r.walk.outcome ≡ no_room → ⊥) → r.otherwise.0 ≤ 2 * r.walk.cells
 
 -- whether the last If is read
 pub record ReadsOn (answer last next : ℕ) (r : Bool) : Type 0 where
@@ -77,8 +77,8 @@ GoesOn ws vs n known ks kd cs ls cells w c last ks' kd' cs' ls' cells' r =
     → Left (nodes_in ws vs n) known (stored_in ks kd cs ls seen alive cells) w c last f (stored_in ks' kd' cs' ls' seen alive cells') r
 
 -- nothing is read where there was a refusal, where there is no If, and where there is no next; condition 0 is none
-module _ (ns : Nodes) (known : Known) (t : Stored) (w : Walk) (c last : ℕ) (f : ℕ → Option Expr) (hold : Holding known t w f) (fine : w.answer ≡ no_room → ⊥) (nx el : Link) where
-  pub left_unread : ((w.answer ≡ 0) → (nx.0 ≡ 0 → ⊥) → last ≡ 0) → Left ns known t w c last f t (record { walk = w; next = nx; then = record { 0 = 0 }; other = el; otherwise = record { 0 = 0 } })
+module _ (ns : Nodes) (known : Known) (t : Stored) (w : Walk) (c last : ℕ) (f : ℕ → Option Expr) (hold : Holding known t w f) (fine : answer_in w.outcome ≡ no_room → ⊥) (nx el : Link) where
+  pub left_unread : ((answer_in w.outcome ≡ 0) → (nx.0 ≡ 0 → ⊥) → last ≡ 0) → Left ns known t w c last f t (record { walk = w; next = nx; then = record { 0 = 0 }; other = el; otherwise = record { 0 = 0 } })
   left_unread p = record {
     conditions = f;
     limit = refl;
@@ -96,7 +96,7 @@ module _ (ns : Nodes) (known : Known) (t : Stored) (w : Walk) (c last : ℕ) (f 
   }
 
 -- an If was read
-module _ (ws : List ℕ) (vs : List ℤ) (b : ℕ) (known : Known) (t : Stored) (w : Walk) (c last : ℕ) (f : ℕ → Option Expr) (hold : Holding known t w f) (low : c ≤ 2 * w.cells) (fine : w.answer ≡ no_room → ⊥)
+module _ (ws : List ℕ) (vs : List ℤ) (b : ℕ) (known : Known) (t : Stored) (w : Walk) (c last : ℕ) (f : ℕ → Option Expr) (hold : Holding known t w f) (low : c ≤ 2 * w.cells) (fine : answer_in w.outcome ≡ no_room → ⊥)
     (ks' kd' cs' ls' cells' : List ℕ) (r : Walk) (some-if : last ≡ 0 → ⊥)
     (j : Joined ws vs known b (last - 1) c w t.keys t.list t.cells ks' kd' cs' ls' cells' r) where
   abbrev e : Expr
@@ -157,7 +157,7 @@ module _ (ws : List ℕ) (vs : List ℤ) (b : ℕ) (known : Known) (t : Stored) 
   else_of : (n : ℕ) → IfFits (nodes_in ws vs b) last n → some (join (f c) (negate e)) ≡ on_else_of (nodes_in ws vs b) (f c) last
   else_of n i = let p = (i root is_root).0 in ap (λ x. some (join (f c) (negate x))) (e_is root is_root p) ∙ sym (ap (on_else_of (nodes_in ws vs b) (f c)) is_root)
 
-  here : r.answer ≡ 0 → r.answer ≡ no_room → ⊥
+  here : answer_in r.outcome ≡ 0 → answer_in r.outcome ≡ no_room → ⊥
   here z q = omega arith
 
   pub left_joined : (nx el : Link) (th ot : ℕ) → th ≡ 2 * w.cells + 1 → ot ≡ 2 * w.cells + 2

@@ -4,6 +4,7 @@
 ghost use Rattle.std.specs.Prelude.{◌≡◌, cond, ◌+◌, ◌*◌, ◌-◌, ◌≤◌, ◌<◌, length, get_or};
 ghost use Rattle.model.specs.Limits.{block_limit, node_limit};
 ghost use Rattle.model.specs.Refusal.{parse_too_many};
+ghost use Rattle.model.specs.Refusals.{refusal_in};
 ghost use Rattle.memory.specs.View.{memory_of};
 ghost use Rattle.shop.specs.Good.{GoodShop};
 ghost use Rattle.shop_arrays.specs.Arrays.{arrays_in, shop_from};
@@ -11,26 +12,33 @@ ghost use Rattle.parse_conditions.specs.Listing.{Place};
 ghost use Rattle.parse_filter.specs.Chains.{Bounds};
 ghost use Rattle.parse_filter.specs.Marks.{MarkedAs};
 ghost use Rattle.parse_scan.specs.Table.{table_of};
-ghost use Rattle.parse_visit.specs.State.{no_room, with_answer, one_cell_more, scanned_walk, stored_in, Held, Open, Visits};
+ghost use Rattle.parse_visit.specs.State.{no_room, answer_in, one_cell_more, scanned_walk, stored_in, Held, Open, Visits};
 ghost use Rattle.parse_visit.specs.Joins.{with_cell};
 ghost use Rattle.parse_visit.specs.Slots.{Slots};
 ghost use Rattle.parse_visit.specs.Ways.{place_of, Joined, ReadsOn, GoesOn};
 
-use memory::{BLOCKS, BlockWords, CommandWords, Counts, NodeWords, Values, index_of};
-use model::{BlockNo, Link};
+use memory::{BLOCKS, BlockWords, CommandWords, Counts, NodeWords, Values};
+use model::{BlockNo, Link, Refusal};
 use parse_conditions::{FULL, PLACES, read_condition};
 use parse_filter::{Marked, parse_requirements};
 use parse_keys::Known;
-use parse_scan::{Scanned, hides, scan_block, size, update_slots};
+use parse_scan::{Scanned, hides, scan_block, update_slots};
 use reach::Condition;
 use shop::{Codes, ENTRIES, SLOTS};
 
-// What is carried from block to block beside the arrays: the current limit, how many cells of conditions there are, the refusal or 0, how many entries of Ifs and keys there are, and the condition whose entries are marked.
+// Why a walk stops: it refuses, or there is no room in the tables, and it is made again in larger ones.
+#[derive(Clone, Copy, Debug, PartialEq, Eq)]
+pub enum Stop {
+    Refused(Refusal),
+    NoRoom,
+}
+
+// What is carried from block to block beside the arrays: the current limit, how many cells of conditions there are, whether the walk goes on, how many entries of Ifs and keys there are, and the condition whose entries are marked.
 #[derive(Clone, Copy)]
 pub struct Walk {
     pub limit: i16,
     pub cells: u16,
-    pub answer: u8,
+    pub outcome: Result<(), Stop>,
     pub used: u16,
     pub keyed: u16,
     pub marked: Marked,
@@ -60,26 +68,25 @@ pub struct Visited {
     pub otherwise: Condition,
 }
 
-// The refusal of the slots or 0, and the condition whose entries are marked.
+// Whether the slots had room, and the condition whose entries are marked.
 #[derive(Clone, Copy)]
 struct Slotted {
-    answer: u8,
+    outcome: Result<(), Refusal>,
     marked: Marked,
 }
-
-// No room in the tables: no refusal, the walk is made again in larger ones.
-pub const NO_ROOM: u8 = 255;
 
 // ---- the slots
 
 // The slots had room or not, and what is marked.
 fn updated(ok: bool, marked: Marked) -> Slotted
-    ensures { (result.answer ≡ cond ok 0 parse_too_many) × (result.marked ≡ marked) }
+    ensures { (refusal_in result.outcome ≡ cond ok 0 parse_too_many) × (result.marked ≡ marked) }
 {
-    if ok {
-        return Slotted { answer: 0, marked };
-    }
-    Slotted { answer: 11, marked }
+    let outcome = if ok {
+        Ok(())
+    } else {
+        Err(Refusal::ParseTooMany)
+    };
+    Slotted { outcome, marked }
 }
 
 // The slots as the block leaves them. Without a count no slot changes; only a block that hides a slot asks for the codes of the negated requirements of the condition c.
@@ -105,7 +112,6 @@ fn slots_after(
     requires good_shop { GoodShop (shop_from (arrays_in items.old limits.old codes.old lens.old)) }
     ensures { Slots keys.now companions.now cells.now list.now c known old.first (table_of s.item_mask ids.now) (table_of s.count_mask counts.now) (shop_from (arrays_in items.old limits.old codes.old lens.old)) seen.new alive.new (shop_from (arrays_in items.new limits.new codes.new lens.new)) result }
 {
-    size(counts);
     if s.count_mask == 0 {
         return updated(true, old);
     }
@@ -136,25 +142,30 @@ fn add_cell(cells: &mut [u16], n: usize, c: Condition, from: u16, to: u16)
 fn place(w: Walk) -> u32
     ensures { result ≡ place_of w }
 {
-    (w.keyed as u32) * PLACES + (w.used as u32)
+    u32::from(w.keyed) * PLACES + u32::from(w.used)
 }
 
-pub fn answered(mut w: Walk, answer: u8) -> Walk
-    ensures { result ≡ with_answer w answer }
+// The tables had no room for an If.
+fn out_of_room(w: Walk) -> Walk
+    ensures { (answer_in result.outcome ≡ no_room) × (result.limit ≡ w.limit) }
 {
-    w.answer = answer;
-    w
+    Walk {
+        outcome: Err(Stop::NoRoom),
+        ..w
+    }
 }
 
 // After an If was read: one cell more, and so many entries and keys.
-fn one_cell_more(mut w: Walk, used: u16, keyed: u16) -> Walk
+fn one_cell_more(w: Walk, used: u16, keyed: u16) -> Walk
     requires { w.cells < block_limit }
     ensures { result ≡ one_cell_more w used keyed }
 {
-    w.cells += 1;
-    w.used = used;
-    w.keyed = keyed;
-    w
+    Walk {
+        cells: w.cells + 1,
+        used,
+        keyed,
+        ..w
+    }
 }
 
 // The last If read and joined to the condition of the block b as a cell more.
@@ -171,20 +182,20 @@ fn join(
     w: Walk,
     b: Reached,
 ) -> Walk
-    requires { ((g.counts.nodes ≤ node_limit) × ((s.last_if ≡ 0 → ⊥) × (w.cells < block_limit))) × ((w.answer ≡ no_room → ⊥) × Place keys.old kids.old companions.old list.old (place_of w)) }
+    requires { ((g.counts.nodes ≤ node_limit) × ((s.last_if ≡ 0 → ⊥) × (w.cells < block_limit))) × ((answer_in w.outcome ≡ no_room → ⊥) × Place keys.old kids.old companions.old list.old (place_of w)) }
     ensures { Joined ws.now val.now g.known g.counts.nodes (s.last_if - 1) b.under.0 w keys.old list.old cells.old keys.new kids.new companions.new list.new cells.new result }
 {
-    let at = index_of(w.cells);
+    let at = usize::from(w.cells);
     if cells.len() < 3 * at + 3 {
-        return answered(w, NO_ROOM);
+        return out_of_room(w);
     }
     let known = g.known;
-    let n = index_of(g.counts.nodes);
-    let i = index_of(s.last_if - 1);
+    let n = usize::from(g.counts.nodes);
+    let i = usize::from(s.last_if - 1);
     let p = place(w);
     let r = read_condition(ws, val, keys, kids, companions, list, known, n, i, false, p);
     if r == FULL {
-        return answered(w, NO_ROOM);
+        return out_of_room(w);
     }
     let used = (r % PLACES) as u16;
     add_cell(cells, at, b.under, w.used, used);
@@ -200,19 +211,10 @@ fn block_word(bw: &BlockWords, b: BlockNo, j: usize) -> u16
     bw[5 * at + j]
 }
 
-fn reads_on(answer: u8, last: u16, next: Link) -> bool
-    ensures { ReadsOn answer last next.0 result }
+fn reads_on(outcome: Result<(), Stop>, last: u16, next: Link) -> bool
+    ensures { ReadsOn (answer_in outcome) last next.0 result }
 {
-    if answer != 0 {
-        return false;
-    }
-    if last == 0 {
-        return false;
-    }
-    if next.0 == 0 {
-        return false;
-    }
-    true
+    outcome.is_ok() && last != 0 && next.0 != 0
 }
 
 // Where the walk goes on after block b: its condition joined with its last If, negated for the else. It is read where the block has an If and a next, and nothing was refused.
@@ -230,12 +232,12 @@ fn go_on(
     w: Walk,
     b: Reached,
 ) -> Visited
-    requires { ((g.counts.nodes ≤ node_limit) × ((w.cells < block_limit) × (b.block.0 < block_limit))) × ((w.answer ≡ no_room → ⊥) × Place keys.old kids.old companions.old list.old (place_of w)) }
+    requires { ((g.counts.nodes ≤ node_limit) × ((w.cells < block_limit) × (b.block.0 < block_limit))) × ((answer_in w.outcome ≡ no_room → ⊥) × Place keys.old kids.old companions.old list.old (place_of w)) }
     ensures { GoesOn ws.now val.now g.counts.nodes g.known keys.old kids.old companions.old list.old cells.old w b.under.0 s.last_if keys.new kids.new companions.new list.new cells.new result × ((result.next.0 ≡ get_or bw.now (5 * b.block.0 + 3) 0) × (result.other.0 ≡ get_or bw.now (5 * b.block.0 + 4) 0)) }
 {
     let next = Link(block_word(bw, b.block, 3));
     let other = Link(block_word(bw, b.block, 4));
-    if !reads_on(w.answer, s.last_if, next) {
+    if !reads_on(w.outcome, s.last_if, next) {
         return Visited {
             walk: w,
             next,
@@ -257,14 +259,15 @@ fn go_on(
 // ---- the visit
 
 // After the block's commands and slots.
-fn scanned(mut w: Walk, s: Scanned, a: Slotted) -> Walk
+fn scanned(w: Walk, s: Scanned, a: Slotted) -> Walk
     ensures { result ≡ scanned_walk w s a }
 {
-    w.limit = s.limit;
-    w.answer = a.answer;
-    w.marked.first = a.marked.first;
-    w.marked.alive = a.marked.alive;
-    w
+    Walk {
+        limit: s.limit,
+        outcome: a.outcome.map_err(Stop::Refused),
+        marked: a.marked,
+        ..w
+    }
 }
 
 // Block b, which is code and not marked, under its condition.
@@ -315,7 +318,7 @@ pub fn visit(
         g.known.items,
         s,
         w.marked,
-        index_of(b.under.0),
+        usize::from(b.under.0),
     );
     let v = scanned(w, s, a);
     go_on(ws, val, bw, keys, kids, companions, list, cells, g, s, v, b)
