@@ -1,9 +1,10 @@
 -- The rule of faithful slots on the codes of requirements is the rule on requirements. Assumes nothing.
-use Rattle.std.specs.Prelude.{◌≡◌, Bool, false, not, cond, ◌&&◌, List, [], ◌∷◌, map, ℕ, ◌+◌, ◌*◌, ◌-◌, ◌/◌, ◌%◌, ◌≤◌, ◌<◌, eqb, ltb, length, take}
+use Rattle.std.specs.Prelude.{◌≡◌, Bool, false, not, cond, ◌&&◌, List, [], ◌∷◌, map, ℕ, ◌+◌, ◌*◌, ◌-◌, ◌/◌, ◌%◌, ◌≤◌, ◌<◌, eqb, ltb, length, take, Some}
 use Rattle.std.proofs.Math.Path.{refl}
 use Rattle.std.proofs.Common.{sym, ap, ◌∙◌, arith, eq-eqb, ne_eqb, ltb-true}
 use Rattle.std.proofs.Math.Bool.{true}
 use Rattle.std.proofs.Math.Option.{Option, none, some}
+use Rattle.std.specs.List.{list_all}
 use Rattle.model.specs.Limits.{entry_limit, wide, half32}
 use Rattle.model.specs.Refusal.{check}
 use Rattle.model.specs.Sheet as Model
@@ -25,7 +26,11 @@ use Rattle.model.specs.declared.ItemId.{ItemId}
 use Rattle.model.proofs.Laws.Bools.{not_or}
 use Rattle.shop.specs.declared.Sheet.{Sheet}
 use Rattle.shop.specs.declared.Slot.{Slot}
-use Rattle.shop.specs.declared.SlotItem.TheVariants.{Of}
+
+-- what an iterator asks of all is what the definitions ask of all
+pub all_same : {A : Type 0} (p : A → Bool) (xs : List A) → list_all p xs ≡ all p xs
+all_same p [] = refl
+all_same p (x ∷ xs) = ap (λ b. p x && b) (all_same p xs)
 
 -- the kinds go in pairs, 0 and 1, 2 and 3, 4 and 5, each the negation of the other
 abbrev pub negated_code : ℕ → ℕ
@@ -40,10 +45,6 @@ no_pair_code cs = all (λ c. lacks_code (negated_code c) cs) cs
 -- own: the code of the acquired test
 abbrev pub faithful_code : Bool → ℕ → List ℕ → Bool
 faithful_code one own cs = no_pair_code cs && cond one (lacks_code own cs) true
-
--- by the answers of its tests
-pub faithful_by : (one : Bool) (own : ℕ) (cs : List ℕ) (a b c : Bool) → no_pair_code cs ≡ a → one ≡ b → lacks_code own cs ≡ c → a && cond b c true ≡ faithful_code one own cs
-faithful_by one own cs a b c p q r = rw (p, q, r)
 
 -- ---- on codes as on requirements
 
@@ -103,7 +104,7 @@ module _ (h : Model.Sheet) (ok : sheet_ok h ≡ true) (x : Slot) (good : slot_ok
   codes_are l = sym ((slot_exact h ok x good).same ∙ entries_take x.len x.requirements (omega (arith, slot_few)))
 
   -- the acquired test is on the sheet, as its item is
-  pub own_narrow : (w : ItemId) → x.item ≡ Of w → Narrow (acquired_of h w.0)
+  pub own_narrow : (w : ItemId) → x.item ≡ Some w → Narrow (acquired_of h w.0)
   unfolding acquired_of slot_of
   own_narrow w e = by (atc_for h w.0) refl
     where
