@@ -1,37 +1,26 @@
 // The call compile: its checks in the order of 01 and 02, then the shop's blocks appended and the setup block linked to them.
 #![tactic(auto)]
 
-ghost use Rattle.std.specs.Prelude.{◌≡◌};
+ghost use Rattle.model.specs.Refusals.{refusal_in};
 ghost use Rattle.memory.specs.View.{born_of};
 ghost use Rattle.shop.specs.Shapes.{sheet_of};
 ghost use Rattle.shop_arrays.specs.Arrays.{arrays_in, shop_from};
-ghost use Rattle.compile.specs.Answer.{call_of, CompiledAs};
+ghost use Rattle.compile.specs.Answer.{call_of, counts_after, compiles_after, CompiledAs};
 
 use births::{birth_of, mark_births, one_compile};
 use checks::check_call;
 use compile_sizes::check_room;
 use compile_slots::compile_shop;
 use memory::{Births, BlockWords, CommandWords, Counts, NodeWords, Values, set_block};
-use model::{BlockNo, Loader};
+use model::{BlockNo, Loader, Refusal};
 use shop::{CODES, Codes, SLOTS, Sheet, Shop};
 use shop_arrays::{arrays_of, check_arrays};
 
-// The refusal or 0, the counts of the script after the call, and the count of its accepted compiles.
+// The counts of the script after an accepted call, and the count of its accepted compiles.
 #[derive(Clone, Copy)]
 pub struct Compiled {
-    pub refusal: u8,
     pub counts: Counts,
     pub compiles: u32,
-}
-
-fn answer(refusal: u8, counts: Counts, compiles: u32) -> Compiled
-    ensures { result ≡ record { refusal = refusal; counts = counts; compiles = compiles } }
-{
-    Compiled {
-        refusal: refusal,
-        counts: counts,
-        compiles: compiles,
-    }
 }
 
 // ShopCompiler::compile with replace, of the shop that the arrays stand for: the blocks go to the end, the setup block becomes empty code whose next is the root, the block last pushed. The fresh blocks bear the new count of compiles.
@@ -52,30 +41,27 @@ pub fn compile_arrays(
     limits: &[i16; SLOTS],
     codes: &Codes,
     lens: &[u8; SLOTS],
-) -> Compiled
-    ensures { CompiledAs (sheet_of attached.now sheet) (born_of ws.old val.old cw.old bw.old counts births.old compiles) (call_of loader setup.0 (shop_from (arrays_in items.now limits.now codes.now lens.now))) result.refusal (born_of ws.new val.new cw.new bw.new result.counts births.new result.compiles) }
+) -> Result<Compiled, Refusal>
+    ensures { CompiledAs (sheet_of attached.now sheet) (born_of ws.old val.old cw.old bw.old counts births.old compiles) (call_of loader setup.0 (shop_from (arrays_in items.now limits.now codes.now lens.now))) (refusal_in result) (born_of ws.new val.new cw.new bw.new (counts_after counts result) births.new (compiles_after compiles result)) }
 {
-    let first = check_call(attached, sheet, ws, val, cw, bw, counts, setup);
-    if first != 0 {
-        return answer(first, counts, compiles);
-    }
+    check_call(attached, sheet, ws, val, cw, bw, counts, setup)?;
     if birth_of(births, setup) != 0 {
-        return answer(17, counts, compiles);
+        return Err(Refusal::BornLater);
     }
     if !check_arrays(attached, sheet, items, codes, lens) {
-        return answer(8, counts, compiles);
+        return Err(Refusal::BadShop);
     }
-    let full = check_room(attached, sheet, counts, loader, items, limits, codes, lens);
-    if full != 0 {
-        return answer(full, counts, compiles);
-    }
+    check_room(attached, sheet, counts, loader, items, limits, codes, lens)?;
     let after = compile_shop(
         attached, sheet, ws, val, cw, bw, counts, items, limits, codes, lens,
     );
     set_block(bw, setup.0 as u16, 1, 0, 0, after.blocks, 0);
     let mark = one_compile(compiles);
     mark_births(births, counts.blocks, after.blocks, mark);
-    answer(0, after, mark)
+    Ok(Compiled {
+        counts: after,
+        compiles: mark,
+    })
 }
 
 // The same of a shop as a value.
@@ -92,8 +78,8 @@ pub fn compile(
     loader: Loader,
     setup: BlockNo,
     shop: Shop,
-) -> Compiled
-    ensures { CompiledAs (sheet_of attached.now sheet) (born_of ws.old val.old cw.old bw.old counts births.old compiles) (call_of loader setup.0 shop) result.refusal (born_of ws.new val.new cw.new bw.new result.counts births.new result.compiles) }
+) -> Result<Compiled, Refusal>
+    ensures { CompiledAs (sheet_of attached.now sheet) (born_of ws.old val.old cw.old bw.old counts births.old compiles) (call_of loader setup.0 shop) (refusal_in result) (born_of ws.new val.new cw.new bw.new (counts_after counts result) births.new (compiles_after compiles result)) }
 {
     let mut items = [-1; SLOTS];
     let mut limits = [0; SLOTS];
