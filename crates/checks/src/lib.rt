@@ -24,53 +24,28 @@ use shop::{Sheet, check_sheet};
 pub fn counts_ok(items: &[i16]) -> bool
     ensures { result ≡ all is_count items.now }
 {
-    let mut i = 0;
-    while i < items.len() {
-        let x = items[i];
-        if x < 0 {
-            return false;
-        }
-        i += 1;
-    }
-    true
+    items.iter().all(|x| *x >= 0)
 }
 
 // Each is 0 or 1. The largest is taken first: without a way out of the loop it goes over many at a time.
 pub fn bits_ok(bits: &[u8]) -> bool
     ensures { result ≡ all is_bit bits.now }
 {
-    let mut most = 0;
-    let mut i = 0;
-    while i < bits.len() {
-        let x = bits[i];
-        if most < x {
-            most = x;
-        }
-        i += 1;
-    }
-    most <= 1
+    bits.iter().copied().max().unwrap_or(0) <= 1
 }
 
 // Reading a number tells that it is one of 16 bits, and so of all of them. Nothing is computed: the compiled loop is empty.
 pub fn shorts_known(list: &[i16])
     ensures { all (in_range w16) list.now ≡ true }
 {
-    let mut i = 0;
-    while i < list.len() {
-        let x = list[i];
-        i += 1;
-    }
+    for &_x in list {}
 }
 
-// The same of 32 bits.
+// The same of 32 bits. The two stay apart: the fact that each is there for names the width.
 pub fn numbers_known(list: &[i32])
     ensures { all (in_range w32) list.now ≡ true }
 {
-    let mut i = 0;
-    while i < list.len() {
-        let x = list[i];
-        i += 1;
-    }
+    for &_x in list {}
 }
 
 // Check 12: lengths and values. Times and variables are numbers of 16 and 32 bits by their types.
@@ -85,27 +60,16 @@ pub fn check_save(
 ) -> bool
     ensures { result ≡ save_ok (sheet_of attached.now sheet) (save_of items.now atcs.now flags.now times.now vars.now) }
 {
-    if items.len() != attached.len() {
-        return false;
-    }
-    if !counts_ok(items) {
-        return false;
-    }
-    if atcs.len() != sheet.atcs as usize {
-        return false;
-    }
-    if !bits_ok(atcs) {
-        return false;
-    }
-    if flags.len() != FLAGS {
-        return false;
-    }
-    if !bits_ok(flags) {
-        return false;
-    }
     shorts_known(times);
     numbers_known(vars);
-    times.len() == TIMES && vars.len() == VARIABLES
+    items.len() == attached.len()
+        && counts_ok(items)
+        && atcs.len() == usize::from(sheet.atcs)
+        && bits_ok(atcs)
+        && flags.len() == FLAGS
+        && bits_ok(flags)
+        && times.len() == TIMES
+        && vars.len() == VARIABLES
 }
 
 // Checks 6 and 7.
