@@ -1,5 +1,5 @@
 -- The loop over Turning: where it ends, what a visit wants, and that a turn keeps it. Assumes nothing.
-use mathlib.Core.Path.{◌≡◌, ◌∙◌}
+use mathlib.Core.Path.{◌≡◌, refl, ◌∙◌}
 use mathlib.Core.Bool.{Bool, false}
 use mathlib.Core.List.{List}
 use Prim.Native.Nat.{ℕ, ◌+◌, ◌*◌, ◌-◌, ◌≤◌, ◌<◌}
@@ -14,7 +14,7 @@ use Rattle.parse_keys.specs.Sheets.{known_sheet, knows}
 use Rattle.parse_keys.specs.declared.Known.{Known}
 use Rattle.parse_visit.specs.declared.Walk.{Walk}
 use Rattle.parse_visit.specs.declared.Visited.{Visited}
-use Rattle.parse_visit.specs.State.{no_room, Stored, Held, Open, Entered, Roomy, nodes_at, Leaves, with_answer}
+use Rattle.parse_visit.specs.State.{no_room, answer_in, Stored, Held, Open, Entered, Roomy, nodes_at, Leaves}
 use Rattle.parse_walk.specs.Walks.{Turning, Lengths, Large, Ends}
 use Rattle.parse_walk.proofs.Turns.{few_blocks, Coded, came_end, came_stopped, came_refused, opens, weight_here, one_less, top_low, less, again, same}
 
@@ -28,26 +28,26 @@ module _ {known : Known} {m : Memory} {b₀ : ℕ} {t : Stored} {marks : List Bo
   held = record { conditions = q.conditions; holding = q.holding }
 
   -- nothing is left to visit
-  pub ends_none : {t₀ : Stored} {stack₀ : List ℕ} → top_of (take m.count marks) stack depth ≡ 0 → Ends known m b₀ t₀ stack₀ s w
+  pub ends_none : {t₀ : Stored} {stack₀ : List ℕ} → top_of (take m.count marks) stack depth ≡ 0 → Ends known m b₀ t₀ stack₀ s 0
   ends_none e = record {
     walked = λ n h k. came_end q.ready h q.conditions _ (q.parses h k) e;
-    room = λ l n. omega (arith, q.ready.fine);
+    room = λ l n. omega arith;
   }
 
   -- the first unmarked entry, block b under condition c
   module _ {top b c : ℕ} (at : top ≡ top_of (take m.count marks) stack depth) (some_left : top ≡ 0 → ⊥)
       (eb : b ≡ get_or stack (2 * (top - 1)) 0) (ec : c ≡ get_or stack (2 * (top - 1) + 1) 0) where
-    pub ends_stopped : {t₀ : Stored} {stack₀ : List ℕ} {s' : Shop} {r : Walk} → is_code_at m.words m.count b ≡ false → r ≡ with_answer w parse_not_code → Ends known m b₀ t₀ stack₀ s' r
-    ends_stopped {s' = s'} {r = r} e o = record {
-      walked = λ n h k. came_stopped q.ready at some_left eb ec h q.conditions _ s' r (q.parses h k) e (rw o);
-      room = λ l n. let z : r.answer ≡ parse_not_code = rw o in omega arith;
+    pub ends_stopped : {t₀ : Stored} {stack₀ : List ℕ} {s' : Shop} → is_code_at m.words m.count b ≡ false → Ends known m b₀ t₀ stack₀ s' parse_not_code
+    ends_stopped {s' = s'} e = record {
+      walked = λ n h k. came_stopped q.ready at some_left eb ec h q.conditions _ s' (q.parses h k) e;
+      room = λ l n. omega arith;
     }
 
     module _ {t₀ : Stored} {stack₀ : List ℕ} (k : Coded m b) (lengths : Lengths t stack t₀ stack₀) where
       -- no room on the stack for what the block may push
-      pub ends_full : {s' : Shop} {r : Walk} → length stack < 2 * (top - 1) + 4 → r ≡ with_answer w no_room → Ends known m b₀ t₀ stack₀ s' r
-      ends_full {s'} {r} e o = record {
-        walked = λ n. absurd (n (rw o));
+      pub ends_full : {s' : Shop} → length stack < 2 * (top - 1) + 4 → Ends known m b₀ t₀ stack₀ s' no_room
+      ends_full {s'} e = record {
+        walked = λ n. absurd (n refl);
         room = λ l n. omega (arith, (same_large lengths l).tall, top_low q.ready at some_left eb ec, q.ready.room, one_less q.ready at some_left eb ec k);
       }
 
@@ -66,14 +66,14 @@ module _ {known : Known} {m : Memory} {b₀ : ℕ} {t : Stored} {marks : List Bo
           }
 
       module _ {t' : Stored} {marks' : List Bool} {s' : Shop} {v : Visited} (g : Leaves m known t marks s w b c q.conditions t' marks' s' v) where
-        pub ends_refused : (v.walk.answer ≡ 0 → ⊥) → Ends known m b₀ t₀ stack₀ s' v.walk
+        pub ends_refused : (answer_in v.walk.outcome ≡ 0 → ⊥) → Ends known m b₀ t₀ stack₀ s' (answer_in v.walk.outcome)
         ends_refused n = record {
           walked = λ d h i. came_refused q.ready at some_left eb ec k (g.entered d h i) _ (q.parses h i) n;
           room = λ l e. g.room (roomy l) e;
         }
 
-        module _ (z : v.walk.answer ≡ 0) where
-          there : v.walk.answer ≡ no_room → ⊥
+        module _ (z : answer_in v.walk.outcome ≡ 0) where
+          there : answer_in v.walk.outcome ≡ no_room → ⊥
           there e = omega arith
 
           abbrev left : Entered (known_sheet known) m marks q.conditions s w b c marks' g.conditions s' v

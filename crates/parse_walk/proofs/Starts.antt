@@ -158,9 +158,9 @@ large_start m few n a c l s v r d b kr kl kn kd = record {
 
 -- ---- where the walk ends
 
-module _ {known : Known} {m : Memory} {b : ℕ} {t : Stored} {stack : List ℕ} {s : Code.Shop} {r : Walk} (e : Ends known m b t stack s r) (setup : ℕ) (is : b ≡ setup) where
-  pub walked_from : WalkedIf known m setup s r
+module _ {known : Known} {m : Memory} {b : ℕ} {t : Stored} {stack : List ℕ} {s : Code.Shop} {a : ℕ} (e : Ends known m b t stack s a) (setup : ℕ) (is : b ≡ setup) where
+  pub walked_from : WalkedIf known m setup s a
   walked_from d h k = rw is at (e.walked d h k)
 
-  pub walked_large : Large m t stack → (h : Sheet) → Has h known.items known.atcs → Walked h m setup s r
+  pub walked_large : Large m t stack → (h : Sheet) → Has h known.items known.atcs → Walked h m setup s a
   walked_large l h k = walked_from (e.room l) h k

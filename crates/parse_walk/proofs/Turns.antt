@@ -13,7 +13,7 @@ use Rattle.model.specs.Limits.{block_limit}
 use Rattle.model.specs.Refusal.{parse_not_code}
 use Rattle.model.specs.Expr.{Expr}
 use Rattle.model.specs.Sheet.{Sheet}
-use Rattle.model.specs.Script.{placeholder, code, block_at, block_nodes}
+use Rattle.model.specs.Script.{placeholder, block_at, block_nodes}
 use Rattle.model.specs.Memory.{Memory, block_word, link_in, block_by, block_in, script_of}
 use Rattle.model.specs.Parse.{State, refuse, scanned, visited}
 use Rattle.memory.specs.RecordLaws.{block_at_lem}
@@ -26,7 +26,7 @@ use Rattle.reach.specs.Weights.{weight_of, weight_set}
 use Rattle.reach.specs.Stacks.{stack_of, top_of, ways, grows, Pushed, is_code_at, AllLow, top_most, top_free, low_top, low_pushed}
 use Rattle.parse_visit.specs.declared.Walk.{Walk}
 use Rattle.parse_visit.specs.declared.Visited.{Visited}
-use Rattle.parse_visit.specs.State.{Accepted, state_of, commands_of, state_after, scan_in, Open, Entered, nodes_at}
+use Rattle.parse_visit.specs.State.{answer_in, Accepted, state_of, commands_of, state_after, scan_in, Open, Entered, nodes_at}
 use Rattle.parse_walk.specs.Steps.{step_by, step, walks, stack_skip, stack_visit, stack_off}
 use Rattle.parse_walk.specs.Walks.{under, walks_in, nodes_left, Ready, Came}
 
@@ -109,8 +109,8 @@ ways_same : (nx : ℕ) (el : Option ℕ) (c c' d d' : Option Expr) (es : List (E
 ways_same zero el c c' d d' es p q = refl
 ways_same (suc k) el c c' d d' es p q = rw (p (λ e. omega arith), q (λ e. omega arith))
 
-came_as : {st st' : State} {end : Shop} {out : Walk} → st ≡ st' → Came st end out → Came st' end out
-came_as {end = end} {out = out} e c = subst (λ x. Came x end out) e c
+came_as : {st st' : State} {end : Shop} {a : ℕ} → st ≡ st' → Came st end a → Came st' end a
+came_as {end = end} {a = a} e c = subst (λ x. Came x end a) e c
 
 module _ {m : Memory} {marks : List Bool} {stack : List ℕ} {s : Shop} {w : Walk} {depth : ℕ} (r : Ready m marks stack s w depth) where
   -- nothing is left to visit
@@ -120,8 +120,8 @@ module _ {m : Memory} {marks : List Bool} {stack : List ℕ} {s : Shop} {w : Wal
       tops h m f stack (state_of m.count marks s w) depth
       ∙ ap (λ d. walks h (script_of m).blocks (map (under f) (stack_of stack d)) (state_of m.count marks s w)) e
 
-  pub came_end : (h : Sheet) (f : ℕ → Option Expr) (st : State) → walks_in h m marks f stack depth s w ≡ st → top_of (take m.count marks) stack depth ≡ 0 → Came st s w
-  came_end h f st i e = came_as (sym (turn_none h f e) ∙ i) (record { answer = refl; slots = λ z. refl; good = λ z. r.good })
+  pub came_end : (h : Sheet) (f : ℕ → Option Expr) (st : State) → walks_in h m marks f stack depth s w ≡ st → top_of (take m.count marks) stack depth ≡ 0 → Came st s 0
+  came_end h f st i e = came_as (sym (turn_none h f e) ∙ i) (record { answer = sym r.fine; slots = λ z. refl; good = λ z. r.good })
 
   pub top_fits : {top : ℕ} → top ≡ top_of (take m.count marks) stack depth → 2 * top ≤ length stack
   top_fits e = omega (arith, top_most (take m.count marks) stack depth, r.tall)
@@ -156,7 +156,7 @@ module _ {m : Memory} {marks : List Bool} {stack : List ℕ} {s : Shop} {w : Wal
         tops h m f stack (state_of m.count marks s w) depth
         ∙ ap (λ es. walks h (script_of m).blocks (map (under f) es) (state_of m.count marks s w)) (ap (stack_of stack) (sym at) ∙ entries)
         ∙ stack_visit h (script_of m).blocks (under f (entry b c)) (map (under f) (stack_of stack (top - 1))) (state_of m.count marks s w)
-        (r.long ∙ sym (blocks_counted m)) (or_both _ _ free (rw (eq-eqb w.answer 0 r.fine)))
+        (r.long ∙ sym (blocks_counted m)) (or_both _ _ free (rw (eq-eqb (answer_in w.outcome) 0 r.fine)))
 
     -- a block not code
     turn_stops : (h : Sheet) (f : ℕ → Option Expr) → is_code_at m.words m.count b ≡ false → walks_in h m marks f stack depth s w ≡ refuse parse_not_code (state_of m.count marks s w)
@@ -165,9 +165,9 @@ module _ {m : Memory} {marks : List Bool} {stack : List ℕ} {s : Shop} {w : Wal
         ∙ ap (λ p. walks h (script_of m).blocks (pushed p.ways (map (under f) (stack_of stack (top - 1)))) p.state) (step_stops m b h (f c) (state_of m.count marks s w) e)
         ∙ stack_off h (script_of m).blocks (map (under f) (stack_of stack (top - 1))) (refuse parse_not_code (state_of m.count marks s w)) (λ z. omega arith)
 
-    pub came_stopped : (h : Sheet) (f : ℕ → Option Expr) (st : State) (end : Shop) (out : Walk) → walks_in h m marks f stack depth s w ≡ st → is_code_at m.words m.count b ≡ false → out.answer ≡ parse_not_code → Came st end out
-    came_stopped h f st end out i e q =
-        came_as (sym (turn_stops h f e) ∙ i) (record { answer = q; slots = λ z. absurd (omega arith); good = λ z. absurd (omega arith) })
+    pub came_stopped : (h : Sheet) (f : ℕ → Option Expr) (st : State) (end : Shop) → walks_in h m marks f stack depth s w ≡ st → is_code_at m.words m.count b ≡ false → Came st end parse_not_code
+    came_stopped h f st end i e =
+        came_as (sym (turn_stops h f e) ∙ i) (record { answer = refl; slots = λ z. absurd (omega arith); good = λ z. absurd (omega arith) })
 
     -- a code block
     module _ (k : Coded m b) where
@@ -198,14 +198,14 @@ module _ {m : Memory} {marks : List Bool} {stack : List ℕ} {s : Shop} {w : Wal
             ∙ ap (λ p. walks h (script_of m).blocks (pushed p.ways (map (under f) (stack_of stack (top - 1)))) p.state) (step_goes m b h (f c) (state_of m.count marks s w) k)
 
         -- a refusal: the rest of the stack does nothing
-        pub came_refused : (st : State) → walks_in h m marks f stack depth s w ≡ st → (v.walk.answer ≡ 0 → ⊥) → Came st s' v.walk
+        pub came_refused : (st : State) → walks_in h m marks f stack depth s w ≡ st → (answer_in v.walk.outcome ≡ 0 → ⊥) → Came st s' (answer_in v.walk.outcome)
         came_refused st i n = record {
           answer = g.answer ∙ ap (λ x. x.answer) (sym (went_code ∙ stack_off h (script_of m).blocks _ (state_after h m marks (f c) s w b) (λ z. n (g.answer ∙ z))) ∙ i);
           slots = λ z. absurd (n z);
           good = λ z. absurd (n z);
         }
 
-        module _ (z : v.walk.answer ≡ 0) where
+        module _ (z : answer_in v.walk.outcome ≡ 0) where
           new_marks : take m.count marks' ≡ set (take m.count marks) b true
           unfolding visited
           new_marks = ap (λ x. x.marks) (g.state z)

@@ -1,5 +1,5 @@
 -- The walk as the code keeps it: a stack of blocks with the numbers of their conditions, and what the loop keeps and answers. Assumes nothing: these are definitions.
-use Rattle.std.specs.Prelude.{◌≡◌, Bool, List, map, ℕ, ◌+◌, ◌*◌, ◌≤◌, ◌<◌, pos, length, take}
+use Rattle.std.specs.Prelude.{◌≡◌, Ok, Bool, List, map, ℕ, ◌+◌, ◌*◌, ◌≤◌, ◌<◌, pos, length, take}
 use Rattle.std.proofs.Math.Option.{Option, none}
 use Rattle.model.specs.Limits.{block_limit, node_limit}
 use Rattle.model.specs.Expr.{Expr}
@@ -17,7 +17,7 @@ use Rattle.reach.specs.Weights.{weight_of}
 use Rattle.reach.specs.Stacks.{stack_of, AllLow}
 use Rattle.parse_keys.specs.declared.Known.{Known}
 use Rattle.parse_visit.specs.declared.Walk.{Walk}
-use Rattle.parse_visit.specs.State.{Accepted, no_room, Stored, Holding, state_of}
+use Rattle.parse_visit.specs.State.{Accepted, no_room, answer_in, Stored, Holding, state_of}
 use Rattle.parse_walk.specs.Steps.{walks}
 
 -- ---- what the stack stands for
@@ -42,7 +42,7 @@ pub record Ready (m : Memory) (marks : List Bool) (stack : List ℕ) (s : Shop) 
   pub room : depth + unmarked (take m.count marks) ≤ m.count + 1
   pub free : w.cells + unmarked (take m.count marks) ≤ m.count
   pub spent : 3 * w.used + nodes_left m marks ≤ node_limit + w.cells
-  pub fine : w.answer ≡ 0
+  pub fine : answer_in w.outcome ≡ 0
   pub good : GoodShop s
   pub low : AllLow w.cells (stack_of stack depth)
 
@@ -72,7 +72,7 @@ pub record Large (m : Memory) (t : Stored) (stack : List ℕ) : Type 0 where
   pub tall : 2 * m.count + 2 ≤ length stack
 
 abbrev pub start_walk : Walk
-start_walk = record { limit = pos 0; cells = 0; answer = 0; used = 0; keyed = 0; marked = record { first = 0; alive = 0 } }
+start_walk = record { limit = pos 0; cells = 0; outcome = Ok tt; used = 0; keyed = 0; marked = record { first = 0; alive = 0 } }
 
 -- no condition is known but 0, which is none
 abbrev pub none_yet : ℕ → Option Expr
@@ -80,21 +80,21 @@ none_yet c = none
 
 -- ---- what it answers
 
--- where there is a refusal only the answer counts
-pub record Came (st : State) (s : Shop) (r : Walk) : Type 0 where
-  pub answer : r.answer ≡ st.answer
-  pub slots : r.answer ≡ 0 → slots_of s ≡ st.slots
-  pub good : r.answer ≡ 0 → GoodShop s
+-- the answer a; where there is a refusal only the answer counts
+pub record Came (st : State) (s : Shop) (a : ℕ) : Type 0 where
+  pub answer : a ≡ st.answer
+  pub slots : a ≡ 0 → slots_of s ≡ st.slots
+  pub good : a ≡ 0 → GoodShop s
 
 -- the script of m parsed from block b
-abbrev pub Walked : Sheet → Memory → ℕ → Shop → Walk → Type 0
-Walked h m b s r = Came (parse h (script_of m).blocks b) s r
+abbrev pub Walked : Sheet → Memory → ℕ → Shop → ℕ → Type 0
+Walked h m b s a = Came (parse h (script_of m).blocks b) s a
 
 -- for every sheet of so many items and atcs, where there was room
-abbrev pub WalkedIf : Known → Memory → ℕ → Shop → Walk → Type 0
-WalkedIf known m b s r = (r.answer ≡ no_room → ⊥) → (h : Sheet) → Has h known.items known.atcs → Walked h m b s r
+abbrev pub WalkedIf : Known → Memory → ℕ → Shop → ℕ → Type 0
+WalkedIf known m b s a = (a ≡ no_room → ⊥) → (h : Sheet) → Has h known.items known.atcs → Walked h m b s a
 
 -- .. and in large tables there is
-pub record Ends (known : Known) (m : Memory) (b : ℕ) (t : Stored) (stack : List ℕ) (s : Shop) (r : Walk) : Type 0 where
-  pub walked : WalkedIf known m b s r
-  pub room : Large m t stack → r.answer ≡ no_room → ⊥
+pub record Ends (known : Known) (m : Memory) (b : ℕ) (t : Stored) (stack : List ℕ) (s : Shop) (a : ℕ) : Type 0 where
+  pub walked : WalkedIf known m b s a
+  pub room : Large m t stack → a ≡ no_room → ⊥

@@ -3,18 +3,19 @@
 
 ghost use Rattle.std.specs.Prelude.{◌≡◌, false, ◌≤◌, ◌<◌, length, get_or, replicate};
 ghost use Rattle.model.specs.Limits.{block_limit};
+ghost use Rattle.model.specs.Refusals.{refusal_in};
 ghost use Rattle.model.specs.Sheet.{Sheet};
 ghost use Rattle.memory.specs.View.{memory_of};
 ghost use Rattle.expr.specs.Requirement.{Has};
 ghost use Rattle.shop.specs.Shapes.{no_shop};
 ghost use Rattle.shop_arrays.specs.Arrays.{arrays_in, shop_from};
-ghost use Rattle.parse_visit.specs.State.{Accepted, stored_in, Holding};
+ghost use Rattle.parse_visit.specs.State.{Accepted, answer_in, stored_in, Holding};
 ghost use Rattle.parse_walk.specs.Walks.{start_walk, none_yet, Walked, WalkedIf, Ends};
 
 use memory::{BLOCKS, BlockWords, CommandWords, NodeWords, Values};
-use model::BlockNo;
+use model::{BlockNo, Refusal};
 use parse_filter::Marked;
-use parse_visit::{Given, NO_ROOM, Reached, Walk, answered, visit};
+use parse_visit::{Given, Reached, Stop, Walk, visit};
 use reach::{Condition, is_code, push, top_unmarked};
 use shop::{Codes, SLOTS};
 use shop_arrays::clear_arrays;
@@ -25,7 +26,7 @@ fn start() -> Walk
     Walk {
         limit: 0,
         cells: 0,
-        answer: 0,
+        outcome: Ok(()),
         used: 0,
         keyed: 0,
         marked: Marked { first: 0, alive: 0 },
@@ -53,10 +54,10 @@ fn walk_all(
     codes: &mut Codes,
     lens: &mut [u8; SLOTS],
     g: Given,
-) -> Walk
+) -> Result<(), Stop>
     requires holding { Holding g.known (stored_in keys.old kids.old companions.old list.old seen.old alive.old cells.old) start_walk none_yet × ((marks.old ≡ replicate block_limit false) × ((2 ≤ length stack.old) × (get_or stack.old 1 0 ≡ 0))) }
     requires accepted { Accepted (memory_of ws.now val.now cw.now bw.now g.counts) × (shop_from (arrays_in items.old limits.old codes.old lens.old) ≡ no_shop) }
-    ensures { Ends g.known (memory_of ws.now val.now cw.now bw.now g.counts) (get_or stack.old 0 0) (stored_in keys.old kids.old companions.old list.old seen.old alive.old cells.old) stack.old (shop_from (arrays_in items.new limits.new codes.new lens.new)) result }
+    ensures { Ends g.known (memory_of ws.now val.now cw.now bw.now g.counts) (get_or stack.old 0 0) (stored_in keys.old kids.old companions.old list.old seen.old alive.old cells.old) stack.old (shop_from (arrays_in items.new limits.new codes.new lens.new)) (answer_in result) }
 {
     let mut ids = [0i16; SLOTS];
     let mut counts = [0i16; SLOTS];
@@ -65,15 +66,15 @@ fn walk_all(
     while 0 < depth {
         let top = top_unmarked(marks, stack, g.counts.blocks, depth);
         if top == 0 {
-            return w;
+            return Ok(());
         }
         let d = top - 1;
-        let block = BlockNo(stack[2 * d] as u32);
+        let block = BlockNo(u32::from(stack[2 * d]));
         if !is_code(bw, g.counts.blocks, block) {
-            return answered(w, 10);
+            return Err(Stop::Refused(Refusal::ParseNotCode));
         }
         if stack.len() < 2 * d + 4 {
-            return answered(w, NO_ROOM);
+            return Err(Stop::NoRoom);
         }
         let under = Condition(stack[2 * d + 1]);
         let b = Reached { block, under };
@@ -100,13 +101,11 @@ fn walk_all(
             w,
             b,
         );
+        v.walk.outcome?;
         w = v.walk;
-        if w.answer != 0 {
-            return w;
-        }
         depth = push(stack, d, v.next, v.then, v.other, v.otherwise);
     }
-    w
+    Ok(())
 }
 
 // With tables for what a usual shop reaches, whatever the script's size.
@@ -121,10 +120,10 @@ fn walk_few(
     lens: &mut [u8; SLOTS],
     g: Given,
     setup: BlockNo,
-) -> Walk
+) -> Result<(), Stop>
     requires accepted { Accepted (memory_of ws.now val.now cw.now bw.now g.counts) × (shop_from (arrays_in items.old limits.old codes.old lens.old) ≡ no_shop) }
     requires setup_lt_blocks { setup.0 < g.counts.blocks }
-    ensures { WalkedIf g.known (memory_of ws.now val.now cw.now bw.now g.counts) setup.0 (shop_from (arrays_in items.new limits.new codes.new lens.new)) result }
+    ensures { WalkedIf g.known (memory_of ws.now val.now cw.now bw.now g.counts) setup.0 (shop_from (arrays_in items.new limits.new codes.new lens.new)) (answer_in result) }
 {
     let mut keys = [0u64; 256];
     let mut kids = [0u16; 512];
@@ -170,10 +169,10 @@ fn walk_many(
     lens: &mut [u8; SLOTS],
     g: Given,
     setup: BlockNo,
-) -> Walk
+) -> Result<(), Refusal>
     requires accepted { Accepted (memory_of ws.now val.now cw.now bw.now g.counts) × (shop_from (arrays_in items.old limits.old codes.old lens.old) ≡ no_shop) }
     requires setup_lt_blocks { setup.0 < g.counts.blocks }
-    ensures { (h : Sheet) → Has h g.known.items g.known.atcs → Walked h (memory_of ws.now val.now cw.now bw.now g.counts) setup.0 (shop_from (arrays_in items.new limits.new codes.new lens.new)) result }
+    ensures { (h : Sheet) → Has h g.known.items g.known.atcs → Walked h (memory_of ws.now val.now cw.now bw.now g.counts) setup.0 (shop_from (arrays_in items.new limits.new codes.new lens.new)) (refusal_in result) }
 {
     let mut keys = [0u64; 12289];
     let mut kids = [0u16; 24578];
@@ -185,7 +184,7 @@ fn walk_many(
     let mut stack = [0u16; 8194];
     let mut marks = [false; BLOCKS];
     stack[0] = setup.0 as u16;
-    walk_all(
+    let outcome = walk_all(
         ws,
         val,
         cw,
@@ -204,7 +203,12 @@ fn walk_many(
         codes,
         lens,
         g,
-    )
+    );
+    match outcome {
+        Ok(()) => Ok(()),
+        Err(Stop::Refused(refusal)) => Err(refusal),
+        Err(Stop::NoRoom) => unreachable!(),
+    }
 }
 
 // The walk of an accepted script from block setup, for every sheet of so many items and atcs. It finds the slots empty and leaves what it read in them.
@@ -219,15 +223,17 @@ pub fn walk(
     lens: &mut [u8; SLOTS],
     g: Given,
     setup: BlockNo,
-) -> Walk
+) -> Result<(), Refusal>
     requires accepted { Accepted (memory_of ws.now val.now cw.now bw.now g.counts) × (shop_from (arrays_in items.old limits.old codes.old lens.old) ≡ no_shop) }
     requires setup_lt_blocks { setup.0 < g.counts.blocks }
-    ensures { (h : Sheet) → Has h g.known.items g.known.atcs → Walked h (memory_of ws.now val.now cw.now bw.now g.counts) setup.0 (shop_from (arrays_in items.new limits.new codes.new lens.new)) result }
+    ensures { (h : Sheet) → Has h g.known.items g.known.atcs → Walked h (memory_of ws.now val.now cw.now bw.now g.counts) setup.0 (shop_from (arrays_in items.new limits.new codes.new lens.new)) (refusal_in result) }
 {
-    let w = walk_few(ws, val, cw, bw, items, limits, codes, lens, g, setup);
-    if w.answer != NO_ROOM {
-        return w;
+    match walk_few(ws, val, cw, bw, items, limits, codes, lens, g, setup) {
+        Ok(()) => Ok(()),
+        Err(Stop::Refused(refusal)) => Err(refusal),
+        Err(Stop::NoRoom) => {
+            clear_arrays(items, limits, codes, lens);
+            walk_many(ws, val, cw, bw, items, limits, codes, lens, g, setup)
+        }
     }
-    clear_arrays(items, limits, codes, lens);
-    walk_many(ws, val, cw, bw, items, limits, codes, lens, g, setup)
 }
