@@ -1,11 +1,10 @@
 -- What bits a number has, at any width. Assumes nothing.
-use Rattle.std.specs.Prelude.{◌≡◌, refl, true, false, ℕ, zero, suc, ◌+◌, ◌-◌, ◌*◌, ◌/◌, ◌%◌, ◌^◌, ◌≤◌, ◌<◌, T, leb, ℤ, pos, negsuc, ◌+ℤ◌, ◌-ℤ◌}
-use Rattle.std.proofs.Common.{sym, ap, ◌∙◌, subst, mod-eq_of_lt, mod-lt, lt_of_lt_of_le, zero-lt-suc, not-suc-le-zero, add-mul, suc-mul, sub-add_cancel, arith, leb→le, pow_pos, pow_mono, pow-add, shr_lt, lt-ltb, le-ltb, ltb-true}
+use Rattle.std.specs.Prelude.{◌≡◌, ℕ, suc, ◌+◌, ◌-◌, ◌*◌, ◌/◌, ◌%◌, ◌^◌, ◌≤◌, ◌<◌, T, leb, ℤ, pos, negsuc}
+use Rattle.std.proofs.Common.{sym, ap, ◌∙◌, subst, mod-eq_of_lt, mod-lt, zero-lt-suc, add-mul, suc-mul, sub-add_cancel, arith, leb→le, pow_pos, pow-add, shr_lt}
 use Rattle.std.proofs.Math.Pow.{pow-sub-lt, split, low, mod-mod-pow}
-use Rattle.std.specs.Int.Signed.{lt_z}
 use Rattle.std.specs.Int.{Width}
-use mir.Val.{Fits, SFits, to_z, of_z, bits, hbits}
-use mir.ValLaws.{half_full, to_z_pos}
+use mir.Val.{Fits, SFits, to_z, of_z, bits}
+use mir.ValLaws.{half_full}
 use Rattle.model.specs.Signed.{bits_of, low_bits}
 use Rattle.model.proofs.Laws.Signed.{low_bits_under}
 
@@ -22,34 +21,6 @@ low_bits_fit w z = record { fits = low_bits_under w z }
 pub bits_own : (op : ℕ → ℕ → ℕ) (w : Width) (a b : ℤ) → SFits w a → SFits w b → to_z w (op (of_z w a) (of_z w b)) ≡ bits_of op w a b
 unfolding bits_of
 bits_own op w a b f g = rw (low_bits_own w a f, low_bits_own w b g)
-
--- a natural less a larger one, and a larger one more than a negative number
-pub sub_less : (a b : ℕ) → a < b → pos a -ℤ pos b ≡ negsuc (b - suc a)
-sub_less a zero h = absurd (not-suc-le-zero h)
-sub_less a (suc b) h = rw (lt-ltb a (suc b) h)
-
-pub add_more : (a b : ℕ) → a < b → negsuc a +ℤ pos b ≡ pos (b - suc a)
-add_more a b h = rw (le-ltb b (suc a) h)
-
--- the upper half of the bits stands for what is 2 ^ bits less
-pub upper_less : (w : Width) (n : ℕ) → 2 ^ hbits w ≤ n → n < 2 ^ bits w → pos n -ℤ pos (2 ^ bits w) ≡ to_z w n
-upper_less w n h k = sub_less n (2 ^ bits w) k ∙ (rw (le-ltb n (2 ^ hbits w) h))
-
--- .. also where it is computed at a wider v
-pub upper_half : (v w : Width) (n : ℕ) → T (leb (bits w) (hbits v)) → 2 ^ hbits w ≤ n → n < 2 ^ bits w → to_z v n -ℤ pos (2 ^ bits w) ≡ to_z w n
-upper_half v w n t h k =
-    ap (λ (z : ℤ). z -ℤ pos (2 ^ bits w)) (to_z_pos v n (lt_of_lt_of_le k (pow_mono (leb→le (bits w) (hbits v) t))))
-    ∙ upper_less w n h k
-
--- a negative number has the bits of what is 2 ^ bits more
-pub negative_bits : (w : Width) (z : ℤ) → SFits w z → lt_z z (pos 0) ≡ true → z +ℤ pos (2 ^ bits w) ≡ pos (of_z w z)
-negative_bits w (pos n) f t = absurd (not-suc-le-zero (ltb-true n 0 t))
-negative_bits w (negsuc n) f t = add_more n (2 ^ bits w) (half_full w f.sfits)
-
--- any other number is its bits
-pub natural_bits : (w : Width) (z : ℤ) → lt_z z (pos 0) ≡ false → z ≡ pos (of_z w z)
-natural_bits w (pos n) t = refl
-natural_bits w (negsuc n) t = absurd (subst T t tt)
 
 -- counted down from the top, j + k bits have as their lowest k what k bits have
 flipped : (j k n : ℕ) → n < 2 ^ (j + k) → (2 ^ (j + k) - suc n) % 2 ^ k ≡ 2 ^ k - suc (n % 2 ^ k)

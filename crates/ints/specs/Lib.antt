@@ -1,4 +1,3 @@
 -- Laws of the definitions of signed numbers that `model` has.
 pub mod Bits
 pub mod Wrap
-pub mod Range

@@ -1,0 +1,8 @@
+-- std wraps at 32 bits as the definition does.
+use Rattle.std.proofs.Common.{◌∙◌, w32}
+use Rattle.std.proofs.lemmas.Int.{wrapping_add_is}
+use Rattle.ints.specs.Wrap.{wraps_same}
+use Rattle.ints.proofs.wrapping_add_i32.Goals as goal
+
+pub returns : goal.returns
+returns c = wrapping_add_is w32 _ _ c.ranges.a c.ranges.b ∙ wraps_same w32 _
