@@ -188,7 +188,8 @@ fn evaluate_below(
     }
 }
 
-// What node i is worth as an operand of node b; a root is taken as an operand of node i + 1. An Imm takes no call.
+// What node i is worth as an operand of node b; a root is taken as an operand of node i + 1. It goes
+// into its callers, so that an Imm takes no call.
 #[cycle(evaluate)]
 #[tactic(auto, using(crate::proofs::Below::below), unfolding(model::specs::Memory::node_of))]
 #[inline(always)]
