@@ -5,7 +5,7 @@ use Rattle.std.proofs.Math.Option.{Option, none, some}
 use Rattle.std.proofs.Common.{arith, add-one, length-append, drop_of_length-le}
 use Rattle.std.proofs.Math.ListN.{length}
 use Rattle.std.proofs.lemmas.List.{length-map}
-use Rattle.std.proofs.Math.Seq.{drop-cons, get_or-take, length-take-le}
+use Rattle.std.proofs.Math.Seq.{drop-cons}
 use Rattle.model.specs.Limits.{entry_limit, slot_count, wide}
 use Rattle.model.specs.Requirement.{Requirement, number}
 use Rattle.model.specs.Printer.{digits_to, decimal, signed_decimal, letter, requirements_text, item_text, slot_line, slot_lines, refused_text}
@@ -15,8 +15,7 @@ use Rattle.shop.specs.Shapes.{entries, item_of, slot_of, slots_of}
 use Rattle.shop.specs.Slots.{entries_take, entries_length}
 use Rattle.shop.specs.declared.Slot.{Slot}
 use Rattle.model.specs.declared.ItemId.{ItemId}
-use Rattle.shop.specs.declared.SlotItem.{SlotItem}
-use Rattle.shop.specs.declared.SlotItem.TheVariants.{Nothing, Of}
+use Rattle.std.specs.Prelude as prelude
 use Rattle.shop.specs.declared.Shop.{Shop}
 use Rattle.slots_text.specs.Written.{Space, Part, part_start}
 
@@ -26,7 +25,7 @@ requirement_text r = 32 ∷ letter r ∷ signed_decimal (number r)
 
 -- what a read past the array would give
 abbrev pub beyond : Slot
-beyond = record { item = Nothing; limit = pos 0; requirements = []; len = 0 }
+beyond = record { item = prelude.None; limit = pos 0; requirements = []; len = 0 }
 
 -- no slot has more entries than may be given
 pub record FewEach (s : Shop) : Type 0 where
@@ -102,15 +101,15 @@ module _ (x : Slot) (size : length x.requirements ≡ entry_limit) (few : x.len 
   unfolding slot_of
   entries_all = rw (entries_take x.len x.requirements (omega arith))
 
-  pub entries_next : (i : ℕ) → i < x.len → entries_from i x ≡ requirement_text (requirement_of (get_or x.requirements i 0)) ++ entries_from (i + 1) x
-  unfolding requirements_text
-  entries_next i h =
-      let l : i < length (take x.len x.requirements) = omega (arith, length-take-le x.len x.requirements (omega arith)) in
-      rw (add-one, drop-cons (take x.len x.requirements) i 0 l, get_or-take x.len x.requirements i 0 h)
+  -- the part of the row that has the entries
+  module _ (n : ℕ) (e : n ≡ x.len) where
+    pub entries_next : (i : ℕ) → i < length (take n x.requirements) → entries_from i x ≡ requirement_text (requirement_of (get_or (take n x.requirements) i 0)) ++ entries_from (i + 1) x
+    unfolding requirements_text
+    entries_next i h = rw (e, add-one, drop-cons (take x.len x.requirements) i 0 (rw e at h))
 
-  pub entries_end : (i : ℕ) → x.len ≤ i → entries_from i x ≡ []
-  unfolding requirements_text
-  entries_end i h = rw (drop_of_length-le (take x.len x.requirements) {i = i} (omega (arith, length-take-le x.len x.requirements (omega arith))))
+    pub entries_end : (i : ℕ) → length (take n x.requirements) ≤ i → entries_from i x ≡ []
+    unfolding requirements_text
+    entries_end i h = rw (drop_of_length-le (take x.len x.requirements) {i = i} (rw e at h))
 
 abbrev pub lines_from : ℕ → Shop → List ℕ
 lines_from i s = slot_lines i (map slot_of (drop i s.slots))
@@ -153,10 +152,10 @@ refused_space n = record { fits = omega (arith, decimal_short n, length-append (
 
 -- ---- an item or none
 
-pub item_none : (i : SlotItem) → i ≡ Nothing → item_text (item_of i) ≡ 45 ∷ []
+pub item_none : (i : prelude.Option ItemId) → i ≡ prelude.None → item_text (item_of i) ≡ 45 ∷ []
 unfolding item_text
 item_none i e = rw e
 
-pub item_some : (i : SlotItem) (w : ItemId) → i ≡ Of w → item_text (item_of i) ≡ decimal w.0
+pub item_some : (i : prelude.Option ItemId) (w : ItemId) → i ≡ prelude.Some w → item_text (item_of i) ≡ decimal w.0
 unfolding item_text
 item_some i w e = rw e

@@ -1,13 +1,12 @@
 -- The text of a number: its digits one by one, and its sign. Assumes nothing.
-use Rattle.std.specs.Prelude.{◌≡◌, refl, List, [], ◌∷◌, ◌++◌, ℕ, zero, suc, ◌+◌, ◌-◌, ◌/◌, ◌%◌, ◌≤◌, ◌<◌, ℤ, pos, negsuc}
-use Rattle.std.proofs.Common.{ap, sym, arith, SFits, to_z, of_z, to_z-of_z, length-append}
+use Rattle.std.proofs.lemmas.Int.{ints}
+use Rattle.std.specs.Prelude.{◌≡◌, refl, List, [], ◌∷◌, ◌++◌, ℕ, zero, suc, ◌+◌, ◌-◌, ◌/◌, ◌%◌, ◌≤◌, ◌<◌, ℤ, pos, negsuc, unsigned_abs, ◌<ℤ◌}
+use Rattle.std.proofs.Common.{sym, arith, SFits, to_z, of_z, to_z-of_z, length-append}
 use Rattle.std.proofs.Math.Path.{subst}
 use borrow.Author.Tests.{lt-ltb, le-ltb}
 use Rattle.std.specs.Int.{w16, w32}
 use Rattle.std.proofs.Math.Facts.{sfits_widen}
-use Rattle.model.specs.Limits.{half32}
 use Rattle.model.specs.Printer.{digits_to, decimal, signed_decimal}
-use Rattle.shop_codes.specs.Codes.{InRange, shift}
 use Rattle.image_numbers.specs.Stored.{Stored, stored_none, stored_on, stored_as}
 use Rattle.slots_text.specs.Written.{text_limit, Space, space_as}
 
@@ -55,16 +54,16 @@ module _ (f n : ℕ) (some : f ≡ 0 → ⊥) where
 
 -- ---- signs
 
--- a number moved up by 2 ^ 31: its sign shows in that
-pub signed_low : (z : ℤ) (m : ℕ) → (m ≡ shift z) × InRange z → m < half32 → signed_decimal z ≡ 45 ∷ decimal (half32 - m)
+-- the digits of a number are those of its size
+pub signed_below : (z : ℤ) (m : ℕ) → m ≡ unsigned_abs z → z <ℤ pos 0 → signed_decimal z ≡ 45 ∷ decimal m
 unfolding signed_decimal
-signed_low (pos n) m e h = absurd (omega (arith, e.0))
-signed_low (negsuc n) m e h = let r : n < half32 = e.1 in ap (λ (k : ℕ). 45 ∷ decimal k) (omega (arith, e.0))
+signed_below (pos n) m e h = absurd (omega (arith, ints))
+signed_below (negsuc n) m e h = rw e
 
-pub signed_high : (z : ℤ) (m : ℕ) → (m ≡ shift z) × InRange z → half32 ≤ m → signed_decimal z ≡ decimal (m - half32)
+pub signed_above : (z : ℤ) (m : ℕ) → m ≡ unsigned_abs z → (z <ℤ pos 0 → ⊥) → signed_decimal z ≡ decimal m
 unfolding signed_decimal
-signed_high (pos n) m e h = ap decimal (omega (arith, e.0))
-signed_high (negsuc n) m e h = absurd (omega (arith, e.0))
+signed_above (pos n) m e h = rw e
+signed_above (negsuc n) m e h = absurd (h (omega (arith, ints)))
 
 -- a limit as an i32 holds it
 pub limit_is : (z : ℤ) → SFits w16 z → to_z w32 (of_z w32 (to_z w16 (of_z w16 z))) ≡ z

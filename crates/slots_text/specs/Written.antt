@@ -1,7 +1,9 @@
 -- Text written from a place on, piece by piece: the room that it takes, and what is still to come. Assumes nothing.
-use Rattle.std.specs.Prelude.{◌≡◌, refl, List, [], ◌∷◌, ◌++◌, ℕ, ◌+◌, ◌≤◌, ◌<◌, length, drop, get_or}
+use Rattle.std.specs.Prelude.{◌≡◌, refl, List, [], ◌∷◌, ◌++◌, ℕ, ◌+◌, ◌≤◌, ◌<◌, length, drop, take, get_or}
 use Rattle.std.proofs.Common.{ap, sym, ◌∙◌, append_assoc, arith, add-one, length-append, drop-cons}
-use Rattle.std.proofs.lemmas.List.Edits.{sets}
+use borrow.Rule.Slice.PartMut.{put_mid}
+use Rattle.std.proofs.lemmas.List.{drop-drop}
+use Rattle.std.proofs.lemmas.List.Edits.{sets, sets-eq}
 use Rattle.image_numbers.specs.Stored.{Stored, stored_none, stored_on, stored_as}
 
 -- the bytes of the array that takes the text
@@ -76,3 +78,7 @@ space_as e h = rw e at h
 -- the next byte of a slice
 pub bytes_next : (s : List ℕ) (i : ℕ) → i < length s → drop i s ≡ get_or s i 0 ∷ drop (i + 1) s
 bytes_next s i h = rw (add-one, drop-cons s i 0)
+
+-- bytes copied over a part as long as they are
+pub stored_copy : (xs : List ℕ) (at : ℕ) (s ys : List ℕ) (k : ℕ) → ys ≡ s → k ≡ length s → at + length s ≤ length xs → Stored xs at s (put_mid at k xs ys) (at + length s)
+stored_copy xs at s ys k e l h = record { is = rw (e, l, drop-drop (length s) at xs) (sym (append_assoc (take at xs) s (drop (at + length s) xs)) ∙ sym (sets-eq s xs at h)); place = refl }

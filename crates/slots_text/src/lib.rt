@@ -10,8 +10,9 @@ ghost use Rattle.image_numbers.specs.Stored.{Stored};
 ghost use Rattle.slots_text.specs.Written.{Space, Wrote, text_limit};
 ghost use Rattle.slots_text.specs.Lines.{requirement_text, FewEach};
 
-use shop::{SLOTS, Shop, Slot, SlotItem};
-use shop_codes::{ZERO, kind_of, number_of, shifted};
+use model::ItemId;
+use shop::{Shop, Slot};
+use shop_codes::{kind_of, number_of};
 
 // The printed text of any twenty slots fits into so many bytes.
 pub const TEXT: usize = 16384;
@@ -32,13 +33,9 @@ fn put_bytes(out: &mut Text, at: usize, s: &[u8]) -> usize
     requires { Space at s.now }
     ensures { Stored out.old at s.now out.new result }
 {
-    let mut p = at;
-    let mut i = 0;
-    while i < s.len() {
-        p = put_byte(out, p, s[i]);
-        i += 1;
-    }
-    p
+    let end = at + s.len();
+    out[at..end].copy_from_slice(s);
+    end
 }
 
 // ---- numbers
@@ -76,12 +73,12 @@ fn put_signed(out: &mut Text, at: usize, z: i32) -> usize
     requires { Space at (signed_decimal z) }
     ensures { Stored out.old at (signed_decimal z) out.new result }
 {
-    let m = shifted(z);
-    if m < ZERO {
-        let p = put_byte(out, at, 45);
-        return put_decimal(out, p, (ZERO - m) as u32);
+    let digits = z.unsigned_abs();
+    if z < 0 {
+        let p = put_byte(out, at, b'-');
+        return put_decimal(out, p, digits);
     }
-    put_decimal(out, at, (m - ZERO) as u32)
+    put_decimal(out, at, digits)
 }
 
 // ---- requirements
@@ -114,25 +111,22 @@ fn put_requirements(out: &mut Text, at: usize, slot: Slot) -> usize
     requires { (slot.len ≤ entry_limit) × Space at (requirements_text (slot_of slot).requirements) }
     ensures { Stored out.old at (requirements_text (slot_of slot).requirements) out.new result }
 {
-    let n = slot.len as usize;
     let mut p = at;
-    let mut i = 0;
-    while i < n {
-        p = put_requirement(out, p, slot.requirements[i]);
-        i += 1;
+    for code in &slot.requirements[..usize::from(slot.len)] {
+        p = put_requirement(out, p, *code);
     }
     p
 }
 
 // ---- slots
 
-fn put_item(out: &mut Text, at: usize, item: SlotItem) -> usize
+fn put_item(out: &mut Text, at: usize, item: Option<ItemId>) -> usize
     requires { Space at (item_text (item_of item)) }
     ensures { Stored out.old at (item_text (item_of item)) out.new result }
 {
     match item {
-        SlotItem::Nothing => put_byte(out, at, b'-'),
-        SlotItem::Of(w) => put_decimal(out, at, w.0 as u32),
+        None => put_byte(out, at, b'-'),
+        Some(w) => put_decimal(out, at, u32::from(w.0)),
     }
 }
 
@@ -141,13 +135,11 @@ fn put_slot(out: &mut Text, at: usize, i: u32, slot: Slot) -> usize
     requires { (slot.len ≤ entry_limit) × Space at (slot_line i (slot_of slot)) }
     ensures { Stored out.old at (slot_line i (slot_of slot)) out.new result }
 {
-    let item = slot.item;
-    let limit = slot.limit;
     let p1 = put_decimal(out, at, i);
     let p2 = put_byte(out, p1, b' ');
-    let p3 = put_item(out, p2, item);
+    let p3 = put_item(out, p2, slot.item);
     let p4 = put_byte(out, p3, b' ');
-    let p5 = put_signed(out, p4, limit as i32);
+    let p5 = put_signed(out, p4, i32::from(slot.limit));
     let p6 = put_requirements(out, p5, slot);
     put_byte(out, p6, b'\n')
 }
@@ -158,11 +150,8 @@ pub fn put_slots(out: &mut Text, shop: Shop) -> usize
     ensures { Wrote out.old (slot_lines 0 (slots_of shop)) out.new result }
 {
     let mut p = 0;
-    let mut i = 0;
-    while i < SLOTS {
-        let slot = shop.slots[i];
-        p = put_slot(out, p, i as u32, slot);
-        i += 1;
+    for (i, slot) in shop.slots.iter().enumerate() {
+        p = put_slot(out, p, i as u32, *slot);
     }
     p
 }
@@ -172,6 +161,6 @@ pub fn put_refused(out: &mut Text, n: u8) -> usize
     ensures { Wrote out.old (refused_text n) out.new result }
 {
     let p = put_bytes(out, 0, b"refused ");
-    let q = put_decimal(out, p, n as u32);
+    let q = put_decimal(out, p, u32::from(n));
     put_byte(out, q, b'\n')
 }
