@@ -1,6 +1,5 @@
 -- The answers of the code are those of the calls' definitions. Assumes nothing.
-use Rattle.std.specs.Prelude.{◌≡◌, refl, Bool, ◌&&◌, List, [], ◌∷◌, ℕ, ◌+◌, ◌*◌, ◌<◌, ltb, get_or}
-use Rattle.std.proofs.Common.{arith}
+use Rattle.std.specs.Prelude.{◌≡◌, refl, Bool, ◌&&◌, List, [], ◌∷◌, ℕ, ◌+◌, ◌*◌, ltb, get_or}
 use Rattle.model.specs.Limits.{slot_count, user_count}
 use Rattle.model.specs.Refusal.{bad_shop, check, first_of, no_right, no_user}
 use Rattle.model.specs.Sheet as Model
@@ -17,11 +16,6 @@ right_is : (b : ℕ) (f : Field) → may_change (rights_of b) f ≡ bit_of b (we
 right_is b itemField = refl
 right_is b limitField = refl
 right_is b requirementsField = refl
-
-pub weight_some : (f : Field) → 0 < weight_of f
-weight_some itemField = omega arith
-weight_some limitField = omega arith
-weight_some requirementsField = omega arith
 
 -- ---- by the field that a match met
 

@@ -1,19 +1,18 @@
 -- The calls that edit and show arrays, by the number of the field and by the answers of what they call. Assumes nothing.
-use Rattle.std.specs.Prelude.{◌≡◌, true, false, List, ℤ, set}
+use Rattle.std.specs.Prelude.{◌≡◌}
 use Rattle.std.proofs.Math.Path.{refl, ap}
 use Rattle.std.proofs.Common.{sym, ◌∙◌, arith, add-one}
-use Prim.Native.Nat.{ℕ, zero, suc, ◌+◌, ◌*◌, ◌≤◌, ◌<◌}
+use Prim.Native.Nat.{ℕ, zero, suc, ◌+◌, ◌≤◌, ◌<◌}
 use borrow.Author.Tests.{le-ltb, lt-ltb}
-use Rattle.std.proofs.Math.Seq.{paste}
-use Rattle.model.specs.Limits.{entry_limit, slot_count, user_count}
+use Rattle.model.specs.Limits.{slot_count, user_count}
 use Rattle.model.specs.Refusal.{no_user}
 use Rattle.model.specs.Sheet as Model
-use Rattle.rights_model.specs.Rights.{Rights, Table, edit_refusal}
+use Rattle.rights_model.specs.Rights.{Table, edit_refusal}
 use Rattle.rights_model.proofs.Fields.{allowed}
 use Rattle.shop.specs.declared.Slot.{Slot}
-use Rattle.shop_arrays.specs.Arrays.{Arrays, arrays_in}
+use Rattle.shop_arrays.specs.Arrays.{Arrays}
 use Rattle.shop_arrays.specs.Slots.{no_arrays}
-use Rattle.rights.specs.InArrays.{Contents, arrays_edited, arrays_shown, arrays_with, edited_as, emptied, field_from, first_shown, place_for, shown_at, slot_by}
+use Rattle.rights.specs.InArrays.{Contents, arrays_edited, arrays_shown, arrays_with, edited_as, field_from, first_shown, place_for, shown_at, slot_by}
 use Rattle.rights.specs.Values.{edit_of}
 use Rattle.rights.specs.declared.Field.{Field}
 use Rattle.rights.specs.declared.Field.TheVariants.{Item, Limit, Requirements}
@@ -46,17 +45,6 @@ place_high (suc zero) i l = absurd (omega arith)
 place_high (suc (suc zero)) i l = absurd (omega arith)
 place_high (suc (suc (suc n))) i l = refl
 
--- one array written, the others as they were
-module _ (n : ℕ) (x : Contents) (i : ℕ) (a : Arrays) where
-  pub item_written : (z : ℤ) → n ≡ 0 → z ≡ x.item → arrays_in (set a.items i z) a.limits a.codes a.lens ≡ arrays_with (field_from n) x i a
-  item_written z e d = rw (← field_item n e, d)
-
-  pub limit_written : (z : ℤ) → n ≡ 1 → z ≡ x.limit → arrays_in a.items (set a.limits i z) a.codes a.lens ≡ arrays_with (field_from n) x i a
-  limit_written z e d = rw (← field_limit n e, d)
-
-  pub rest_written : (cs : List ℕ) → (n ≡ 0 → ⊥) → (n ≡ 1 → ⊥) → cs ≡ paste a.codes (entry_limit * i) x.codes entry_limit → arrays_in a.items a.limits cs (set a.lens i x.len) ≡ arrays_with (field_from n) x i a
-  rest_written cs p q d = rw (← field_rest n p q, d)
-
 -- the call by the answers of what it calls: the place p, the field f and the slot y
 module _ (t : Table) (h : Model.Sheet) (a : Arrays) (u i n : ℕ) (x : Contents) (r p : ℕ) (f : Field) (y : Slot) (e : p ≡ place_for n i) (d : f ≡ field_from n) (g : y ≡ slot_by x) (k : r ≡ edit_refusal t h (edit_of u p f y)) where
   known : r ≡ edit_refusal t h (edit_of u (place_for n i) (field_from n) (slot_by x))
@@ -73,20 +61,11 @@ module _ (t : Table) (h : Model.Sheet) (a : Arrays) (u i n : ℕ) (x : Contents)
   pub place_inside : r ≡ 0 → p < slot_count
   place_inside q = (allowed t h (edit_of u p f y) (sym k ∙ q)).slot
 
-  pub arrays_now : r ≡ 0 → (b : Arrays) → b ≡ arrays_with (field_from n) x p a → record { refusal = 0; arrays = b } ≡ arrays_edited t h a u i n x
+  pub arrays_now : r ≡ 0 → (b : Arrays) → b ≡ arrays_with f x p a → record { refusal = 0; arrays = b } ≡ arrays_edited t h a u i n x
   unfolding arrays_edited
   arrays_now q b w =
-      ap (λ (c : Arrays). record { refusal = 0; arrays = c }) (w ∙ ap (λ m. arrays_with (field_from n) x m a) e)
+      ap (λ (c : Arrays). record { refusal = 0; arrays = c }) (w ∙ ap (λ m. arrays_with f x m a) e ∙ ap (λ (g : Field). arrays_with g x (place_for n i) a) d)
       ∙ ap (λ m. edited_as m (arrays_with (field_from n) x (place_for n i) a) a) (sym q ∙ known)
-
--- ---- one slot shown
-
-module _ (r : Rights) (i : ℕ) (a : Arrays) where
-  pub slot_seen : r.see ≡ true → a ≡ shown_at r i a
-  slot_seen e = rw e
-
-  pub slot_hidden : r.see ≡ false → (b : Arrays) → b ≡ emptied i a → b ≡ shown_at r i a
-  slot_hidden e b q = rw e q
 
 -- ---- the loop over the slots that are shown
 

@@ -1,14 +1,15 @@
 -- Edits and shows of a shop as a value (01: `Shop { slots: [Slot; 20] }`): the shop after a call. Assumes nothing: these are definitions.
-use Rattle.std.specs.Prelude.{cond, List, [], ◌∷◌, ℕ, zero, suc, ltb, get_or}
+use Rattle.std.specs.Prelude.{cond, List, [], ◌∷◌, ℕ, zero, suc, ltb, get_or, Result, Ok, Err}
 use Rattle.model.specs.Limits.{user_count}
 use Rattle.model.specs.Refusal.{accepted, check, no_user}
+use Rattle.model.specs.Refusals.{refusal_number}
+use Rattle.model.specs.declared.Refusal.{Refusal}
 use Rattle.model.specs.Sheet as Model
 use Rattle.rights_model.specs.Rights.{Table, edit_refusal}
 use Rattle.shop.specs.Shapes.{no_shop, no_slot, placed}
 use Rattle.shop.specs.declared.Shop.{Shop}
 use Rattle.shop.specs.declared.Slot.{Slot}
 use Rattle.rights.specs.Values.{edit_of}
-use Rattle.rights.specs.declared.Answered.{Answered}
 use Rattle.rights.specs.declared.Field.{Field}
 use Rattle.rights.specs.declared.Field.TheVariants.{Item, Limit, Requirements}
 
@@ -17,6 +18,16 @@ abbrev pub changed_slot : Field → Slot → Slot → Slot
 changed_slot Item x old = record { item = x.item; limit = old.limit; requirements = old.requirements; len = old.len }
 changed_slot Limit x old = record { item = old.item; limit = x.limit; requirements = old.requirements; len = old.len }
 changed_slot Requirements x old = record { item = old.item; limit = old.limit; requirements = x.requirements; len = x.len }
+
+-- a call's refusal or 0, and its shop
+pub record Answered : Type 0 where
+  pub refusal : ℕ
+  pub shop : Shop
+
+-- what a call answers; the other shop where it is refused
+abbrev pub answered_in : Shop → Result Shop Refusal → Answered
+answered_in other (Ok s) = record { refusal = accepted; shop = s }
+answered_in other (Err e) = record { refusal = refusal_number e; shop = other }
 
 -- the shop of a call that is accepted, and that of one that is refused
 abbrev pub answered_as : ℕ → Shop → Shop → Answered

@@ -1,5 +1,5 @@
 -- The calls that edit and show a shop as a value: by the answers of what they call, and that they are the definitions' calls. Assumes nothing.
-use Rattle.std.specs.Prelude.{◌≡◌, Bool, eqb, ltb, ℤ, get_or, length}
+use Rattle.std.specs.Prelude.{◌≡◌, Bool, eqb, ltb, get_or, length}
 use Rattle.std.proofs.Math.Path.{refl, ap}
 use Rattle.std.proofs.Common.{sym, ◌∙◌, add-one}
 use Rattle.std.proofs.Math.Bool.{true, false, cond}
@@ -17,23 +17,12 @@ use Rattle.rights_model.specs.Rights.{Edited, Table, edit_call, edit_refusal, ed
 use Rattle.shop.specs.Shapes.{entries, no_shop, no_slot, placed, slot_of, slots_of}
 use Rattle.shop.specs.declared.Shop.{Shop}
 use Rattle.shop.specs.declared.Slot.{Slot}
-use Rattle.rights.specs.InShops.{answered_as, changed_slot, shop_edited, shop_shown, shop_with, slots_shown}
+use Rattle.rights.specs.InShops.{Answered, answered_as, changed_slot, shop_edited, shop_shown, shop_with, slots_shown}
 use Rattle.rights.specs.Values.{content_of, edit_of}
-use Rattle.rights.specs.declared.Answered.{Answered}
 use Rattle.rights.specs.declared.Field.{Field}
 use Rattle.rights.specs.declared.Field.TheVariants.{Item, Limit, Requirements}
 
--- ---- an edit, by the field that a match met
-
-module _ (f : Field) (x old : Slot) where
-  pub item_put : (z : ℤ) → f ≡ Item → z ≡ old.limit → record { item = x.item; limit = z; requirements = old.requirements; len = old.len } ≡ changed_slot f x old
-  item_put z e d = rw (e, d)
-
-  pub limit_put : (z : ℤ) → f ≡ Limit → z ≡ x.limit → record { item = old.item; limit = z; requirements = old.requirements; len = old.len } ≡ changed_slot f x old
-  limit_put z e d = rw (e, d)
-
-  pub requirements_put : (z : ℤ) → f ≡ Requirements → z ≡ old.limit → record { item = old.item; limit = z; requirements = x.requirements; len = x.len } ≡ changed_slot f x old
-  requirements_put z e d = rw (e, d)
+-- ---- an edit
 
 module _ (t : Table) (h : Model.Sheet) (s : Shop) (u i : ℕ) (f : Field) (x : Slot) where
   pub edited_not : (n : ℕ) → n ≡ edit_refusal t h (edit_of u i f x) → (n ≡ 0 → ⊥) → record { refusal = n; shop = s } ≡ shop_edited t h s u i f x

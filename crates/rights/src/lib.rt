@@ -1,19 +1,20 @@
 // Edits of a shop by users with rights, and what a user is shown (02, A.7): of a shop as a value, and on the arrays of a shop where they stand.
 #![tactic(auto)]
 
-ghost use Rattle.std.specs.Prelude.{◌≡◌, cond, ◌<◌, ◌+◌, ◌*◌, get_or};
+ghost use Rattle.std.specs.Prelude.{◌≡◌, cond, ◌<◌, ◌+◌, ◌*◌, get_or, OnErr};
 ghost use Rattle.model.specs.Limits.{slot_count, user_count};
+ghost use Rattle.model.specs.Refusals.{refusal_in};
 ghost use Rattle.model.specs.Shop.{item_known};
 ghost use Rattle.rights_model.specs.Rights.{content_ok, edit_refusal};
-ghost use Rattle.shop.specs.Shapes.{sheet_of, item_of, no_slot, placed};
+ghost use Rattle.shop.specs.Shapes.{sheet_of, item_of, no_shop, no_slot, placed};
 ghost use Rattle.shop_arrays.specs.Arrays.{arrays_in};
 ghost use Rattle.rights.specs.Values.{bit_of, content_of, edit_of, field_is, table_of, weight_of};
-ghost use Rattle.rights.specs.InShops.{changed_slot, shop_edited, shop_shown};
+ghost use Rattle.rights.specs.InShops.{answered_in, changed_slot, shop_edited, shop_shown};
 ghost use Rattle.rights.specs.InArrays.{arrays_edited, arrays_shown, arrays_with, contents, emptied, field_from, place_for, shown_at};
 
+use model::{ItemId, Refusal};
 use shop::{
-    Codes, ENTRIES, Row, SLOTS, Sheet, Shop, Slot, SlotItem, check_parts, check_sheet, empty_shop,
-    empty_slot, with_slot,
+    Codes, ENTRIES, Row, SLOTS, Sheet, Shop, Slot, check_parts, check_sheet, empty_slot, with_slot,
 };
 use shop_arrays::{clear_arrays, put_entries, slot_by};
 
@@ -36,18 +37,11 @@ pub const CHANGE_LIMIT: u8 = 4;
 pub const CHANGE_REQUIREMENTS: u8 = 8;
 
 // Which field of a slot an edit changes. The new content is that field of a slot that goes with it; the slot's other fields do not count.
-#[derive(Clone, Copy)]
+#[derive(Clone, Copy, Debug, PartialEq, Eq)]
 pub enum Field {
     Item,
     Limit,
     Requirements,
-}
-
-// The refusal or 0, and the shop after an edit, or as a user sees it.
-#[derive(Clone, Copy)]
-pub struct Answered {
-    pub refusal: u8,
-    pub shop: Shop,
 }
 
 // ---- rights
@@ -73,11 +67,10 @@ fn has_right(rights: &[u8; RIGHTS], user: u32, slot: u32, right: u8) -> bool
 
 // ---- check 8 on the new content
 
-fn item_known(attached: &[u8], sheet: Sheet, item: SlotItem) -> bool
+fn item_known(attached: &[u8], sheet: Sheet, item: Option<ItemId>) -> bool
     ensures { result ≡ item_known (sheet_of attached.now sheet) (item_of item) }
 {
-    let row = [0; ENTRIES];
-    check_parts(attached, sheet, item, &row, 0)
+    check_parts(attached, sheet, item, &[0; ENTRIES], 0)
 }
 
 // A limit is 16 bits wide: 8 has nothing to ask of it.
@@ -85,14 +78,10 @@ fn content_ok(attached: &[u8], sheet: Sheet, field: Field, content: Slot) -> boo
     ensures { result ≡ content_ok (sheet_of attached.now sheet) (content_of field content) }
 {
     match field {
-        Field::Item => {
-            let item = content.item;
-            item_known(attached, sheet, item)
-        }
+        Field::Item => item_known(attached, sheet, content.item),
         Field::Limit => true,
         Field::Requirements => {
-            let row = content.requirements;
-            check_parts(attached, sheet, SlotItem::Nothing, &row, content.len)
+            check_parts(attached, sheet, None, &content.requirements, content.len)
         }
     }
 }
@@ -108,26 +97,26 @@ fn refusal_of(
     slot: u32,
     field: Field,
     content: Slot,
-) -> u8
-    ensures { result ≡ edit_refusal (table_of rights.now) (sheet_of attached.now sheet) (edit_of user slot field content) }
+) -> Result<(), Refusal>
+    ensures number { refusal_in result ≡ edit_refusal (table_of rights.now) (sheet_of attached.now sheet) (edit_of user slot field content) }
+    ensures refused { OnErr result (0 < refusal_in result) }
 {
     if !check_sheet(attached, sheet) {
-        return 1;
+        return Err(Refusal::BadSheet);
     }
     if USERS_HERE <= user {
-        return 20;
+        return Err(Refusal::NoUser);
     }
     if SLOTS_HERE <= slot {
-        return 21;
+        return Err(Refusal::NoRight);
     }
-    let right = right_for(field);
-    if !has_right(rights, user, slot, right) {
-        return 21;
+    if !has_right(rights, user, slot, right_for(field)) {
+        return Err(Refusal::NoRight);
     }
     if !content_ok(attached, sheet, field, content) {
-        return 8;
+        return Err(Refusal::BadShop);
     }
-    0
+    Ok(())
 }
 
 // The content in its field, the other fields as they were.
@@ -135,40 +124,26 @@ fn changed(old: Slot, field: Field, content: Slot) -> Slot
     ensures { result ≡ changed_slot field content old }
 {
     match field {
-        Field::Item => {
-            let item = content.item;
-            let row = old.requirements;
-            Slot {
-                item: item,
-                limit: old.limit,
-                requirements: row,
-                len: old.len,
-            }
-        }
-        Field::Limit => {
-            let item = old.item;
-            let row = old.requirements;
-            Slot {
-                item: item,
-                limit: content.limit,
-                requirements: row,
-                len: old.len,
-            }
-        }
+        Field::Item => Slot {
+            item: content.item,
+            ..old
+        },
+        Field::Limit => Slot {
+            limit: content.limit,
+            ..old
+        },
         Field::Requirements => {
-            let item = old.item;
-            let row = content.requirements;
+            let requirements = content.requirements;
             Slot {
-                item: item,
-                limit: old.limit,
-                requirements: row,
+                requirements,
                 len: content.len,
+                ..old
             }
         }
     }
 }
 
-// Refused, the shop is as it was.
+// The shop with the content in its place.
 pub fn edit(
     attached: &[u8],
     sheet: Sheet,
@@ -178,22 +153,13 @@ pub fn edit(
     slot: u32,
     field: Field,
     content: Slot,
-) -> Answered
-    ensures { result ≡ shop_edited (table_of rights.now) (sheet_of attached.now sheet) shop user slot field content }
+) -> Result<Shop, Refusal>
+    ensures { answered_in shop result ≡ shop_edited (table_of rights.now) (sheet_of attached.now sheet) shop user slot field content }
 {
-    let refusal = refusal_of(attached, sheet, rights, user, slot, field, content);
-    if refusal != 0 {
-        return Answered {
-            refusal: refusal,
-            shop: shop,
-        };
-    }
+    refusal_of(attached, sheet, rights, user, slot, field, content)?;
     let i = slot as usize;
     let new = changed(shop.slots[i], field, content);
-    Answered {
-        refusal: 0,
-        shop: with_slot(shop, i, new),
-    }
+    Ok(with_slot(shop, i, new))
 }
 
 // ---- a shop as a value shown
@@ -204,32 +170,24 @@ fn show_slot(rights: &[u8; RIGHTS], shop: Shop, user: u32, slot: u32) -> Shop
     ensures { result ≡ cond (table_of rights.now user slot).see shop (placed shop slot no_slot) }
 {
     if has_right(rights, user, slot, SEE) {
-        return shop;
+        shop
+    } else {
+        with_slot(shop, slot as usize, empty_slot())
     }
-    let empty = empty_slot();
-    with_slot(shop, slot as usize, empty)
 }
 
-// 20 only; refused, all slots are empty.
-pub fn show(rights: &[u8; RIGHTS], shop: Shop, user: u32) -> Answered
-    ensures { result ≡ shop_shown (table_of rights.now) shop user }
+// 20 only.
+pub fn show(rights: &[u8; RIGHTS], shop: Shop, user: u32) -> Result<Shop, Refusal>
+    ensures { answered_in no_shop result ≡ shop_shown (table_of rights.now) shop user }
 {
     if USERS_HERE <= user {
-        return Answered {
-            refusal: 20,
-            shop: empty_shop(),
-        };
+        return Err(Refusal::NoUser);
     }
     let mut out = shop;
-    let mut i = 0;
-    while i < SLOTS_HERE {
-        out = show_slot(rights, out, user, i);
-        i += 1;
+    for slot in 0..SLOTS_HERE {
+        out = show_slot(rights, out, user, slot);
     }
-    Answered {
-        refusal: 0,
-        shop: out,
-    }
+    Ok(out)
 }
 
 // ---- edits on the arrays
@@ -238,23 +196,18 @@ pub fn show(rights: &[u8; RIGHTS], shop: Shop, user: u32) -> Answered
 fn field_from(field: u8) -> Field
     ensures { result ≡ field_from field }
 {
-    if field == 0 {
-        return Field::Item;
+    match field {
+        0 => Field::Item,
+        1 => Field::Limit,
+        _ => Field::Requirements,
     }
-    if field == 1 {
-        return Field::Limit;
-    }
-    Field::Requirements
 }
 
 // Nobody may change a field that is not there: it is answered as a slot that is not there.
 fn place_for(field: u8, slot: u32) -> u32
     ensures { result ≡ place_for field slot }
 {
-    if field < 3 {
-        return slot;
-    }
-    SLOTS_HERE
+    if field < 3 { slot } else { SLOTS_HERE }
 }
 
 fn put_field(
@@ -263,25 +216,23 @@ fn put_field(
     codes: &mut Codes,
     lens: &mut [u8; SLOTS],
     i: usize,
-    field: u8,
+    field: Field,
     item: i32,
     limit: i16,
     entries: &Row,
     len: u8,
 )
     requires { i < slot_count }
-    ensures { arrays_in items.new limits.new codes.new lens.new ≡ arrays_with (field_from field) (contents item limit entries.now len) i (arrays_in items.old limits.old codes.old lens.old) }
+    ensures { arrays_in items.new limits.new codes.new lens.new ≡ arrays_with field (contents item limit entries.now len) i (arrays_in items.old limits.old codes.old lens.old) }
 {
-    if field == 0 {
-        items[i] = item;
-        return;
+    match field {
+        Field::Item => items[i] = item,
+        Field::Limit => limits[i] = limit,
+        Field::Requirements => {
+            put_entries(entries, codes, i);
+            lens[i] = len;
+        }
     }
-    if field == 1 {
-        limits[i] = limit;
-        return;
-    }
-    put_entries(entries, codes, i);
-    lens[i] = len;
 }
 
 // Field 0 is the item, -1 for none, 1 the limit, 2 the requirements: len of them, by their codes. Every other field is 21.
@@ -300,29 +251,26 @@ pub fn edit_arrays(
     limit: i16,
     entries: &Row,
     len: u8,
-) -> u8
-    ensures { record { refusal = result; arrays = arrays_in items.new limits.new codes.new lens.new } ≡ arrays_edited (table_of rights.now) (sheet_of attached.now sheet) (arrays_in items.old limits.old codes.old lens.old) user slot field (contents item limit entries.now len) }
+) -> Result<(), Refusal>
+    ensures { record { refusal = refusal_in result; arrays = arrays_in items.new limits.new codes.new lens.new } ≡ arrays_edited (table_of rights.now) (sheet_of attached.now sheet) (arrays_in items.old limits.old codes.old lens.old) user slot field (contents item limit entries.now len) }
 {
     let place = place_for(field, slot);
     let content = slot_by(item, limit, entries, len);
     let kind = field_from(field);
-    let refusal = refusal_of(attached, sheet, rights, user, place, kind, content);
-    if refusal != 0 {
-        return refusal;
-    }
+    refusal_of(attached, sheet, rights, user, place, kind, content)?;
     put_field(
         items,
         limits,
         codes,
         lens,
         place as usize,
-        field,
+        kind,
         item,
         limit,
         entries,
         len,
     );
-    0
+    Ok(())
 }
 
 // ---- arrays shown
@@ -338,10 +286,9 @@ fn empty_at(
     requires { i < slot_count }
     ensures { arrays_in items.new limits.new codes.new lens.new ≡ emptied i (arrays_in items.old limits.old codes.old lens.old) }
 {
-    let row = [0; ENTRIES];
     items[i] = -1;
     limits[i] = 0;
-    put_entries(&row, codes, i);
+    put_entries(&[0; ENTRIES], codes, i);
     lens[i] = 0;
 }
 
@@ -358,10 +305,9 @@ fn hide_slot(
     requires { (user < user_count) × (slot < slot_count) }
     ensures { arrays_in items.new limits.new codes.new lens.new ≡ shown_at (table_of rights.now user slot) slot (arrays_in items.old limits.old codes.old lens.old) }
 {
-    if has_right(rights, user, slot, SEE) {
-        return;
+    if !has_right(rights, user, slot, SEE) {
+        empty_at(items, limits, codes, lens, slot as usize);
     }
-    empty_at(items, limits, codes, lens, slot as usize);
 }
 
 // The arrays of a shop become those of the shop as the user sees it: the words of a slot that is seen stay, those of another become an
@@ -373,17 +319,15 @@ pub fn show_arrays(
     codes: &mut Codes,
     lens: &mut [u8; SLOTS],
     user: u32,
-) -> u8
-    ensures { record { refusal = result; arrays = arrays_in items.new limits.new codes.new lens.new } ≡ arrays_shown (table_of rights.now) (arrays_in items.old limits.old codes.old lens.old) user }
+) -> Result<(), Refusal>
+    ensures { record { refusal = refusal_in result; arrays = arrays_in items.new limits.new codes.new lens.new } ≡ arrays_shown (table_of rights.now) (arrays_in items.old limits.old codes.old lens.old) user }
 {
     if USERS_HERE <= user {
         clear_arrays(items, limits, codes, lens);
-        return 20;
+        return Err(Refusal::NoUser);
     }
-    let mut i = 0;
-    while i < SLOTS_HERE {
-        hide_slot(rights, items, limits, codes, lens, user, i);
-        i += 1;
+    for slot in 0..SLOTS_HERE {
+        hide_slot(rights, items, limits, codes, lens, user, slot);
     }
-    0
+    Ok(())
 }
