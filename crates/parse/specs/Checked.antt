@@ -1,5 +1,5 @@
 -- What a parse answers where a check refuses, where the walk stops and where the slots were read. Assumes nothing.
-use Rattle.std.specs.Prelude.{◌≡◌, List, [], ◌∷◌, map, ℕ, zero, suc, ◌<◌, length, get_or}
+use Rattle.std.specs.Prelude.{◌≡◌, Option, Some, None, List, [], ◌∷◌, map, ℕ, zero, suc, ◌<◌, length, get_or}
 use Rattle.std.proofs.Math.Path.{refl, sym, ap}
 use Rattle.std.proofs.Common.{ap₂, ◌∙◌, subst, arith}
 use Rattle.std.proofs.lemmas.List.{length-map}
@@ -11,35 +11,32 @@ use Rattle.model.specs.Shop.{padded}
 use Rattle.model.specs.Memory.{Memory, script_of}
 use Rattle.model.specs.Parse.{State, Parsed, after_checks, parse, parse_checked}
 use Rattle.model.specs.RecordCalls.{call_in, parse_in}
-use Rattle.shop.specs.declared.SlotItem.{SlotItem}
-use Rattle.shop.specs.declared.SlotItem.TheVariants.{Nothing, Of}
+use Rattle.model.specs.declared.ItemId.{ItemId}
 use Rattle.shop.specs.declared.Shop.{Shop}
 use Rattle.shop.specs.declared.Slot as code
 use Rattle.shop.specs.declared.Sheet as Given
-use Rattle.shop.specs.declared.Reqs.{Reqs}
 use Rattle.shop.specs.Shapes.{sheet_of, item_of, slot_of, slots_of, no_shop}
-use Rattle.shop.specs.Sets.{reqs_of}
+use Rattle.shop.specs.Sets.{Reqs, reqs_of}
 use Rattle.shop.specs.Slots.{with_all, items_few}
 use Rattle.shop_arrays.specs.Arrays.{Arrays, shop_from, arrays_of}
 use Rattle.shop_arrays.specs.Slots.{slots_long, no_arrays, shop_none}
 use Rattle.shop_arrays.specs.Back.{Full, none_back}
 use Rattle.shop.specs.Good.{beyond, GoodSlot, GoodShop, good_start}
 use Rattle.checks.specs.Passed.{call_passed}
-use Rattle.parse.specs.Answer.{item_as, slot_with, slot_as, answer_of, ParsedAs, ParsedInto}
+use Rattle.parse.specs.Answer.{item_as, slot_with, slot_as, ParsedShop, answer_of, ParsedAs, ParsedInto}
 use Rattle.parse.specs.Known.{slots_arrays}
-use Rattle.parse.specs.declared.ParsedShop.{ParsedShop}
 
 -- ---- slots and what they stand for
 
-item_back : (i : SlotItem) → item_as (item_of i) ≡ i
-item_back Nothing = refl
-item_back (Of w) = refl
+item_back : (i : Option ItemId) → item_as (item_of i) ≡ i
+item_back None = refl
+item_back (Some w) = refl
 
 slot_back : (x : code.Slot) → GoodSlot x → slot_as (slot_of x) ≡ x
 unfolding slot_of
 slot_back x g =
     ap (λ (s : Reqs). slot_with (slot_of x) s) (sym g.codes)
-    ∙ ap (λ (i : SlotItem). record { item = i; limit = x.limit; requirements = x.requirements; len = x.len }) (item_back x.item)
+    ∙ ap (λ (i : Option ItemId). record { item = i; limit = x.limit; requirements = x.requirements; len = x.len }) (item_back x.item)
 
 each_back : (xs : List code.Slot) → ((j : ℕ) → j < length xs → GoodSlot (get_or xs j beyond)) → map slot_as (map slot_of xs) ≡ xs
 each_back [] g = refl

@@ -1,5 +1,5 @@
 -- Each item that parsing leaves in a slot is on the sheet, so the arrays that stand for the slots are those of the shop. Assumes nothing.
-use Rattle.std.specs.Prelude.{◌≡◌, Bool, cond, List, [], ◌∷◌, ltb, ℤ, pos, negsuc, length, get_or, replicate}
+use Rattle.std.specs.Prelude.{Some, ◌≡◌, Bool, cond, List, [], ◌∷◌, ltb, ℤ, pos, negsuc, length, get_or, replicate}
 use Rattle.std.proofs.Math.Path.{refl}
 use Rattle.std.proofs.Common.{sym, ap, ◌∙◌, arith, ltb-true}
 use Rattle.std.proofs.Math.Bool.{true, false}
@@ -14,7 +14,6 @@ use Rattle.model.specs.Sheet.{Sheet, item_count}
 use Rattle.model.specs.Shop.{Slot, empty_slot}
 use Rattle.model.specs.Parse.{fill_item, update_slot, update_slots, State, scanned, parse_requirements, visited, passed_over, parse_block, start, parse}
 use Rattle.shop.specs.Shapes.{entries, item_of, slot_of, slots_of, no_slot}
-use Rattle.shop.specs.declared.SlotItem.TheVariants.{Of}
 use Rattle.shop_arrays.specs.Arrays.{Arrays, no_such_item, slot_at, shop_from, arrays_of}
 use Rattle.shop_arrays.specs.Slots.{slot_in_lem}
 use Rattle.shop_arrays.specs.Back.{Full, arrays_back}
@@ -95,7 +94,7 @@ pub slots_arrays : (h : Sheet) (bs : List Block) (b : ℕ) (a : Arrays) → Full
 unfolding slots_of slot_of entries
 slots_arrays h bs b a full few e = arrays_back a full below
   where
-    below : (j : ℕ) → j < slot_count → (slot_at a j).item ≡ Of (record { 0 = no_such_item }) → ⊥
+    below : (j : ℕ) → j < slot_count → (slot_at a j).item ≡ Some (record { 0 = no_such_item }) → ⊥
     below j k i =
         let s : (get_or (parse h bs b).slots j empty_slot).item ≡ some no_such_item =
         ap (λ (xs : List Slot). (get_or xs j empty_slot).item) (sym e) ∙ ap (λ (x : Slot). x.item) (get_or-map slot_of (shop_from a).slots j no_slot) ∙ ap (λ x. (slot_of x).item) (slot_in_lem a j no_slot k) ∙ ap item_of i in
