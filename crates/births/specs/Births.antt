@@ -1,25 +1,16 @@
--- Marks written one block after another, and the count of accepted compiles (02, A.2). Assumes nothing.
-use Rattle.std.specs.Prelude.{◌≡◌, cond, List, ℕ, suc, ◌+◌, ◌-◌, ◌≤◌, ◌<◌, set, replicate}
-use Rattle.std.proofs.Common.{sym, ap, ◌∙◌, arith, lt-ltb, le-ltb}
-use Rattle.std.proofs.lemmas.List.Edits.{sets}
-use Rattle.model.specs.Limits.{most_compiles}
-use Rattle.model.specs.RecordCalls.{one_compile}
+-- Marks of a run of blocks (02, A.2). Assumes nothing.
+use Rattle.std.specs.Prelude.{◌≡◌, List, ℕ, ◌++◌, ◌+◌, ◌-◌, ◌≤◌, length, take, drop, replicate}
+use Rattle.std.proofs.Common.{sym, ap, ap₂, ◌∙◌, append_assoc, arith}
+use Rattle.std.proofs.lemmas.List.{drop-drop, length-replicate}
+use Rattle.std.proofs.lemmas.List.Edits.{sets, sets-eq}
+use borrow.Rule.Slice.PartMut.{put_mid, mid_of, mid_len}
 
--- the marks of the blocks from b up to n
-abbrev pub marks_up_to : List ℕ → ℕ → ℕ → ℕ → List ℕ
-marks_up_to l b n mark = sets l b (replicate (n - b) mark)
-
-pub marks_one : (l : List ℕ) (b n mark : ℕ) → b < n → marks_up_to l b n mark ≡ marks_up_to (set l b mark) (b + 1) n mark
-marks_one l b n mark h =
-    let e : n - b ≡ suc (n - (b + 1)) = omega arith in
-    let f : suc b ≡ b + 1 = omega arith in
-    ap (λ (k : ℕ). sets l b (replicate k mark)) e ∙ ap (λ (i : ℕ). sets (set l b mark) i (replicate (n - (b + 1)) mark)) f
-
-pub marks_none : (l : List ℕ) (b n mark : ℕ) → n ≤ b → marks_up_to l b n mark ≡ l
-marks_none l b n mark h = let e : n - b ≡ 0 = omega arith in ap (λ (k : ℕ). sets l b (replicate k mark)) e
-
-pub compile_more : (n : ℕ) → n < most_compiles → n + 1 ≡ one_compile n
-compile_more n h = let e : n + 1 ≡ suc n = omega arith in e ∙ sym (ap (λ t. cond t (suc n) most_compiles) (lt-ltb n most_compiles h))
-
-pub compile_stays : (n : ℕ) → most_compiles ≤ n → most_compiles ≡ one_compile n
-compile_stays n h = sym (ap (λ t. cond t (suc n) most_compiles) (le-ltb n most_compiles h))
+-- the blocks from a up to e, filled with one mark
+pub filled : (l ys : List ℕ) (a e mark : ℕ) → a ≤ e → e ≤ length l → ys ≡ replicate (length (mid_of a (e - a) l)) mark → put_mid a (e - a) l ys ≡ sets l a (replicate (e - a) mark)
+filled l ys a e mark h k y =
+    let vs = replicate (e - a) mark in
+    let long : length vs ≡ e - a = length-replicate (e - a) mark in
+    let i : a + (e - a) ≡ a + length vs = omega arith in
+    ap₂ (λ (x z : List ℕ). take a l ++ (x ++ z)) (y ∙ ap (λ n. replicate n mark) (mid_len a e l k)) (drop-drop (e - a) a l ∙ ap (λ n. drop n l) i)
+    ∙ sym (append_assoc (take a l) vs _)
+    ∙ sym (sets-eq vs l a (omega arith))

@@ -9,9 +9,6 @@ ghost use Rattle.model.specs.RecordCalls.{one_compile};
 use memory::{BLOCKS, Births};
 use model::BlockNo;
 
-// At this count the script stays.
-const MOST_COMPILES: u32 = 4294967295;
-
 // Every block of a script that was read or built at the start.
 pub fn start_anew(births: &mut Births)
     ensures { births.new ≡ replicate block_limit 0 }
@@ -23,12 +20,7 @@ pub fn start_anew(births: &mut Births)
 pub fn birth_of(births: &Births, b: BlockNo) -> u32
     ensures { result ≡ get_or births.now b.0 0 }
 {
-    let marks: &[u32] = births;
-    let i = b.0 as usize;
-    if i < marks.len() {
-        return marks[i];
-    }
-    0
+    births.get(b.0 as usize).copied().unwrap_or(0)
 }
 
 // The blocks from one number up to another, which is not among them.
@@ -36,18 +28,12 @@ pub fn mark_births(births: &mut Births, from: u16, to: u16, mark: u32)
     requires { (from ≤ to) × (to ≤ block_limit) }
     ensures { births.new ≡ sets births.old from (replicate (to - from) mark) }
 {
-    let mut b = from;
-    while b < to {
-        births[b as usize] = mark;
-        b += 1;
-    }
+    births[usize::from(from)..usize::from(to)].fill(mark);
 }
 
+// One compile more; at the largest count the script stays.
 pub fn one_compile(n: u32) -> u32
     ensures { result ≡ one_compile n }
 {
-    if n < MOST_COMPILES {
-        return n + 1;
-    }
-    MOST_COMPILES
+    n.saturating_add(1)
 }
