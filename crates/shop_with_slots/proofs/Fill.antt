@@ -1,40 +1,27 @@
--- A loop that puts the elements of a slice into an array that was filled before, one after another. Assumes nothing.
-use mathlib.Core.Path.{◌≡◌, sym, ap, ◌∙◌}
-use mathlib.Core.List.{List}
-use Prim.Native.Nat.{ℕ, ◌+◌, ◌*◌, ◌≤◌, ◌<◌, min}
+-- Arrays that hold the first elements of slices, and the four of a shop. Assumes nothing.
+use mathlib.Core.Path.{◌≡◌, refl, sym, ap, ◌∙◌}
+use mathlib.Core.List.{List, [], ◌∷◌}
+use Rattle.std.proofs.Common.{ext_get_or}
+use Prim.Native.Nat.{ℕ, zero, suc, ◌*◌, ◌≤◌, ◌<◌, min}
 use native.Mathlib.Decide.{dec_le}
-use native.Mathlib.Numerals.{add-one}
 use native.Mathlib.Omega.{arith}
-use lib.ListN.{length, get_or, set, take, replicate}
+use lib.ListN.{length, get_or, take}
 use lib.IntN.{ℤ, pos, negsuc}
 use lib.Seq.{take_all}
 use Rattle.model.specs.Limits.{entry_limit, slot_count}
 use Rattle.shop_arrays.specs.Arrays.{arrays_in}
 use Rattle.shop_with_slots.specs.Twenty.{filled, twenty}
-use Rattle.shop_with_slots.specs.Slots.{filled_none, filled_set, filled_take}
+use Rattle.shop_with_slots.specs.Slots.{filled_take, get_d_filled}
 
--- the first i of xs stand in an array of n that held z
-pub record Put {A : Type 0} (z : A) (n : ℕ) (xs ys : List A) (i : ℕ) : Type 0 where
-  pub low : i ≤ length xs
-  pub is : ys ≡ filled z n (take i xs)
+pub filled_long : {A : Type 0} (z : A) (n : ℕ) (xs : List A) → length (filled z n xs) ≡ n
+unfolding filled
+filled_long z zero xs = refl
+filled_long z (suc n) [] = ap suc (filled_long z n [])
+filled_long z (suc n) (x ∷ xs) = ap suc (filled_long z n xs)
 
-pub none_put : {A : Type 0} (z : A) (n : ℕ) (xs : List A) → Put z n xs (replicate n z) 0
-none_put z n xs = record { low = omega arith; is = sym (filled_none z n) }
-
-module _ {A : Type 0} {z : A} {n : ℕ} {xs ys : List A} {i : ℕ} (p : Put z n xs ys i) where
-  pub one_put : (d x : A) → i < n → i < length xs → x ≡ get_or xs i d → Put z n xs (set ys i x) (i + 1)
-  one_put d x h l e = record {
-    low = omega arith;
-    is = rw (e, p.is) (filled_set z n i xs d h l ∙ ap (λ k. filled z n (take k xs)) (sym (add-one i)));
-  }
-
-  -- all that there are of the first k
-  pub all_put : (k : ℕ) → i ≡ min k (length xs) → ys ≡ filled z n (take k xs)
-  all_put k e = by (dec_le k (length xs))
-    where
-      by : Dec (k ≤ length xs) → ys ≡ filled z n (take k xs)
-      by (yes h) = let q : i ≡ k = omega arith in p.is ∙ ap (λ j. filled z n (take j xs)) q
-      by (no h) = let q : length xs ≤ i = omega arith in p.is ∙ ap (filled z n) (take_all i xs q ∙ sym (take_all k xs (omega arith)))
+-- an array that holds at each place what is given for it, or z
+pub all_put : {A : Type 0} (z : A) (xs ys : List A) → ((k : ℕ) → k < length ys → get_or ys k z ≡ get_or xs k z) → ys ≡ filled z (length ys) xs
+all_put z xs ys h = ext_get_or z ys (filled z (length ys) xs) (sym (filled_long z (length ys) xs)) (λ k l. h k l ∙ sym (get_d_filled z (length ys) k xs z l))
 
 -- ---- the four arrays
 

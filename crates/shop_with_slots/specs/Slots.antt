@@ -1,5 +1,5 @@
 -- The shop that the twenty stand for has the slots that were given, cut and filled up as 01 says. Assumes nothing.
-use Rattle.std.specs.Prelude.{◌≡◌, length, set, take, drop, replicate}
+use Rattle.std.specs.Prelude.{◌≡◌, length, take, drop}
 use Rattle.std.proofs.Math.Path.{refl, sym, ap}
 use Rattle.std.proofs.Common.{ap₂, ◌∙◌, arith, get_or-take}
 use mathlib.Core.List.{List, [], ◌∷◌, map}
@@ -17,19 +17,6 @@ use Rattle.shop_arrays.specs.Slots.{row_at_lem}
 use Rattle.shop_with_slots.specs.Twenty.{filled, twenty, slots_in}
 
 module _ {A : Type 0} (z : A) where
-  pub filled_none : (n : ℕ) → filled z n [] ≡ replicate n z
-  unfolding filled
-  filled_none zero = refl
-  filled_none (suc n) = ap (λ l. z ∷ l) (filled_none n)
-
-  -- one more of them
-  pub filled_set : (n i : ℕ) (xs : List A) (d : A) → i < n → i < length xs → set (filled z n (take i xs)) i (get_or xs i d) ≡ filled z n (take (suc i) xs)
-  unfolding filled
-  filled_set zero i xs d h k = absurd (omega arith)
-  filled_set (suc n) i [] d h k = absurd (omega arith)
-  filled_set (suc n) zero (x ∷ xs) d h k = refl
-  filled_set (suc n) (suc i) (x ∷ xs) d h k = ap (λ l. x ∷ l) (filled_set n i xs d (omega arith) (omega arith))
-
   pub filled_take : (n m : ℕ) (xs : List A) → n ≤ m → filled z n (take m xs) ≡ filled z n xs
   unfolding filled
   filled_take zero m xs h = refl
