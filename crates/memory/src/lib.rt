@@ -53,9 +53,10 @@ pub struct Counts {
 pub fn index_of(x: u16) -> usize
     ensures { result ≡ x }
 {
-    x as usize
+    usize::from(x)
 }
 
+#[tactic(auto, unfolding(model::specs::Image::kind_of, model::specs::Image::kinds))]
 pub fn kind_of(code: u16) -> Kind
     ensures { result ≡ kind_of code }
 {
@@ -124,7 +125,7 @@ pub fn push_node(
     requires { n < node_limit }
     ensures { PushedNode (nodes_in ws.old val.old n) code left right value (nodes_in ws.new val.new result) }
 {
-    let i = n as usize;
+    let i = usize::from(n);
     ws[3 * i] = code;
     ws[3 * i + 1] = left;
     ws[3 * i + 2] = right;
@@ -136,7 +137,7 @@ pub fn push_command(cw: &mut CommandWords, n: u16, code: u16, a: u16, b: u16, bl
     requires { n < command_limit }
     ensures { PushedCommand cw.old n code a b block cw.new result }
 {
-    let i = n as usize;
+    let i = usize::from(n);
     cw[4 * i] = code;
     cw[4 * i + 1] = a;
     cw[4 * i + 2] = b;
@@ -157,7 +158,7 @@ pub fn set_block(
     requires { b < block_limit }
     ensures { bw.new ≡ block_words bw.old b kind first held next other }
 {
-    let i = b as usize;
+    let i = usize::from(b);
     bw[5 * i] = kind;
     bw[5 * i + 1] = first;
     bw[5 * i + 2] = held;
@@ -177,11 +178,6 @@ pub fn push_block(
     requires { n < block_limit }
     ensures { PushedBlock bw.old n kind first held next other bw.new result }
 {
-    let i = n as usize;
-    bw[5 * i] = kind;
-    bw[5 * i + 1] = first;
-    bw[5 * i + 2] = held;
-    bw[5 * i + 3] = next;
-    bw[5 * i + 4] = other;
+    set_block(bw, n, kind, first, held, next, other);
     n + 1
 }
