@@ -1,5 +1,5 @@
 -- The steps of writing a heading, how long it is, and what the call answers. Assumes nothing.
-use Rattle.std.specs.Prelude.{◌≡◌, refl, true, false, ℕ, zero, suc, ◌+◌, ◌≤◌, ◌<◌, leb, get_or}
+use Rattle.std.specs.Prelude.{◌≡◌, refl, true, false, ℕ, zero, suc, ◌≤◌, ◌<◌, leb, get_or}
 use Rattle.std.proofs.Math.Path.{ap}
 use Rattle.std.proofs.Common.{◌∙◌}
 use Rattle.std.proofs.Math.Option.{Option}
@@ -90,16 +90,16 @@ module _ (ks : List ℕ) (h : Sheet) (b : ℕ) (ok : sheet_ok (sheet_of ks h) �
 -- ---- the answer of the call
 
 module _ (ks : List ℕ) (h : Sheet) (b : ℕ) (xs : List ℕ) where
-  pub call_no : sheet_ok (sheet_of ks h) ≡ false → (wrote 1 xs ≡ write_head (head_by ks h b) xs) × (0 ≡ head_length (head_by ks h b) xs)
-  unfolding write_head head_length
-  call_no e = (rw e, rw e)
+  pub call_no : sheet_ok (sheet_of ks h) ≡ false → wrote 1 xs ≡ write_head (head_by ks h b) xs
+  unfolding write_head
+  call_no e = rw e
 
   module _ (ok : sheet_ok (sheet_of ks h) ≡ true) where
-    pub call_short : length xs < numbers_length (length ks) h b → (wrote 16 xs ≡ write_head (head_by ks h b) xs) × (0 ≡ head_length (head_by ks h b) xs)
-    unfolding write_head head_length
+    pub call_short : length xs < numbers_length (length ks) h b → wrote 16 xs ≡ write_head (head_by ks h b) xs
+    unfolding write_head
     call_short l =
         let q = lt-leb (length (head_bytes (head_by ks h b))) (length xs) (omega (arith, head_length_lem ks h b ok)) in
-        (rw (ok, q), rw (ok, q))
+        rw (ok, q)
 
     module _ (l : numbers_length (length ks) h b ≤ length xs) where
       pub call_room : Room xs 0 (head_bytes (head_by ks h b))

@@ -1,7 +1,8 @@
 // The writer of what stands before an image in the input of slots: the sheet and the setup number, as slots_sheet reads them.
 #![tactic(auto)]
 
-ghost use Rattle.std.specs.Prelude.{◌≡◌, ◌+◌, ◌<◌, length};
+ghost use Rattle.std.specs.Prelude.{◌≡◌, ◌+◌, ◌<◌, length, IfOk};
+ghost use Rattle.model.specs.Refusals.{refusal_in};
 ghost use Rattle.model.specs.Reading.{word};
 ghost use Rattle.image_numbers.specs.Stored.{Stored, Room};
 ghost use Rattle.image_write.specs.Call.{wrote};
@@ -9,23 +10,15 @@ ghost use Rattle.slots_heading.specs.Bytes.{head_by, head_bytes, write_head, hea
 ghost use Rattle.slots_heading.specs.Steps.{entries_bytes, counts_bytes, timers_bytes, numbers_length};
 
 use image_numbers::{short_length, signed, word_length, write_short, write_value};
-use image_write::Written;
+use model::Refusal;
 use shop::{Sheet, check_sheet};
-
-// An element behind a call: whoever writes it owes no proof that it fits.
-fn short(x: u8) -> u16
-    ensures { result ≡ x }
-{
-    x as u16
-}
 
 // A number of 32 bits. Signed ones are written folded, and each such number is the folding of one.
 fn write_wide(out: &mut [u8], at: usize, v: u32) -> usize
     requires { Room out.old at (word v) }
     ensures { Stored out.old at (word v) out.new result }
 {
-    let z = signed(v as u64);
-    write_value(out, at, z)
+    write_value(out, at, signed(u64::from(v)))
 }
 
 // For each item its atc + 1, or 0.
@@ -34,10 +27,8 @@ fn write_atcs(attached: &[u8], out: &mut [u8], at: usize) -> usize
     ensures { Stored out.old at (entries_bytes attached.now (length attached.now) 0) out.new result }
 {
     let mut p = at;
-    let mut i: usize = 0;
-    while i < attached.len() {
-        p = write_short(out, p, short(attached[i]));
-        i += 1;
+    for entry in attached {
+        p = write_short(out, p, u16::from(*entry));
     }
     p
 }
@@ -76,31 +67,28 @@ fn write_numbers(attached: &[u8], n: u16, sheet: Sheet, setup: u32, out: &mut [u
 fn numbers_length(n: u16, sheet: Sheet, setup: u32) -> usize
     ensures { result ≡ numbers_length n sheet setup }
 {
-    let counts = short_length(n) + short_length(sheet.atcs) + n as usize;
+    let counts = short_length(n) + short_length(sheet.atcs) + usize::from(n);
     let timers = short_length(sheet.timer5.0)
         + short_length(sheet.timer10.0)
         + short_length(sheet.timer15.0);
-    counts + timers + word_length(setup as u64)
+    counts + timers + word_length(u64::from(setup))
 }
 
 // The sheet is judged first; then 16 where the slice is too short; then it is written. Refused, the slice stays as it was; so do the bytes past the heading.
-pub fn write_heading(attached: &[u8], sheet: Sheet, setup: u32, out: &mut [u8]) -> Written
-    ensures { (wrote result.refusal out.new ≡ write_head (head_by attached.now sheet setup) out.old) × (result.len ≡ head_length (head_by attached.now sheet setup) out.old) }
+pub fn write_heading(
+    attached: &[u8],
+    sheet: Sheet,
+    setup: u32,
+    out: &mut [u8],
+) -> Result<usize, Refusal>
+    ensures { (wrote (refusal_in result) out.new ≡ write_head (head_by attached.now sheet setup) out.old) × IfOk result (λ n. n ≡ head_length (head_by attached.now sheet setup) out.old) }
 {
     if !check_sheet(attached, sheet) {
-        return Written { refusal: 1, len: 0 };
+        return Err(Refusal::BadSheet);
     }
     let n = attached.len() as u16;
-    let len = numbers_length(n, sheet, setup);
-    if out.len() < len {
-        return Written {
-            refusal: 16,
-            len: 0,
-        };
+    if out.len() < numbers_length(n, sheet, setup) {
+        return Err(Refusal::SliceShort);
     }
-    let end = write_numbers(attached, n, sheet, setup, out);
-    Written {
-        refusal: 0,
-        len: end,
-    }
+    Ok(write_numbers(attached, n, sheet, setup, out))
 }
