@@ -1,11 +1,14 @@
 -- From stage to stage of a reclaim: the packed record, its image, what is read from it, and the answer (02, A.4). Assumes nothing.
-use Rattle.std.proofs.Math.Path.{◌≡◌, sym, ap}
+use Rattle.std.proofs.Math.Path.{◌≡◌, refl, sym, ap}
+use Rattle.std.specs.Result.{IsOk, result_unwrap_or}
 use Rattle.std.proofs.Common.{◌∙◌, subst, arith, length-append, take_at}
-use Rattle.std.specs.Prelude.{Bool, true, false, List, [], ℕ, ◌≤◌, ◌<◌, ℤ, length, take, drop}
+use Rattle.std.specs.Prelude.{Bool, true, false, List, [], ℕ, ◌≤◌, ◌<◌, ℤ, length, take, drop, Result, Ok, Err, IfOk}
 use Rattle.std.proofs.lemmas.List.Edits.{sets}
 use borrow.Author.Tests.{le-leb}
 use Rattle.model.specs.Limits.{block_limit, command_limit, node_limit}
 use Rattle.model.specs.Refusal.{bad_roots}
+use Rattle.model.specs.Refusals.{refusal_in}
+use Rattle.model.specs.declared.Refusal.{Refusal}
 use Rattle.model.specs.Script.{Block}
 use Rattle.model.specs.Reading.{got, refusal_of}
 use Rattle.model.specs.Image.{image, read_image}
@@ -21,8 +24,7 @@ use Rattle.memory.specs.declared.Counts.{Counts}
 use Rattle.memory.specs.RecordLaws.{judged_sound, proper_record}
 use Rattle.memory.specs.Transfer.{accepted_script, judged_kept}
 use Rattle.image_read.specs.Outcome.{outcome, read_into}
-use Rattle.image_read.specs.declared.Image.{Image}
-use Rattle.image_read.specs.declared.Image.TheVariants.{Read, No}
+use Rattle.checks.specs.Passed.{refuses}
 use Rattle.image_write.specs.Call.{wrote, length_of, length_in}
 use Rattle.image_write.specs.Lengths.{most_bytes, record_short}
 use Rattle.reclaim_model.specs.Reclaim.{kept_blocks, moved_words, rank, roots_ok, survivors}
@@ -43,7 +45,8 @@ judged_of m e = accepts (judged_record m) (proper_record m) e
 
 -- ---- written as an image
 
-module _ (m : Memory) (fine : record_refusal m ≡ 0) (out : List ℕ) (room : most_bytes block_limit command_limit node_limit ≤ length out) (n len : ℕ) (out' : List ℕ) (w : (wrote n out' ≡ write_in m out) × (len ≡ length_in m out)) where
+module _ (m : Memory) (fine : record_refusal m ≡ 0) (out : List ℕ) (room : most_bytes block_limit command_limit node_limit ≤ length out)
+    (i : Result ℕ Refusal) (out' : List ℕ) (w : (wrote (refusal_in i) out' ≡ write_in m out) × IfOk i (λ n. n ≡ length_in m out)) where
   abbrev bytes : List ℕ
   bytes = image (script_of m).blocks
 
@@ -58,34 +61,42 @@ module _ (m : Memory) (fine : record_refusal m ≡ 0) (out : List ℕ) (room : m
   unfolding write_in write_checked
   written = rw (fine, le-leb (length bytes) (length out) short)
 
-  len_is : len ≡ length (image (script_of m).blocks)
-  unfolding length_in
-  len_is = w.1 ∙ ap (λ (x : Wrote). length_of x.answer bytes) written
+  accepted : refusal_in i ≡ 0
+  accepted = ap (λ (x : Wrote). x.answer) (w.0 ∙ written)
 
   out_is : out' ≡ over (image (script_of m).blocks) out
   out_is = ap (λ (x : Wrote). x.slice) (w.0 ∙ written)
 
-  pub bytes_fit : len ≤ length out'
-  bytes_fit = omega (arith, len_is, ap length out_is, length-append bytes (drop (length bytes) out))
+  pub always_ok : IsOk i
+  always_ok = by i accepted
+    where
+      by : (i : Result ℕ Refusal) → refusal_in i ≡ 0 → IsOk i
+      by (Ok n) e = refl
+      by (Err e) z = absurd (refuses e z)
 
-  pub bytes_read : read_image (take len out') ≡ got (script_of m).blocks []
-  bytes_read =
-      let j = judged_of m fine in
-      ap read_image (ap (take len) out_is ∙ take_at bytes (drop (length bytes) out) len (sym len_is)) ∙ write_then_read (script_of m) (accepted_script m j.value j.rest j.was)
+  module _ (len : ℕ) (ok : i ≡ Ok len) where
+    len_is : len ≡ length (image (script_of m).blocks)
+    unfolding length_in
+    len_is = rw ok at w.1 ∙ ap (λ (x : Wrote). length_of x.answer bytes) written
+
+    pub bytes_fit : len ≤ length out'
+    bytes_fit = omega (arith, len_is, ap length out_is, length-append bytes (drop (length bytes) out))
+
+    pub bytes_read : read_image (take len out') ≡ got (script_of m).blocks []
+    bytes_read =
+        let j = judged_of m fine in
+        ap read_image (ap (take len) out_is ∙ take_at bytes (drop (length bytes) out) len (sym len_is)) ∙ write_then_read (script_of m) (accepted_script m j.value j.rest j.was)
 
 -- ---- read from it
 
-module _ (m : Memory) (ws : List ℕ) (vs : List ℤ) (cw bw s : List ℕ) (i : Image) (p : outcome i ws vs cw bw ≡ read_into m (read_image s)) (bs : List Block) (r : List ℕ) (e : read_image s ≡ got bs r) where
-  pub read_is : (k : Counts) → i ≡ Read k → memory_of ws vs cw bw k ≡ put_blocks m bs
+module _ (m : Memory) (ws : List ℕ) (vs : List ℤ) (cw bw s : List ℕ) (i : Result Counts Refusal) (p : outcome i ws vs cw bw ≡ read_into m (read_image s)) (bs : List Block) (r : List ℕ) (e : read_image s ≡ got bs r) where
+  pub read_is : (d : Counts) → memory_of ws vs cw bw (result_unwrap_or i d) ≡ put_blocks m bs
   unfolding outcome read_into
-  read_is k q = let u : outcome (Read k) ws vs cw bw ≡ read_into m (got bs r) = rw (q, e) at p in cc
-
-  pub read_never : (n : ℕ) → i ≡ No n → ⊥
-  unfolding outcome read_into
-  read_never n q =
-      let u : outcome (No n) ws vs cw bw ≡ read_into m (got bs r) = rw (q, e) at p in
-      let z : ◌≡◌ {A = ℕ} 0 1 = cc in
-      absurd (omega arith)
+  read_is d = by i (p ∙ ap (read_into m) e)
+    where
+      by : (i : Result Counts Refusal) → outcome i ws vs cw bw ≡ read_into m (got bs r) → memory_of ws vs cw bw (result_unwrap_or i d) ≡ put_blocks m bs
+      by (Ok k) u = cc
+      by (Err n) u = let z : ◌≡◌ {A = ℕ} 0 1 = cc in absurd (omega arith)
 
 -- ---- packed
 

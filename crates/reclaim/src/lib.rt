@@ -8,42 +8,26 @@ ghost use Rattle.model.specs.Reading.{got};
 ghost use Rattle.model.specs.Image.{read_image};
 ghost use Rattle.model.specs.Memory.{script_of, put_blocks};
 ghost use Rattle.model.specs.RecordCalls.{record_refusal};
+ghost use Rattle.model.specs.Refusals.{refusal_in};
 ghost use Rattle.memory.specs.View.{memory_of, born_of, empty_in};
 ghost use Rattle.image_write.specs.Lengths.{most_bytes};
 ghost use Rattle.reclaim_model.specs.Reclaim.{roots_ok};
-ghost use Rattle.reclaim.specs.Answer.{ReclaimedAs};
-ghost use Rattle.reclaim.specs.Stages.{Arrays, PackedBy, KeptOnly};
+ghost use Rattle.reclaim.specs.Answer.{counts_after, ReclaimedAs};
+ghost use Rattle.reclaim.specs.Stages.{PackedBy, KeptOnly};
 
 use checks::check_record;
-use image_read::{Image, read_script};
+use image_read::read_script;
 use image_write::write_script;
 use memory::{
     BLOCKS, Births, BlockWords, COMMANDS, CommandWords, Counts, NODES, NodeWords, Values,
 };
+use model::Refusal;
 use reclaim_pack::answer::{pack_births, tell_moved};
 use reclaim_pack::{follow, number, pack};
 use reclaim_reach::{reach_roots, roots_ok};
 
 // So many bytes hold the image of any accepted script.
 const IMAGE: usize = 5 + 16 * BLOCKS + 6 * COMMANDS + 6 * NODES;
-
-// The refusal or 0, and the counts of the script after the call.
-#[derive(Clone, Copy)]
-pub struct Reclaimed {
-    pub refusal: u8,
-    pub counts: Counts,
-}
-
-// The arrays' lengths, for the proofs.
-fn known(live: &[bool; BLOCKS], table: &[u16; BLOCKS], cw: &CommandWords, bw: &BlockWords) -> usize
-    ensures { Arrays live.now table.now cw.now bw.now }
-{
-    let marks: &[bool] = live;
-    let numbers: &[u16] = table;
-    let commands: &[u16] = cw;
-    let blocks: &[u16] = bw;
-    marks.len() + numbers.len() + commands.len() + blocks.len()
-}
 
 // Of marked blocks: their new numbers told, their birth marks, and the words of commands and blocks with the links renamed. How many survive.
 fn pack_marked(
@@ -58,7 +42,6 @@ fn pack_marked(
     requires { (counts.blocks ≤ block_limit) × (counts.commands ≤ command_limit) }
     ensures { PackedBy live.now counts commands.old blocks.old births.old commands.new blocks.new births.new moved.new result }
 {
-    let _all = known(live, table, commands, blocks);
     let total = number(live, counts.blocks, table);
     tell_moved(live, table, counts.blocks, moved);
     pack_births(births, live, counts.blocks);
@@ -77,15 +60,11 @@ fn read_back(
 ) -> Counts
     ensures { (bs : List Block) → read_image bytes.now ≡ got bs [] → memory_of ws.new val.new cw.new bw.new result ≡ put_blocks (empty_in ws.old val.old cw.old bw.old) bs }
 {
-    let r = read_script(bytes, 0, ws, val, cw, bw);
-    match r {
-        Image::Read(k) => k,
-        Image::No(_) => Counts {
-            nodes: 0,
-            commands: 0,
-            blocks: 0,
-        },
-    }
+    read_script(bytes, 0, ws, val, cw, bw).unwrap_or(Counts {
+        nodes: 0,
+        commands: 0,
+        blocks: 0,
+    })
 }
 
 // The blocks of a judged record of these commands and blocks into the arrays, from their start on: written as an image and read from it.
@@ -102,8 +81,7 @@ fn through_image(
     requires { (record_refusal (memory_of ws.old val.old commands.now blocks.now counts) ≡ 0) × (most_bytes block_limit command_limit node_limit ≤ length image.old) }
     ensures { memory_of ws.new val.new cw.new bw.new result ≡ put_blocks (empty_in ws.old val.old cw.old bw.old) (script_of (memory_of ws.old val.old commands.now blocks.now counts)).blocks }
 {
-    let w = write_script(ws, val, commands, blocks, counts, image);
-    let n = w.len;
+    let n = write_script(ws, val, commands, blocks, counts, image).unwrap();
     read_back(&image[..n], ws, val, cw, bw)
 }
 
@@ -156,25 +134,12 @@ pub fn reclaim(
     counts: Counts,
     roots: &[u32],
     moved: &mut [u16; BLOCKS],
-) -> Reclaimed
-    ensures { (n : ℕ) → ReclaimedAs (born_of ws.old val.old cw.old bw.old counts births.old n) roots.now moved.old result.refusal (born_of ws.new val.new cw.new bw.new result.counts births.new n) moved.new }
+) -> Result<Counts, Refusal>
+    ensures { (n : ℕ) → ReclaimedAs (born_of ws.old val.old cw.old bw.old counts births.old n) roots.now moved.old (refusal_in result) (born_of ws.new val.new cw.new bw.new (counts_after counts result) births.new n) moved.new }
 {
     if !roots_ok(roots, counts.blocks) {
-        return Reclaimed {
-            refusal: 18,
-            counts: counts,
-        };
+        return Err(Refusal::BadRoots);
     }
-    let refused = check_record(ws, val, cw, bw, counts);
-    if refused != 0 {
-        return Reclaimed {
-            refusal: refused,
-            counts: counts,
-        };
-    }
-    let after = keep_survivors(ws, val, cw, bw, births, counts, roots, moved);
-    Reclaimed {
-        refusal: 0,
-        counts: after,
-    }
+    check_record(ws, val, cw, bw, counts)?;
+    Ok(keep_survivors(ws, val, cw, bw, births, counts, roots, moved))
 }
