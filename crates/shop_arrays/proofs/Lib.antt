@@ -1,5 +1,5 @@
 -- What the proofs of several functions use.
 mod Items
-mod Placed
+pub mod Placed
 mod Puts
 mod Sorts
