@@ -43,11 +43,8 @@ pub fn signed(v: u64) -> i32
     requires { v < wide }
     ensures { result ≡ zag v }
 {
-    let h = (v / 2) as i32;
-    if v % 2 == 0 {
-        return h;
-    }
-    -1 - h
+    let half = (v / 2) as i32;
+    if v % 2 == 0 { half } else { -1 - half }
 }
 
 // The number that stands for a signed one in an image.
@@ -55,16 +52,16 @@ pub fn folded(z: i32) -> u64
     ensures { result ≡ zig z }
 {
     if z < 0 {
-        let m = (-1 - z) as u64;
-        return 2 * m + 1;
+        2 * (-1 - z) as u64 + 1
+    } else {
+        2 * z as u64
     }
-    let p = z as u64;
-    2 * p
 }
 
 // ---- lengths
 
 // How many groups of seven bits a number takes.
+#[tactic(auto, using(crate::specs::Lengths::word_1, crate::specs::Lengths::word_2, crate::specs::Lengths::word_3, crate::specs::Lengths::word_4, crate::specs::Lengths::word_5))]
 pub fn word_length(v: u64) -> usize
     requires { v < 34359738368 }
     ensures { result ≡ length (word v) }
@@ -88,17 +85,10 @@ pub fn word_length(v: u64) -> usize
 pub fn short_length(x: u16) -> usize
     ensures { ShortWord x result }
 {
-    word_length(x as u64)
+    word_length(u64::from(x))
 }
 
 // ---- writing
-
-fn low_byte(x: u64) -> u8
-    requires { x < 256 }
-    ensures { result ≡ x }
-{
-    x as u8
-}
 
 // The groups of v, low one first, of which there are at most f.
 fn write_groups(out: &mut [u8], at: usize, v: u64, f: u8) -> usize
@@ -106,10 +96,10 @@ fn write_groups(out: &mut [u8], at: usize, v: u64, f: u8) -> usize
     ensures { Stored out.old at (word_to f v) out.new result }
 {
     if v < 128 {
-        out[at] = low_byte(v);
+        out[at] = v as u8;
         return at + 1;
     }
-    out[at] = low_byte(v % 128 + 128);
+    out[at] = (v % 128 + 128) as u8;
     write_groups(out, at + 1, v / 128, f - 1)
 }
 
@@ -119,7 +109,7 @@ fn write_word(out: &mut [u8], at: usize, v: u64) -> usize
     ensures { Stored out.old at (word v) out.new result }
 {
     if v < 128 {
-        out[at] = low_byte(v);
+        out[at] = v as u8;
         return at + 1;
     }
     write_groups(out, at, v, 5)
@@ -130,7 +120,7 @@ pub fn write_short(out: &mut [u8], at: usize, x: u16) -> usize
     requires { Room out.old at (word x) }
     ensures { Stored out.old at (word x) out.new result }
 {
-    write_word(out, at, x as u64)
+    write_word(out, at, u64::from(x))
 }
 
 // A signed number, folded.
