@@ -2,6 +2,7 @@
 #![tactic(auto)]
 
 ghost use Rattle.std.specs.Prelude.{◌≡◌};
+ghost use Rattle.model.specs.Refusals.{refusal_number};
 ghost use Rattle.image_write.specs.Call.{wrote};
 ghost use Rattle.slots_heading.specs.Bytes.{head_by, write_head, head_length};
 ghost use Rattle.capi_values.specs.Values.{sheet_by};
@@ -9,7 +10,7 @@ ghost use Rattle.capi_stage.specs.Answers.{told, no_head, head_told};
 ghost use Rattle.capi_stage.specs.Told.{headed_of};
 
 use capi_values::sheet_by;
-use model::INPUT;
+use model::{INPUT, Refusal};
 use slots_heading::write_heading;
 use slots_sheet::{Heading, read_heading};
 
@@ -35,11 +36,11 @@ pub struct Written {
     pub len: usize,
 }
 
-fn no_head(e: u8) -> Headed
-    ensures { result ≡ no_head e }
+fn no_head(refusal: Refusal) -> Headed
+    ensures { result ≡ no_head (refusal_number refusal) }
 {
     Headed {
-        refusal: e,
+        refusal: refusal.number(),
         items: 0,
         atcs: 0,
         timer5: 0,
@@ -55,7 +56,7 @@ fn headed_of(h: Heading) -> Headed
 {
     let sheet = h.sheet;
     Headed {
-        refusal: h.refusal,
+        refusal: 0,
         items: h.items,
         atcs: sheet.atcs,
         timer5: sheet.timer5.0,
@@ -72,10 +73,12 @@ pub fn lk_read_heading(bytes: &[u8], attached: &mut [u8; 512]) -> Headed
 {
     if INPUT < bytes.len() {
         *attached = [0; 512];
-        return no_head(3);
+        return no_head(Refusal::OverLimit);
     }
-    let h = read_heading(bytes, attached);
-    headed_of(h)
+    match read_heading(bytes, attached) {
+        Ok(h) => headed_of(h),
+        Err(e) => no_head(e),
+    }
 }
 
 // Sheet and setup number into a slice, as lk_read_heading reads them. Refused, the slice stays as it was; so do the bytes past the heading.
@@ -91,9 +94,14 @@ pub fn lk_write_heading(
     ensures { (wrote result.refusal out.new ≡ write_head (head_by attached.now (sheet_by atcs timer5 timer10 timer15) setup) out.old) × (result.len ≡ head_length (head_by attached.now (sheet_by atcs timer5 timer10 timer15) setup) out.old) }
 {
     let sheet = sheet_by(atcs, timer5, timer10, timer15);
-    let w = write_heading(attached, sheet, setup, out);
-    Written {
-        refusal: w.refusal,
-        len: w.len,
+    match write_heading(attached, sheet, setup, out) {
+        Ok(len) => Written {
+            refusal: 0,
+            len: len,
+        },
+        Err(e) => Written {
+            refusal: e.number(),
+            len: 0,
+        },
     }
 }
