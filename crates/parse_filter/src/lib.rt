@@ -8,7 +8,6 @@ ghost use Rattle.parse_filter.specs.Chains.{signed_entry, signed_part, entries_a
 ghost use Rattle.parse_filter.specs.Filter.{Met, Sifted, companion_codes, Coded, Holds};
 ghost use Rattle.parse_filter.specs.Marks.{MarkedAs, Part, Marks, Onward, Unmarks, Served, Parsed};
 
-use memory::index_of;
 use shop::{ENTRIES, Row, insert_in};
 use shop_codes::missing_of;
 
@@ -33,10 +32,7 @@ fn signed_entry(companions: &[u16], e: u16, neg: bool) -> u16
     requires { e < length companions.now }
     ensures { result ≡ signed_entry companions.now neg e }
 {
-    if neg {
-        return companions[index_of(e)];
-    }
-    e
+    if neg { companions[usize::from(e)] } else { e }
 }
 
 // Entry e is marked, and looked at from now on where it was not marked before: how many words are alive then.
@@ -44,10 +40,10 @@ fn mark_entry(seen: &mut [bool], alive: &mut [u16], e: u16, a: usize) -> usize
     requires { (e < length seen.old) × (a < length alive.old) }
     ensures { Marks seen.old alive.old a (e ∷ []) seen.new alive.new result }
 {
-    if seen[index_of(e)] {
+    if seen[usize::from(e)] {
         return a;
     }
-    seen[index_of(e)] = true;
+    seen[usize::from(e)] = true;
     alive[a] = e;
     a + 1
 }
@@ -67,10 +63,8 @@ fn mark_part(
     ensures { Marks seen.old alive.old before (signed_part companions.now list.now neg from to) seen.new alive.new result }
 {
     let mut a = before;
-    let mut j = from;
-    while j < to {
+    for j in from..to {
         a = mark_entry(seen, alive, signed_entry(companions, list[j], neg), a);
-        j += 1;
     }
     a
 }
@@ -82,7 +76,7 @@ fn stands_on(cells: &[u16], first: usize, below: usize) -> bool
 {
     let mut c = first;
     while below < c {
-        c = index_of(cells[3 * ((c - 1) / 2)]);
+        c = usize::from(cells[3 * ((c - 1) / 2)]);
     }
     c == below
 }
@@ -100,8 +94,8 @@ fn mark_chain(
     requires { Onward companions.now cells.now list.now (length seen.old) (length alive.old) first k }
     ensures { Marks seen.old alive.old k.alive (entries_above companions.now cells.now list.now k.first first) seen.new alive.new result × (result ≤ top_of cells.now first) }
 {
-    let below = index_of(k.first);
-    let mut a = index_of(k.alive);
+    let below = usize::from(k.first);
+    let mut a = usize::from(k.alive);
     let mut c = first;
     while below < c {
         let j = (c - 1) / 2;
@@ -111,12 +105,12 @@ fn mark_chain(
             companions,
             seen,
             alive,
-            index_of(cells[3 * j + 1]),
-            index_of(cells[3 * j + 2]),
+            usize::from(cells[3 * j + 1]),
+            usize::from(cells[3 * j + 2]),
             neg,
             a,
         );
-        c = index_of(cells[3 * j]);
+        c = usize::from(cells[3 * j]);
     }
     a
 }
@@ -134,10 +128,8 @@ fn clear_part(
     requires { Part companions.now list.now (length seen.old) from to }
     ensures { Unmarks seen.old (signed_part companions.now list.now neg from to) seen.new }
 {
-    let mut j = from;
-    while j < to {
-        seen[index_of(signed_entry(companions, list[j], neg))] = false;
-        j += 1;
+    for j in from..to {
+        seen[usize::from(signed_entry(companions, list[j], neg))] = false;
     }
 }
 
@@ -153,11 +145,11 @@ fn clear(cells: &[u16], list: &[u16], companions: &[u16], seen: &mut [bool], fir
             list,
             companions,
             seen,
-            index_of(cells[3 * j + 1]),
-            index_of(cells[3 * j + 2]),
+            usize::from(cells[3 * j + 1]),
+            usize::from(cells[3 * j + 2]),
             (c - 1) % 2 == 1,
         );
-        c = index_of(cells[3 * j]);
+        c = usize::from(cells[3 * j]);
     }
 }
 
@@ -173,7 +165,7 @@ fn marks_for(
     requires { Walkable companions.now cells.now list.now (length seen.old) old.first × Falls cells.now first }
     ensures { Served companions.now cells.now list.now seen.old old first seen.new result }
 {
-    let below = index_of(old.first);
+    let below = usize::from(old.first);
     if stands_on(cells, first, below) {
         return old;
     }
@@ -189,14 +181,12 @@ pub fn filter_alive(companions: &[u16], seen: &[bool], alive: &mut [u16], n: usi
     ensures { Sifted companions.now seen.now alive.old n alive.new result }
 {
     let mut kept = 0;
-    let mut j = 0;
-    while j < n {
+    for j in 0..n {
         let e = alive[j];
         alive[kept] = e;
-        if !seen[index_of(companions[index_of(e)])] {
+        if !seen[usize::from(companions[usize::from(e)])] {
             kept += 1;
         }
-        j += 1;
     }
     kept
 }
@@ -205,11 +195,8 @@ fn entry_code(keys: &[u64], k: u16) -> u64
     requires { (k / 2 < length keys.now) × (get_or keys.now (k / 2) 0 + wide < 18446744073709551616) }
     ensures { result ≡ entry_code keys.now k }
 {
-    let key = keys[index_of(k / 2)];
-    if k % 2 == 0 {
-        return key;
-    }
-    missing_of(key)
+    let key = keys[usize::from(k / 2)];
+    if k % 2 == 0 { key } else { missing_of(key) }
 }
 
 // The codes of the companions of n entries, as a set: how many they are, ENTRIES + 1 where there are more than ENTRIES.
@@ -224,13 +211,15 @@ fn companion_codes(
     ensures { Holds (companion_codes keys.now companions.now (take n alive.now)) codes.new result }
 {
     let mut len = 0;
-    let mut i = 0;
-    while i < n {
-        len = insert_in(codes, len, entry_code(keys, companions[index_of(alive[i])]));
+    for i in 0..n {
+        len = insert_in(
+            codes,
+            len,
+            entry_code(keys, companions[usize::from(alive[i])]),
+        );
         if ENTRIES < len {
             return len;
         }
-        i += 1;
     }
     len
 }
@@ -262,7 +251,7 @@ pub fn parse_requirements(
     let kept = filter_alive(companions, seen, alive, all);
     let len = companion_codes(keys, companions, alive, kept, codes);
     Filtered {
-        len: len,
+        len,
         marked: Marked {
             first: first as u16,
             alive: kept as u16,

@@ -1,0 +1,73 @@
+use native.Mathlib.Omega.{arith}
+use Rattle.parse_filter.proofs.Walking.{cell_at, part_at, clearing_start, clearing_end, clearing_on}
+use Rattle.parse_filter.proofs.clear.Goals as goal
+
+pub loop-c-init : goal.loop-c-init
+loop-c-init c =
+    clearing_start c.args.companions.now c.args.cells.now c.args.list.now c.args.seen.now c.args.first c.requires
+
+pub overflow_sub-j : goal.overflow_sub-j
+overflow_sub-j c = omega (arith, c.loop-c-test.true)
+
+pub overflow_mul-j : goal.overflow_mul-j
+overflow_mul-j c =
+    omega (arith, (cell_at _ _ _ _ _ c.requires c.loop-c.c (omega (arith, c.loop-c-test.true)) c.loop-c.invariant.low).row)
+
+pub overflow_add-j : goal.overflow_add-j
+overflow_add-j c =
+    omega (arith, (cell_at _ _ _ _ _ c.requires c.loop-c.c (omega (arith, c.loop-c-test.true)) c.loop-c.invariant.low).row)
+
+pub offset_bounds-cells-j : goal.offset_bounds-cells-j
+offset_bounds-cells-j c =
+    omega (arith, (cell_at _ _ _ _ _ c.requires c.loop-c.c (omega (arith, c.loop-c-test.true)) c.loop-c.invariant.low).row)
+
+pub bounds-cells-j : goal.bounds-cells-j
+bounds-cells-j c =
+    omega (arith, (cell_at _ _ _ _ _ c.requires c.loop-c.c (omega (arith, c.loop-c-test.true)) c.loop-c.invariant.low).row)
+
+pub overflow_mul-j-in-loop-c : goal.overflow_mul-j-in-loop-c
+overflow_mul-j-in-loop-c c =
+    omega (arith, (cell_at _ _ _ _ _ c.requires c.loop-c.c (omega (arith, c.loop-c-test.true)) c.loop-c.invariant.low).row)
+
+pub overflow_add-j-in-loop-c : goal.overflow_add-j-in-loop-c
+overflow_add-j-in-loop-c c =
+    omega (arith, (cell_at _ _ _ _ _ c.requires c.loop-c.c (omega (arith, c.loop-c-test.true)) c.loop-c.invariant.low).row)
+
+pub offset_bounds-cells-j-in-loop-c : goal.offset_bounds-cells-j-in-loop-c
+offset_bounds-cells-j-in-loop-c c =
+    omega (arith, (cell_at _ _ _ _ _ c.requires c.loop-c.c (omega (arith, c.loop-c-test.true)) c.loop-c.invariant.low).row)
+
+pub bounds-cells-j-in-loop-c : goal.bounds-cells-j-in-loop-c
+bounds-cells-j-in-loop-c c =
+    omega (arith, (cell_at _ _ _ _ _ c.requires c.loop-c.c (omega (arith, c.loop-c-test.true)) c.loop-c.invariant.low).row)
+
+pub overflow_sub-c : goal.overflow_sub-c
+overflow_sub-c c = omega (arith, c.loop-c-test.true)
+
+pub clear_part-requires : goal.clear_part-requires
+clear_part-requires c =
+    rw (c.loop-c.invariant.size, c.from.ensures, c.from-in-loop-c.ensures) (part_at _ _ _ _ _ c.requires c.loop-c.c (omega (arith, c.loop-c-test.true)) c.loop-c.invariant.low)
+
+pub overflow_mul-j-in-loop-c-2 : goal.overflow_mul-j-in-loop-c-2
+overflow_mul-j-in-loop-c-2 c =
+    omega (arith, (cell_at _ _ _ _ _ c.requires c.loop-c.c (omega (arith, c.loop-c-test.true)) c.loop-c.invariant.low).row)
+
+pub offset_bounds-cells-j-in-loop-c-2 : goal.offset_bounds-cells-j-in-loop-c-2
+offset_bounds-cells-j-in-loop-c-2 c =
+    omega (arith, (cell_at _ _ _ _ _ c.requires c.loop-c.c (omega (arith, c.loop-c-test.true)) c.loop-c.invariant.low).row)
+
+pub bounds-cells-j-in-loop-c-2 : goal.bounds-cells-j-in-loop-c-2
+bounds-cells-j-in-loop-c-2 c =
+    omega (arith, (cell_at _ _ _ _ _ c.requires c.loop-c.c (omega (arith, c.loop-c-test.true)) c.loop-c.invariant.low).row)
+
+pub loop-c-smaller : goal.loop-c-smaller
+loop-c-smaller c =
+    rw c.from-c.ensures (cell_at _ _ _ _ _ c.requires c.loop-c.c (omega (arith, c.loop-c-test.true)) c.loop-c.invariant.low).lower
+
+pub loop-c-preserved : goal.loop-c-preserved
+loop-c-preserved c =
+    clearing_on _ _ _ _ _ c.requires _ c.loop-c.c c.loop-c.invariant c.loop-c-test.true _ _ _ c.from.ensures c.from-in-loop-c.ensures c.from-c.ensures _ c.clear_part.auto.seen c.clear_part.ensures
+
+pub returns : goal.returns
+returns c =
+    clearing_end _ _ _ _ _ c.requires _ c.loop-c.c c.loop-c.invariant c.loop-c-test.false
