@@ -1,10 +1,12 @@
 -- The largest is 0 or 1 where each of them is. Assumes nothing.
-use Rattle.std.proofs.Common.{◌∙◌, sym}
+use Rattle.std.specs.Prelude.{◌≡◌, max, fold}
+use Rattle.std.proofs.Common.{rules}
 use Rattle.std.proofs.lemmas.Iterator.{YieldsList-from_slice}
-use Rattle.std.proofs.lemmas.Iterator.Consumers.{YieldsList-from_copied, max_from_yields_List}
-use Rattle.std.proofs.lemmas.Iterator.Adapters.{option_map_id}
-use Rattle.checks.proofs.Most.{most_bits}
+use Rattle.std.proofs.lemmas.Iterator.Consumers.{fold_from_yields_List}
+use Rattle.checks.proofs.Most.{fold_bits}
 use Rattle.checks.proofs.bits_ok.Goals as goal
 
 pub returns : goal.returns
-returns c = rw (c.unwrap_or.ensures, sym (option_map_id c.max.result) ∙ max_from_yields_List _ _ c.max.ensures.ran (YieldsList-from_copied (YieldsList-from_slice c.args.bits.now cc))) (most_bits c.args.bits.now)
+returns c =
+    let e : c.fold.result ≡ fold max 0 c.args.bits.now = fold_from_yields_List _ max 0 _ c.fold.ensures.ran (YieldsList-from_slice c.args.bits.now cc) (λ a x b q k. search rules) in
+    rw e (fold_bits 0 c.args.bits.now)
