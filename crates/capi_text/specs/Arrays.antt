@@ -12,7 +12,7 @@ use Rattle.model.proofs.Laws.Checked.{all_at}
 use Rattle.model.specs.Printer.{slot_lines}
 use Rattle.model.specs.Sheet.{all}
 use Rattle.shop.specs.Shapes.{slots_of}
-use Rattle.shop.specs.declared.SlotItem.TheVariants.{Nothing}
+use Rattle.std.specs.Prelude as prelude
 use Rattle.shop.specs.declared.Slot.{Slot}
 use Rattle.shop.specs.declared.Shop.{Shop}
 use Rattle.shop_arrays.specs.Arrays.{Arrays, arrays_in, item_from, item_to, slot_at, slots_from, shop_from, rows, items_of, limits_of, lens_of, arrays_of}
@@ -51,7 +51,7 @@ module _ (s : Shop) (is : List ℤ) (i : ℕ) (u : ItemsPut s is i) (size : leng
 
 -- ---- arrays that stand for a shop: all but the items are its words
 
-no_items_lem : (n j : ℕ) → j < n → item_from (get_or (replicate n (negsuc 0)) j (pos 0)) ≡ Nothing
+no_items_lem : (n j : ℕ) → j < n → item_from (get_or (replicate n (negsuc 0)) j (pos 0)) ≡ prelude.None
 unfolding item_from
 no_items_lem zero j h = absurd (omega arith)
 no_items_lem (suc n) zero h = refl

@@ -20,7 +20,7 @@ use Rattle.shop_codes.specs.Codes.{requirement_of}
 use Rattle.shop_codes.specs.Laws.{code_narrow}
 use Rattle.shop.specs.Shapes.{entries, item_of, slot_of, slots_of}
 use Rattle.shop.specs.Slots.{entries_length}
-use Rattle.shop.specs.declared.SlotItem.TheVariants.{Of}
+use Rattle.std.specs.Prelude as prelude
 use Rattle.shop.specs.declared.Slot.{Slot}
 use Rattle.shop.specs.declared.Shop.{Shop}
 use Rattle.shop_arrays.specs.Arrays.{Arrays, no_such_item, item_from, item_to, row_at, slot_at, slots_from, shop_from, rows, arrays_of}
@@ -40,7 +40,7 @@ use Rattle.capi_text.specs.Arrays.{text_short}
 
 -- what a column holds past its end
 abbrev past : Slot
-past = record { item = Of (record { 0 = 0 }); limit = pos 0; requirements = []; len = 0 }
+past = record { item = prelude.Some (record { 0 = 0 }); limit = pos 0; requirements = []; len = 0 }
 
 -- a slot that arrays can hold: a full row, and an item that its number stands for
 record Held (x : Slot) : Type 0 where

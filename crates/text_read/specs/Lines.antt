@@ -15,7 +15,8 @@ use Rattle.model.specs.Shop
 use Rattle.shop_codes.specs.Codes.{shift, unshift, code_of, of_kind, requirement_of}
 use Rattle.shop_codes.specs.Laws.{shift_most, unshift_low, unshift_high, unshift_shift}
 use Rattle.image_numbers.specs.Answers.{seen_more, seen_none}
-use Rattle.shop.specs.declared.SlotItem.{SlotItem}
+use Rattle.std.specs.Prelude as prelude
+use Rattle.model.specs.declared.ItemId.{ItemId}
 use Rattle.shop.specs.declared.Slot.{Slot}
 use Rattle.text_model.specs.Text.{read_natural, read_signed, blank_behind, read_number, read_item, read_id, read_flag, read_requirement, read_requirements, read_slot, no_slot, no_item, no_limit, no_requirement, many_requirements, no_end}
 use Rattle.text_read.specs.Shops.{word_item, row_for, slot_for}
@@ -287,7 +288,7 @@ module _ (s : List ℕ) (at i : ℕ) where
         line_no_requirements e h = rw (n.read, o.read, z.read, h)
 
         pub line_took : (row : List ℕ) (k t : ℕ) → Took s (read_requirements entry_limit (drop r s)) (AreRequirements row k) t
-            → (x : SlotItem) → x ≡ word_item w → (y : ℤ) → y ≡ unshift l
+            → (x : prelude.Option ItemId) → x ≡ word_item w → (y : ℤ) → y ≡ unshift l
             → Told s (read_slot i (drop at s)) (λ m. slot_for m ≡ record { item = x; limit = y; requirements = row; len = k }) 0 t
         unfolding read_slot
         line_took row k t rs x e y f =

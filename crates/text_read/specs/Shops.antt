@@ -6,21 +6,21 @@ use Rattle.model.specs.Requirement.{Requirement}
 use Rattle.model.specs.Shop
 use Rattle.shop_codes.specs.Codes.{code_of}
 use Rattle.shop.specs.Shapes.{no_shop}
-use Rattle.shop.specs.declared.SlotItem.{SlotItem}
-use Rattle.shop.specs.declared.SlotItem.TheVariants.{Nothing, Of}
+use Rattle.std.specs.Prelude as prelude
+use Rattle.model.specs.declared.ItemId.{ItemId}
 use Rattle.shop.specs.declared.Slot.{Slot}
 use Rattle.shop.specs.declared.Shop.{Shop}
 use Rattle.text_model.specs.Text.{ReadText, slots, bad}
 use Rattle.text_read.specs.declared.TextShop.{TextShop}
 
-abbrev pub item_for : Option ℕ → SlotItem
-item_for none = Nothing
-item_for (some w) = Of (record { 0 = w })
+abbrev pub item_for : Option ℕ → prelude.Option ItemId
+item_for none = prelude.None
+item_for (some w) = prelude.Some (record { 0 = w })
 
 -- .. by one number: 0 for none or an item plus 1
-abbrev pub word_item : ℕ → SlotItem
-word_item zero = Nothing
-word_item (suc w) = Of (record { 0 = w })
+abbrev pub word_item : ℕ → prelude.Option ItemId
+word_item zero = prelude.None
+word_item (suc w) = prelude.Some (record { 0 = w })
 
 -- the codes in the order in which the requirements stand; past them every code is 0
 abbrev pub row_for : List Requirement → List ℕ

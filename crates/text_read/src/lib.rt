@@ -9,7 +9,7 @@ ghost use Rattle.text_read.specs.Told.{ByteAt, DigitAt, BlankAt, Bound, kind_for
 ghost use Rattle.text_read.specs.Shops.{text_shop, word_item};
 
 use model::{HALF16, ItemId, WIDE16};
-use shop::{ENTRIES, Row, SLOTS, Shop, Slot, SlotItem, empty_shop, empty_slot};
+use shop::{ENTRIES, Row, SLOTS, Shop, Slot, empty_shop, empty_slot};
 use shop_codes::{HAVE_FLAG, KIND, ZERO, number_of};
 
 // Why a line is none.
@@ -255,14 +255,14 @@ fn read_item(s: &[u8], at: usize) -> Read
     behind_blank(s, p, k.value + 1, NO_ITEM)
 }
 
-fn item_of(word: u64) -> SlotItem
+fn item_of(word: u64) -> Option<ItemId>
     requires { word ≤ wide16 }
     ensures { result ≡ word_item word }
 {
     if word == 0 {
-        return SlotItem::Nothing;
+        return None;
     }
-    SlotItem::Of(ItemId((word - 1) as u16))
+    Some(ItemId((word - 1) as u16))
 }
 
 // A limit that was moved up: the number of a flag's code.
