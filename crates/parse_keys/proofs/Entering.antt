@@ -1,9 +1,9 @@
 -- A code's entry: its key is found, or made where there is room. Assumes nothing.
 use mathlib.Core.Path.{◌≡◌, refl, ◌∙◌}
-use mathlib.Core.Bool.{Bool, true, false}
+use mathlib.Core.Bool.{Bool, true}
 use mathlib.Core.Option.{Option, none, some}
 use mathlib.Core.List.{List}
-use Prim.Native.Nat.{ℕ, ◌+◌, ◌-◌, ◌*◌, ◌/◌, ◌%◌, ◌≤◌, ◌<◌}
+use Prim.Native.Nat.{ℕ, ◌+◌, ◌*◌, ◌/◌, ◌%◌, ◌≤◌, ◌<◌}
 use native.Mathlib.Omega.{arith}
 use native.Mathlib.Decide.{ℕ_discrete}
 use lib.IntN.{ℤ}
@@ -16,24 +16,16 @@ use Rattle.shop_codes.specs.Codes.{requirement_of}
 use Rattle.expr.specs.Tree.{tree_below}
 use Rattle.parse_keys.specs.Entries.{odd, turned, entry_req, Valid, Subject, Stand, Leaf}
 use Rattle.parse_keys.specs.Turns.{turn_even, turn_odd}
-use Rattle.parse_keys.specs.Search.{Room, Free, Is, Search, placed_new}
+use Rattle.parse_keys.specs.Search.{Room, Free, Is, placed_new}
 use Rattle.parse_keys.specs.Reads.{Reading}
 use Rattle.parse_keys.specs.Tables.{Companions, Tables, Grown, no_room, Entered, ReadEntry}
 use Rattle.parse_keys.specs.Sheets.{known_sheet, knows}
 use Rattle.parse_keys.specs.Growth.{grown_same}
 use Rattle.parse_keys.specs.declared.Known.{Known}
-use Rattle.parse_keys.specs.declared.Found.{Found}
 use Rattle.parse_keys.specs.declared.Word.{Word}
 use Rattle.parse_keys.proofs.Codes.{Means}
 
 -- ---- an entry of a key
-
-module _ (ks kd : List ℕ) (m n c : ℕ) (r : Found) (e : n ≡ m) (s : Search ks kd n c r) where
-  pub hit : r.there ≡ true → Is ks m c r.at
-  hit h = rw e at (s.0 h)
-
-  pub missed : r.there ≡ false → Free ks kd m c r.at
-  missed h = rw e at (s.1 h)
 
 entry_stand : (ks : List ℕ) (m x i w : ℕ) → Is ks m (x / 2) i → w ≡ 2 * i + x % 2 → Stand ks m w (signed (odd x) (requirement_of (x / 2)))
 unfolding entry_req

@@ -1,5 +1,6 @@
 -- The code of what a node tests, from its operator and its operand's number (01, Parser: comparisons with 0 as parse_requirement). Assumes nothing: these are definitions.
-use Rattle.std.specs.Prelude.{◌≡◌, Bool, true, false, cond, ℕ, ◌+◌, ◌-◌, ◌*◌, ◌/◌, ◌<◌, ltb, eqb, ℤ}
+use Rattle.std.specs.Prelude as Code
+use Rattle.std.specs.Prelude.{Some, None, ◌≡◌, Bool, true, false, cond, ℕ, ◌+◌, ◌-◌, ◌*◌, ◌/◌, ◌<◌, ltb, eqb, ℤ}
 use Rattle.std.proofs.Math.Option.{Option, none, some}
 use Rattle.model.specs.Limits.{wide, half32}
 use Rattle.model.specs.Signed.{is_zero}
@@ -37,6 +38,12 @@ sign_of Add = 2
 sign_of Subtract = 2
 sign_of BitAnd = 2
 sign_of BitOr = 2
+
+-- .. as the code has it
+abbrev pub turn_of : Code.Option Bool → ℕ
+turn_of None = 2
+turn_of (Some false) = 0
+turn_of (Some true) = 1
 
 -- .. and what it gives with the right side's number
 abbrev pub zero_sign : Op2 → Option ℤ → ℕ

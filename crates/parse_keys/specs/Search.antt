@@ -1,10 +1,9 @@
 -- The keys as a search tree by the bits of a code, lowest first: link 2 * i + bit leads on from key i, and key 0 is the root, which holds nothing. Assumes nothing.
-use Rattle.std.specs.Prelude.{◌≡◌, refl, true, false, List, ℕ, ◌+◌, ◌-◌, ◌*◌, ◌/◌, ◌%◌, ◌≤◌, ◌<◌, get_or, set, length}
-use Rattle.std.proofs.Common.{sym, ap, ◌∙◌, true≢false, arith, length-set, get_or-set_same, get_or-set_other}
+use Rattle.std.specs.Prelude.{Result, Ok, Err, ◌≡◌, refl, List, ℕ, ◌+◌, ◌*◌, ◌/◌, ◌%◌, ◌≤◌, ◌<◌, get_or, set, length}
+use Rattle.std.proofs.Common.{sym, ap, ◌∙◌, arith, length-set, get_or-set_same, get_or-set_other}
 use Rattle.std.proofs.Math.Decide.{ℕ_discrete}
 use Rattle.model.specs.Limits.{node_limit}
 use Rattle.parse_keys.specs.Entries.{Subject, Keys}
-use Rattle.parse_keys.specs.declared.Found.{Found}
 
 abbrev pub link : ℕ → ℕ → ℕ
 link at y = 2 * at + y % 2
@@ -43,8 +42,10 @@ pub record Is (ks : List ℕ) (m c i : ℕ) : Type 0 where
   pub most : i ≤ m
   pub code : get_or ks i 0 ≡ c
 
-abbrev pub Search : List ℕ → List ℕ → ℕ → ℕ → Found → Type 0
-Search ks kd m c r = (r.there ≡ true → Is ks m c r.at) × (r.there ≡ false → Free ks kd m c r.at)
+-- a search ends at the key of the code, or at its free link
+abbrev pub Search : List ℕ → List ℕ → ℕ → ℕ → Result ℕ ℕ → Type 0
+Search ks kd m c (Ok i) = Is ks m c i
+Search ks kd m c (Err p) = Free ks kd m c p
 
 -- the search at key at, with the bits y of c left
 pub record Seeks (ks kd : List ℕ) (m c at y : ℕ) : Type 0 where
@@ -94,14 +95,6 @@ kept kd p v z q h = get_or-set_other kd p q v 0 (λ e. let f : get_or kd q 0 ≡
 pub keep_reach : (kd kd' : List ℕ) (j y at : ℕ) → 0 < j → Keeps kd kd' → Reaches kd j y at → Reaches kd' j y at
 keep_reach kd kd' j y at p k (last e) = last (k (link at y) (rw e p) ∙ e)
 keep_reach kd kd' j y at p k (on c q e r) = on c q (k (link at y) (rw e q) ∙ e) (keep_reach kd kd' j (y / 2) c p k r)
-
--- ---- the answers
-
-pub free_answer : (ks kd : List ℕ) (m c p : ℕ) → Free ks kd m c p → Search ks kd m c (record { at = p; there = false })
-free_answer ks kd m c p f = (λ e. absurd (true≢false (sym e)), λ e. f)
-
-pub there_answer : (ks kd : List ℕ) (m c i : ℕ) → Is ks m c i → Search ks kd m c (record { at = i; there = true })
-there_answer ks kd m c i s = (λ e. s, λ e. absurd (true≢false e))
 
 -- ---- one key more
 

@@ -8,11 +8,11 @@ ghost use Rattle.model.specs.Limits.{wide, node_limit};
 ghost use Rattle.expr.specs.Tree.{tree_below};
 ghost use Rattle.parse_keys.specs.Entries.{Subject};
 ghost use Rattle.parse_keys.specs.Search.{Table, Search};
-ghost use Rattle.parse_keys.specs.Reads.{Numbered, id_code, flag_code, sign_of, zero_sign, signed_code, ReadCode, Reading};
+ghost use Rattle.parse_keys.specs.Reads.{Numbered, id_code, flag_code, turn_of, sign_of, zero_sign, signed_code, ReadCode, Reading};
 ghost use Rattle.parse_keys.specs.Tables.{Tables, OfNode, Entered, ReadEntry};
 
 use expr::number_below;
-use memory::{NodeWords, Values, index_of, kind_of};
+use memory::{NodeWords, Values, kind_of};
 use model::{Kind, Op1, Op2};
 use shop_codes::{HAVE_ATC, HAVE_FLAG, KIND, ZERO, shifted};
 
@@ -33,17 +33,10 @@ pub struct Word {
 // The word where there is no room for another key.
 pub const NO_ROOM: u16 = 65535;
 
-// Where a search ended: at a key, or at the free link where the code belongs.
-#[derive(Clone, Copy)]
-struct Found {
-    at: usize,
-    there: bool,
-}
-
 // ---- keys
 
-// The search goes by the bits of the code, lowest first: codes are below 2^35, so that it takes at most 36 steps whatever the script.
-fn find(keys: &[u64], kids: &[u16], m: usize, code: u64) -> Found
+// The key of a code, or the free link where it belongs. The search goes by the bits of the code, lowest first: codes are below 2^35, so that it takes at most 36 steps whatever the script.
+fn find(keys: &[u64], kids: &[u16], m: usize, code: u64) -> Result<usize, usize>
     requires { ((m < node_limit) × (2 * m + 2 ≤ length kids.now)) × Table keys.now kids.now m }
     ensures { Search keys.now kids.now m code result }
 {
@@ -51,22 +44,19 @@ fn find(keys: &[u64], kids: &[u16], m: usize, code: u64) -> Found
     let mut bits = code;
     loop {
         let link = 2 * at + (bits % 2) as usize;
-        let c = index_of(kids[link]);
+        let c = usize::from(kids[link]);
         if c == 0 {
-            return Found {
-                at: link,
-                there: false,
-            };
+            return Err(link);
         }
         if keys[c] == code {
-            return Found { at: c, there: true };
+            return Ok(c);
         }
         at = c;
-        bits = bits / 2;
+        bits /= 2;
     }
 }
 
-// ---- codes of nodes
+// ---- codes of nodes: numbers, 0 for no code, and no Options, as the laws of codes and signs are over numbers
 
 // Above every number of 32 bits, moved up: for a node that has none.
 const NO_NUMBER: u64 = KIND;
@@ -90,7 +80,7 @@ fn id_code(s: u64, n: u16, base: u64) -> u64
     if s < ZERO {
         return 0;
     }
-    if s - ZERO < n as u64 {
+    if s - ZERO < u64::from(n) {
         return base + s;
     }
     0
@@ -111,41 +101,32 @@ fn read_code(o: Op1, s: u64, items: u16, atcs: u16) -> u64
     ensures { ReadCode items atcs o s result }
 {
     match o {
-        Op1::Not => 0,
         Op1::Flag => flag_code(s),
-        Op1::Variable => 0,
         Op1::Item => id_code(s, items, 0),
         Op1::Atc => id_code(s, atcs, HAVE_ATC),
-        Op1::Time => 0,
+        Op1::Not | Op1::Variable | Op1::Time => 0,
     }
 }
 
-// Which sign a comparison with 0 gives what it compares: 0 the same, 1 the other one, 2 where it tells nothing.
-fn sign_of(o: Op2) -> u16
-    ensures { result ≡ sign_of o }
+// Whether a comparison with 0 gives what it compares the other sign; none where it tells nothing.
+fn sign_of(o: Op2) -> Option<bool>
+    ensures { turn_of result ≡ sign_of o }
 {
     match o {
-        Op2::Equal => 1,
-        Op2::NotEqual => 0,
-        Op2::Less => 2,
-        Op2::LessEqual => 1,
-        Op2::Greater => 0,
-        Op2::GreaterEqual => 2,
-        Op2::Add => 2,
-        Op2::Subtract => 2,
-        Op2::BitAnd => 2,
-        Op2::BitOr => 2,
+        Op2::Equal | Op2::LessEqual => Some(true),
+        Op2::NotEqual | Op2::Greater => Some(false),
+        _ => None,
     }
 }
 
 // .. and which one the comparison o at node i gives: only 0 on the right counts.
-fn zero_sign(ws: &NodeWords, val: &Values, i: usize, o: Op2) -> u16
+fn zero_sign(ws: &NodeWords, val: &Values, i: usize, o: Op2) -> Option<bool>
     requires { i < node_limit }
-    ensures { (n : ℕ) → result ≡ zero_sign o (value (tree_below (nodes_in ws.now val.now n) i (right_at (nodes_in ws.now val.now n) i))) }
+    ensures { (n : ℕ) → turn_of result ≡ zero_sign o (value (tree_below (nodes_in ws.now val.now n) i (right_at (nodes_in ws.now val.now n) i))) }
 {
     let s = shifted_below(ws, val, i as u16, ws[3 * i + 2]);
     if s != ZERO {
-        return 2;
+        return None;
     }
     sign_of(o)
 }
@@ -172,26 +153,23 @@ fn code_below(ws: &NodeWords, val: &Values, known: Known, b: usize, i: usize, ne
     if b <= i {
         return 0;
     }
-    let k = kind_of(ws[3 * i]);
-    match k {
+    match kind_of(ws[3 * i]) {
         Kind::Two(o) => {
-            let t = zero_sign(ws, val, i, o);
-            if t == 2 {
+            let Some(turned) = zero_sign(ws, val, i, o) else {
                 return 0;
+            };
+            let left = usize::from(ws[3 * i + 1]);
+            if turned {
+                code_below(ws, val, known, i, left, !neg)
+            } else {
+                code_below(ws, val, known, i, left, neg)
             }
-            let left = index_of(ws[3 * i + 1]);
-            if t == 1 {
-                return code_below(ws, val, known, i, left, !neg);
-            }
-            code_below(ws, val, known, i, left, neg)
         }
         Kind::One(o) => {
             let s = shifted_below(ws, val, i as u16, ws[3 * i + 1]);
             signed_code(read_code(o, s, known.items, known.atcs), neg)
         }
-        Kind::Imm16 => 0,
-        Kind::Imm32 => 0,
-        Kind::Other => 0,
+        Kind::Imm16 | Kind::Imm32 | Kind::Other => 0,
     }
 }
 
@@ -202,16 +180,17 @@ fn entry_of(keys: &mut [u64], kids: &mut [u16], companions: &mut [u16], m: u16, 
     requires { Tables keys.old kids.old companions.old m × Subject (code / 2) }
     ensures { Entered code m keys.old keys.new kids.new companions.new result }
 {
-    let f = find(keys, kids, index_of(m), code / 2);
-    let at = f.at;
     let sign = (code % 2) as u16;
-    if f.there {
-        return Word {
-            word: 2 * (at as u16) + sign,
-            count: m,
-        };
-    }
-    let n = index_of(m) + 1;
+    let at = match find(keys, kids, usize::from(m), code / 2) {
+        Ok(key) => {
+            return Word {
+                word: 2 * (key as u16) + sign,
+                count: m,
+            };
+        }
+        Err(link) => link,
+    };
+    let n = usize::from(m) + 1;
     if keys.len() <= n {
         return Word {
             word: NO_ROOM,
