@@ -4,14 +4,10 @@ use mathlib.Core.Bool.{true, false, cond}
 use mathlib.Core.Option.{Option}
 use mathlib.Core.List.{List, ◌∷◌}
 use Prim.Native.Nat.{ℕ, zero, suc, ◌+◌, ◌-◌, ◌*◌, ◌≤◌, ◌<◌}
-use native.Mathlib.Nat.{not-suc-le-zero}
 use native.Mathlib.Omega.{arith}
-use lib.Dec.{T}
-use lib.ListN.{get_or, set, length, get_or-eq_default}
-use lib.Seq.{set_out}
-use lib.IntN.{ℤ, pos, negsuc, nat_abs}
-use lib.Signed.{lt_z}
-use borrow.Author.Tests.{ltb-true, ne_eqb}
+use lib.ListN.{get_or, get_or-eq_default}
+use lib.IntN.{ℤ, pos, negsuc}
+use borrow.Author.Tests.{ne_eqb}
 use mir.Syntax.{w32}
 use mir.Val.{SFits, of_z}
 use Rattle.model.specs.Signed.{is_zero}
@@ -23,26 +19,14 @@ use Rattle.model.specs.Memory.{Coded, coded_in, Memory, tree, command_word, set_
 use Rattle.model.specs.declared.BlockNo.{BlockNo}
 use Rattle.memory.specs.RecordLaws.{length_blocks_in, block_at_lem, next_command}
 use Rattle.expr.specs.Value.{value_of}
-use Rattle.expr.specs.declared.Value.{Value}
-use Rattle.expr.specs.declared.Value.TheVariants.{Is, Refused}
-use Rattle.runner.specs.Steps.{outcome_of, after, Flows}
-use Rattle.runner.specs.declared.Step.{Step}
-use Rattle.runner.specs.declared.Step.TheVariants.{Next, Halt}
-use Rattle.runner.specs.declared.Flow.{Flow}
-use Rattle.runner.specs.declared.Flow.TheVariants.{On, Out}
+use Rattle.std.specs.Prelude as code
+use Rattle.std.specs.Prelude.{None, Some, Result, Ok, Err}
+use Rattle.std.specs.declared.ops.ControlFlow.TheVariants.{Continue, Break}
+use Rattle.model.specs.declared.Refusal.{Refusal}
+use Rattle.model.specs.Refusals.{refusal_number}
+use Rattle.runner.specs.Steps.{Step, Flow, outcome_of, after, Flows}
 
 -- ---- stores and links
-
-pub store_negative : (v : List ℤ) (k x : ℤ) → lt_z k (pos 0) ≡ true → v ≡ store v k x
-store_negative v (pos n) x t = absurd (not-suc-le-zero (ltb-true n 0 t))
-store_negative v (negsuc n) x t = refl
-
-pub store_in : (v : List ℤ) (k x : ℤ) → lt_z k (pos 0) ≡ false → set v (nat_abs k) x ≡ store v k x
-store_in v (pos n) x t = refl
-store_in v (negsuc n) x t = absurd (subst T t tt)
-
-pub store_out : (v : List ℤ) (k x : ℤ) → lt_z k (pos 0) ≡ false → length v ≤ nat_abs k → v ≡ store v k x
-store_out v k x t h = sym (set_out v (nat_abs k) x h) ∙ store_in v k x t
 
 -- a number of 32 bits is 0 where its bits are
 pub bits_zero : (x : ℤ) → of_z w32 x ≡ 0 → SFits w32 x → is_zero x ≡ true
@@ -55,53 +39,48 @@ bits_nonzero (pos zero) e = absurd (e refl)
 bits_nonzero (pos (suc n)) e = ne_eqb (suc n) 0 (λ e. omega arith)
 bits_nonzero (negsuc n) e = refl
 
-pub link_none : (n : ℕ) → n ≡ 0 → (v : List ℤ) → follow (link_in n) v ≡ halt 14 v
-link_none zero e v = refl
-link_none (suc n) e v = absurd (omega arith)
-
-pub link_some : (n : ℕ) (w : BlockNo) → (n ≡ 0 → ⊥) → w ≡ record { 0 = n - 1 } → (v : List ℤ) → follow (link_in n) v ≡ next w.0 v
-link_some zero w e p v = absurd (e refl)
-link_some (suc n) w e p v = let z : n ≡ suc n - 1 = omega arith in ap (λ k. next k v) z ∙ ap (λ (x : BlockNo). next x.0 v) (sym p)
-
 -- ---- Set and If
 
 -- both operands, from what their evaluations answer
-both : (s : Save) (nx : Option ℕ) (v : List ℤ) (t e : Expr) (k : ℤ) (r r' : Value) → value_of r ≡ eval s v t → r ≡ Is k → value_of r' ≡ eval s v e
+both : (s : Save) (nx : Option ℕ) (v : List ℤ) (t e : Expr) (k : ℤ) (r r' : Result ℤ Refusal) → value_of r ≡ eval s v t → r ≡ Ok k → value_of r' ≡ eval s v e
     → (cs : List Command) → execute s nx (set_variable t e ∷ cs) v ≡ or_halt (value_of r') v (λ x. execute s nx cs (store v k x))
 both s nx v t e k r r' p q p' cs =
     let z : eval s v t ≡ ok k = sym p ∙ ap value_of q in
     ap (λ a. or_halt a v (λ j. or_halt (eval s v e) v (λ x. execute s nx cs (store v j x)))) z
     ∙ ap (λ a. or_halt a v (λ x. execute s nx cs (store v k x))) (sym p')
 
-tested : (s : Save) (nx : Option ℕ) (v : List ℤ) (t : Expr) (b : ℕ) (x : ℤ) (r : Value) → value_of r ≡ eval s v t → r ≡ Is x
+tested : (s : Save) (nx : Option ℕ) (v : List ℤ) (t : Expr) (b : ℕ) (x : ℤ) (r : Result ℤ Refusal) → value_of r ≡ eval s v t → r ≡ Ok x
     → (cs : List Command) → execute s nx (if_else t b ∷ cs) v ≡ cond (is_zero x) (next b v) (follow nx v)
 tested s nx v t b x r p q cs = let z : eval s v t ≡ ok x = sym p ∙ ap value_of q in ap (λ a. or_halt a v (λ y. cond (is_zero y) (next b v) (follow nx v))) z
 
-module _ {s : Save} {nx : Option ℕ} {v : List ℤ} {t : Expr} {r : Value} (p : value_of r ≡ eval s v t) where
-  pub target_stops : {e : Expr} {n : ℕ} → r ≡ Refused n → Flows s nx (set_variable t e) v (Out (Halt n)) v
-  target_stops {e} {n} q =
-      let z : eval s v t ≡ stop n = sym p ∙ ap value_of q in
-      record { is = λ cs. ap (λ a. or_halt a v (λ k. or_halt (eval s v e) v (λ x. execute s nx cs (store v k x)))) z }
+module _ {s : Save} {nx : Option ℕ} {v : List ℤ} {t : Expr} {r : Result ℤ Refusal} (p : value_of r ≡ eval s v t) where
+  pub target_stops : {e : Expr} {n : Refusal} {f : Flow} → r ≡ Err n → f ≡ Err n → Flows s nx (set_variable t e) v f v
+  target_stops {e} {n} q g =
+      let z : eval s v t ≡ stop (refusal_number n) = sym p ∙ ap value_of q in
+      rw g (record { is = λ cs. ap (λ a. or_halt a v (λ k. or_halt (eval s v e) v (λ x. execute s nx cs (store v k x)))) z })
 
-  module _ {e : Expr} {r' : Value} (p' : value_of r' ≡ eval s v e) {k : ℤ} (q : r ≡ Is k) where
-    pub value_stops : {n : ℕ} → r' ≡ Refused n → Flows s nx (set_variable t e) v (Out (Halt n)) v
-    value_stops {n} q' = record { is = λ cs. both s nx v t e k r r' p q p' cs ∙ ap (λ a. or_halt (value_of a) v (λ x. execute s nx cs (store v k x))) q' }
+  module _ {e : Expr} {r' : Result ℤ Refusal} (p' : value_of r' ≡ eval s v e) {k : ℤ} (q : r ≡ Ok k) where
+    pub value_stops : {n : Refusal} {f : Flow} → r' ≡ Err n → f ≡ Err n → Flows s nx (set_variable t e) v f v
+    value_stops {n} q' g = rw g (record { is = λ cs. both s nx v t e k r r' p q p' cs ∙ ap (λ a. or_halt (value_of a) v (λ x. execute s nx cs (store v k x))) q' })
 
-    pub value_stored : {x : ℤ} {v' : List ℤ} → r' ≡ Is x → v' ≡ store v k x → Flows s nx (set_variable t e) v On v'
-    value_stored {x} {v'} q' w =
+    pub value_stored : {x : ℤ} {v' : List ℤ} {u : Unit {0}} → r' ≡ Ok x → v' ≡ store v k x → Flows s nx (set_variable t e) v (Ok (Continue u)) v'
+    value_stored {x} {v'} {u} q' w =
         record { is = λ cs. both s nx v t e k r r' p q p' cs ∙ ap (λ a. or_halt (value_of a) v (λ y. execute s nx cs (store v k y))) q' ∙ ap (execute s nx cs) (sym w) }
 
-  pub if_stops : {b n : ℕ} → r ≡ Refused n → Flows s nx (if_else t b) v (Out (Halt n)) v
-  if_stops {b} {n} q =
-      let z : eval s v t ≡ stop n = sym p ∙ ap value_of q in
-      record { is = λ cs. ap (λ a. or_halt a v (λ x. cond (is_zero x) (next b v) (follow nx v))) z }
+  pub if_stops : {b : ℕ} {n : Refusal} {f : Flow} → r ≡ Err n → f ≡ Err n → Flows s nx (if_else t b) v f v
+  if_stops {b} {n} q g =
+      let z : eval s v t ≡ stop (refusal_number n) = sym p ∙ ap value_of q in
+      rw g (record { is = λ cs. ap (λ a. or_halt a v (λ x. cond (is_zero x) (next b v) (follow nx v))) z })
 
-  module _ {b : ℕ} {x : ℤ} (q : r ≡ Is x) where
-    pub if_zero_lem : is_zero x ≡ true → Flows s nx (if_else t b) v (Out (Next (record { 0 = b }))) v
+  module _ {b : ℕ} {x : ℤ} (q : r ≡ Ok x) where
+    pub if_zero_lem : is_zero x ≡ true → Flows s nx (if_else t b) v (Ok (Break (Some (record { 0 = b })))) v
     if_zero_lem z = record { is = λ cs. tested s nx v t b x r p q cs ∙ ap (λ a. cond a (next b v) (follow nx v)) z }
 
-    pub if_next : {o : Step} → is_zero x ≡ false → ((v : List ℤ) → follow nx v ≡ outcome_of o v) → Flows s nx (if_else t b) v (Out o) v
-    if_next {o} z f = record { is = λ cs. tested s nx v t b x r p q cs ∙ ap (λ a. cond a (next b v) (follow nx v)) z ∙ f v }
+    pub if_no_next : {o : Step} {n : Refusal} {g : Flow} → is_zero x ≡ false → ((v : List ℤ) → follow nx v ≡ outcome_of o v) → o ≡ Err n → g ≡ Err n → Flows s nx (if_else t b) v g v
+    if_no_next {o} z f h g = rw g (record { is = λ cs. tested s nx v t b x r p q cs ∙ ap (λ a. cond a (next b v) (follow nx v)) z ∙ f v ∙ ap (λ a. outcome_of a v) h })
+
+    pub if_next : {o : Step} {w : code.Option BlockNo} → is_zero x ≡ false → ((v : List ℤ) → follow nx v ≡ outcome_of o v) → o ≡ Ok w → Flows s nx (if_else t b) v (Ok (Break w)) v
+    if_next {o} {w} z f h = record { is = λ cs. tested s nx v t b x r p q cs ∙ ap (λ a. cond a (next b v) (follow nx v)) z ∙ f v ∙ ap (λ a. outcome_of a v) h }
 
 -- ---- a command by its code
 
@@ -157,8 +136,11 @@ pub flows_as : {s : Save} {nx : Option ℕ} {v v' : List ℤ} {r : Flow} (x y : 
 flows_as {s} {nx} {v} {v'} {r} x y e f = subst (λ z. Flows s nx z v r v') (sym e) f
 
 -- what leads out of the block at once
-pub flows_out : {s : Save} {nx : Option ℕ} {v : List ℤ} {x : Command} {r : Step} → ((cs : List Command) → execute s nx (x ∷ cs) v ≡ outcome_of r v) → Flows s nx x v (Out r) v
+pub flows_out : {s : Save} {nx : Option ℕ} {v : List ℤ} {x : Command} {w : code.Option BlockNo} → ((cs : List Command) → execute s nx (x ∷ cs) v ≡ outcome_of (Ok w) v) → Flows s nx x v (Ok (Break w)) v
 flows_out f = record { is = f }
+
+pub flows_halt : {s : Save} {nx : Option ℕ} {v : List ℤ} {x : Command} {n : Refusal} → ((cs : List Command) → execute s nx (x ∷ cs) v ≡ halt (refusal_number n) v) → Flows s nx x v (Err n) v
+flows_halt f = record { is = f }
 
 -- ---- the commands of a block
 
@@ -185,15 +167,18 @@ module _ (s : Save) (nx : Option ℕ) (ws : List ℕ) (vs : List ℤ) (cw : List
           ∙ ap (λ cs. execute s nx cs v) (next_command (coded_in ws vs cw n m) many first i h)
           ∙ (w n m).is (commands_in (coded_in ws vs cw n m) (many - (i + 1)) (first + (i + 1)))
 
-      pub one_passed : f ≡ On → Passed s nx ws vs cw first many v₀ v' (i + 1)
+      pub one_passed : {u : Unit {0}} → f ≡ Ok (Continue u) → Passed s nx ws vs cw first many v₀ v' (i + 1)
       one_passed e =
           record {
             low = omega arith;
             is = λ n m. moved n m ∙ ap (λ g. after s nx (commands_in (coded_in ws vs cw n m) (many - (i + 1)) (first + (i + 1))) g v') e;
           }
 
-      pub out_passed : {r : Step} → f ≡ Out r → (n m : ℕ) → outcome_of r v' ≡ execute s nx (commands_in (coded_in ws vs cw n m) many first) v₀
+      pub out_passed : {w : code.Option BlockNo} → f ≡ Ok (Break w) → (n m : ℕ) → outcome_of (Ok w) v' ≡ execute s nx (commands_in (coded_in ws vs cw n m) many first) v₀
       out_passed e n m = sym (moved n m ∙ ap (λ g. after s nx (commands_in (coded_in ws vs cw n m) (many - (i + 1)) (first + (i + 1))) g v') e)
+
+      pub halt_passed : {x : Refusal} {r : Step} → f ≡ Err x → r ≡ Err x → (n m : ℕ) → outcome_of r v' ≡ execute s nx (commands_in (coded_in ws vs cw n m) many first) v₀
+      halt_passed e g n m = ap (λ r. outcome_of r v') g ∙ sym (moved n m ∙ ap (λ g. after s nx (commands_in (coded_in ws vs cw n m) (many - (i + 1)) (first + (i + 1))) g v') e)
 
     pub all_passed : (r : Step) → many ≤ i → ((v : List ℤ) → follow nx v ≡ outcome_of r v) → (n m : ℕ) → outcome_of r v ≡ execute s nx (commands_in (coded_in ws vs cw n m) many first) v₀
     unfolding commands_in

@@ -1,4 +1,3 @@
 pub mod Laws
 pub mod Rest
 pub mod Checks
-mod Copy

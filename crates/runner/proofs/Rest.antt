@@ -13,11 +13,10 @@ use Rattle.model.specs.Script.{Command, return, goto, set_variable, set_other, i
 use Rattle.model.specs.Run.{Outcome, next, done, halt, follow, store, or_halt, execute, enter, step, step_by, Ran, one_more, run, run_by}
 use Rattle.expr.specs.Value.{reads, eval_rest}
 use Rattle.model.specs.declared.BlockNo.{BlockNo}
-use Rattle.runner.specs.Steps.{outcome_of}
-use Rattle.runner.specs.RunIn.{ran_of}
-use Rattle.runner.specs.declared.Ran as code
-use Rattle.runner.specs.declared.Step.{Step}
-use Rattle.runner.specs.declared.Step.TheVariants.{Next, Done, Halt}
+use Rattle.std.specs.Prelude.{None, Some, Ok, Err}
+use Rattle.model.specs.declared.Refusal.{Refusal}
+use Rattle.model.specs.Refusals.{refusal_number}
+use Rattle.runner.specs.Steps.{Step, outcome_of}
 
 -- ---- a block entered
 
@@ -83,10 +82,6 @@ module _ (s : Save) where
 abbrev pub plus : ℕ → Ran → Ran
 plus n r = record { answer = r.answer; variables = r.variables; entered = n + r.entered }
 
--- what the code answers is what it was made of
-pub answers : {r : code.Ran} {n k : ℕ} {v : List ℤ} {x : Ran} → r ≡ record { refusal = n; entered = k } → ◌≡◌ {A = Ran} (record { answer = n; variables = v; entered = k }) x → ran_of r v ≡ x
-answers {v = v} e p = ap (λ (y : code.Ran). ran_of y v) e ∙ p
-
 -- n blocks were entered, which led to block b and brought the variables from v₀ to v
 pub record Entered (bs : List Block) (s : Save) (budget b₀ : ℕ) (v₀ : List ℤ) (n b : ℕ) (v : List ℤ) : Type 0 where
   pub low : n ≤ budget
@@ -113,7 +108,7 @@ module _ (bs : List Block) (s : Save) (budget b₀ : ℕ) (v₀ : List ℤ) wher
       left : budget - n ≡ suc (budget - (n + 1))
       left = omega arith
 
-      pub one_entered : (r : Step) (w : BlockNo) (v' : List ℤ) → r ≡ Next w → outcome_of r v' ≡ step bs s b v → Entered bs s budget b₀ v₀ (n + 1) w.0 v'
+      pub one_entered : (r : Step) (w : BlockNo) (v' : List ℤ) → r ≡ Ok (Some w) → outcome_of r v' ≡ step bs s b v → Entered bs s budget b₀ v₀ (n + 1) w.0 v'
       one_entered r w v' q e =
           let b' = w.0 in
           let z : n + suc (run bs s (budget - (n + 1)) b' v').entered ≡ n + 1 + (run bs s (budget - (n + 1)) b' v').entered = omega arith in
@@ -125,8 +120,8 @@ module _ (bs : List Block) (s : Save) (budget b₀ : ℕ) (v₀ : List ℤ) wher
                 ∙ ap (λ k. record { answer = (run bs s (budget - (n + 1)) b' v').answer; variables = (run bs s (budget - (n + 1)) b' v').variables; entered = k }) z;
           }
 
-      pub done_entered : (r : Step) (v' : List ℤ) → r ≡ Done → outcome_of r v' ≡ step bs s b v → ◌≡◌ {A = Ran} (record { answer = 0; variables = v'; entered = n + 1 }) (run bs s budget b₀ v₀)
+      pub done_entered : (r : Step) (v' : List ℤ) → r ≡ Ok None → outcome_of r v' ≡ step bs s b v → ◌≡◌ {A = Ran} (record { answer = 0; variables = v'; entered = n + 1 }) (run bs s budget b₀ v₀)
       done_entered r v' q e = sym (p.is ∙ ap (λ k. plus n (run bs s k b v)) left ∙ ap (plus n) (run_done bs s (budget - (n + 1)) b v v' (sym e ∙ ap (λ o. outcome_of o v') q)))
 
-      pub halt_entered : (r : Step) (k : ℕ) (v' : List ℤ) → r ≡ Halt k → outcome_of r v' ≡ step bs s b v → ◌≡◌ {A = Ran} (record { answer = k; variables = v'; entered = n + 1 }) (run bs s budget b₀ v₀)
-      halt_entered r k v' q e = sym (p.is ∙ ap (λ j. plus n (run bs s j b v)) left ∙ ap (plus n) (run_halt bs s (budget - (n + 1)) b v k v' (sym e ∙ ap (λ o. outcome_of o v') q)))
+      pub halt_entered : (r : Step) (k : Refusal) (v' : List ℤ) → r ≡ Err k → outcome_of r v' ≡ step bs s b v → ◌≡◌ {A = Ran} (record { answer = refusal_number k; variables = v'; entered = n + 1 }) (run bs s budget b₀ v₀)
+      halt_entered r k v' q e = sym (p.is ∙ ap (λ j. plus n (run bs s j b v)) left ∙ ap (plus n) (run_halt bs s (budget - (n + 1)) b v (refusal_number k) v' (sym e ∙ ap (λ o. outcome_of o v') q)))

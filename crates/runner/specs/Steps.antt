@@ -1,34 +1,39 @@
 -- What the runner's steps answer, in the terms of the definitions, and what they want of the arrays. Assumes nothing: these are definitions.
-use Rattle.std.specs.Prelude.{◌≡◌, List, ◌∷◌, ℕ, ◌+◌, ◌*◌, ◌≤◌, ◌<◌, get_or, ℤ}
+use Rattle.std.specs.Prelude as code
+use Rattle.std.specs.Prelude.{◌≡◌, List, ◌∷◌, ℕ, ◌+◌, ◌*◌, ◌≤◌, ◌<◌, get_or, ℤ, None, Some, Result, Ok, Err}
+use Rattle.std.specs.declared.ops.ControlFlow.{ControlFlow}
+use Rattle.std.specs.declared.ops.ControlFlow.TheVariants.{Continue, Break}
 use Rattle.std.proofs.Math.Option.{Option}
 use Rattle.model.specs.Limits.{node_limit, command_limit, block_limit}
 use Rattle.model.specs.Save.{Save}
-use Rattle.model.specs.Expr.{Expr, Value, eval}
-use Rattle.model.specs.Script.{Command, set_variable}
+use Rattle.model.specs.Refusals.{refusal_number}
+use Rattle.model.specs.declared.BlockNo.{BlockNo}
+use Rattle.model.specs.declared.Refusal.{Refusal}
+use Rattle.model.specs.Script.{Command}
 use Rattle.model.specs.Run.{Outcome, next, done, halt, execute}
-use Rattle.runner.specs.declared.Step.{Step}
-use Rattle.runner.specs.declared.Step.TheVariants.{Next, Done, Halt}
-use Rattle.runner.specs.declared.Flow.{Flow}
-use Rattle.runner.specs.declared.Flow.TheVariants.{On, Out}
+
+-- where a block leads, and where a command does, as the code answers
+abbrev pub Step : Type 0
+Step = Result (code.Option BlockNo) Refusal
+
+abbrev pub Flow : Type 0
+Flow = Result (ControlFlow (code.Option BlockNo) Unit) Refusal
 
 -- the definition's outcome for each case, with the variables of that moment
 abbrev pub outcome_of : Step → List ℤ → Outcome
-outcome_of (Next k) v = next k.0 v
-outcome_of Done v = done v
-outcome_of (Halt n) v = halt n v
+outcome_of (Ok (Some k)) v = next k.0 v
+outcome_of (Ok None) v = done v
+outcome_of (Err e) v = halt (refusal_number e) v
 
 -- where a command leads that the commands cs follow
 abbrev pub after : Save → Option ℕ → List Command → Flow → List ℤ → Outcome
-after s nx cs On v = execute s nx cs v
-after s nx cs (Out r) v = outcome_of r v
+after s nx cs (Ok (Continue u)) v = execute s nx cs v
+after s nx cs (Ok (Break w)) v = outcome_of (Ok w) v
+after s nx cs (Err e) v = halt (refusal_number e) v
 
 -- command x brings the variables from v to v' and leads where r says
 pub record Flows (s : Save) (nx : Option ℕ) (x : Command) (v : List ℤ) (r : Flow) (v' : List ℤ) : Type 0 where
   pub is : (cs : List Command) → execute s nx (x ∷ cs) v ≡ after s nx cs r v'
-
--- a Set whose target and value are worth t and e
-abbrev pub Sets : Value → Value → List ℤ → Flow → List ℤ → Type 0
-Sets t e v r v' = (s : Save) (nx : Option ℕ) (a b : Expr) → t ≡ eval s v a → e ≡ eval s v b → Flows s nx (set_variable a b) v r v'
 
 -- ---- what the arrays have to hold, as those of a judged record do
 

@@ -7,49 +7,32 @@ ghost use Rattle.model.specs.Limits.{node_limit, variable_count};
 ghost use Rattle.model.specs.Script.{set_variable, if_else};
 ghost use Rattle.model.specs.Run.{execute, follow, step, store, run};
 ghost use Rattle.model.specs.Memory.{nodes_in, coded_in, tree, command_in, commands_in, link_in, script_of};
-ghost use Rattle.expr.specs.Value.{value_of, reads};
+ghost use Rattle.expr.specs.Value.{reads};
 ghost use Rattle.shop.specs.Shapes.{sheet_of};
-ghost use Rattle.runner.specs.Steps.{outcome_of, Flows, Sets, Readable, Readables, Ready};
+ghost use Rattle.runner.specs.Steps.{outcome_of, Flows, Readable, Readables, Ready};
 ghost use Rattle.model.specs.RecordCalls.{run_in};
 ghost use Rattle.memory.specs.View.{memory_of};
 ghost use Rattle.checks.specs.Calls.{save_of};
 ghost use Rattle.runner.specs.RunIn.{ran_of};
 
 use checks::{check_call, check_save};
-use expr::{Value, evaluate};
+use expr::evaluate;
 use memory::{BlockWords, CommandWords, Counts, NodeWords, Values};
-use model::{BlockNo, Link, VARIABLES, Variables};
+use model::{BlockNo, Link, Refusal, VARIABLES, Variables};
 use shop::Sheet;
+use std::ops::ControlFlow;
 
-// Where a block leads: to a block, to Return, to a refusal.
-#[derive(Clone, Copy)]
-enum Step {
-    Next(BlockNo),
-    Done,
-    Halt(u8),
-}
+// Where a block leads: to a block, to Return, or to a refusal.
+type Step = Result<Option<BlockNo>, Refusal>;
 
 // Where a command leads: to the command after it, or out of the block.
-#[derive(Clone, Copy)]
-enum Flow {
-    On,
-    Out(Step),
-}
+type Flow = Result<ControlFlow<Option<BlockNo>>, Refusal>;
 
-// The refusal or 0, and the count of blocks entered.
-#[derive(Clone, Copy)]
+// How a run ended, and the count of blocks entered.
+#[derive(Clone, Copy, Debug, PartialEq, Eq)]
 pub struct Ran {
-    pub refusal: u8,
+    pub outcome: Result<(), Refusal>,
     pub entered: u32,
-}
-
-fn ended(refusal: u8, entered: u32) -> Ran
-    ensures { result ≡ record { refusal = refusal; entered = entered } }
-{
-    Ran {
-        refusal: refusal,
-        entered: entered,
-    }
 }
 
 // ---- commands
@@ -58,47 +41,21 @@ fn ended(refusal: u8, entered: u32) -> Ran
 fn store_at(vars: &mut [i32], k: i32, x: i32)
     ensures { vars.new ≡ store vars.old k x }
 {
-    if k < 0 {
+    let Ok(i) = usize::try_from(k) else {
         return;
-    }
-    let i = k as usize;
+    };
     if i < vars.len() {
         vars[i] = x;
     }
 }
 
-// The block that a word names.
-fn block_no(word: u16) -> BlockNo
-    ensures { result ≡ record { 0 = word } }
-{
-    BlockNo(word as u32)
-}
-
 fn follow_link(link: Link) -> Step
     ensures { (v : List ℤ) → follow (link_in link.0) v ≡ outcome_of result v }
 {
-    let word = link.0;
-    if word == 0 {
-        return Step::Halt(14);
+    if link.0 == 0 {
+        return Err(Refusal::NoNext);
     }
-    Step::Next(block_no(word - 1))
-}
-
-// The write of a Set whose target and value are worth t and e, the target's refusal first. Both are matched here: matched
-// where they were evaluated they would be copied once more.
-fn store_value(vars: &mut Variables, t: Value, e: Value) -> Flow
-    ensures { Sets (value_of t) (value_of e) vars.old result vars.new }
-{
-    match t {
-        Value::Is(k) => match e {
-            Value::Is(x) => {
-                store_at(vars, k, x);
-                Flow::On
-            }
-            Value::Refused(n) => Flow::Out(Step::Halt(n)),
-        },
-        Value::Refused(n) => Flow::Out(Step::Halt(n)),
-    }
+    Ok(Some(BlockNo(u32::from(link.0 - 1))))
 }
 
 // Set evaluates target, then value, then writes.
@@ -117,9 +74,10 @@ fn set_variable(
     requires value_lt_node_limit { value < node_limit }
     ensures { (n : ℕ) (nx : Option ℕ) → Flows (reads items.now atcs.now flags.now times.now) nx (set_variable (tree (nodes_in ws.now val.now n) target) (tree (nodes_in ws.now val.now n) value)) vars.old result vars.new }
 {
-    let t = evaluate(ws, val, target + 1, target, items, atcs, flags, times, vars);
-    let e = evaluate(ws, val, value + 1, value, items, atcs, flags, times, vars);
-    store_value(vars, t, e)
+    let k = evaluate(ws, val, target + 1, target, items, atcs, flags, times, vars)?;
+    let x = evaluate(ws, val, value + 1, value, items, atcs, flags, times, vars)?;
+    store_at(vars, k, x);
+    Ok(ControlFlow::Continue(()))
 }
 
 // If nonzero takes next, else its else target.
@@ -138,16 +96,10 @@ fn if_else(
     requires { test < node_limit }
     ensures { (n : ℕ) → Flows (reads items.now atcs.now flags.now times.now) (link_in link.0) (if_else (tree (nodes_in ws.now val.now n) test) other.0) vars.now result vars.now }
 {
-    let t = evaluate(ws, val, test + 1, test, items, atcs, flags, times, vars);
-    match t {
-        Value::Is(x) => {
-            if x == 0 {
-                return Flow::Out(Step::Next(other));
-            }
-            Flow::Out(follow_link(link))
-        }
-        Value::Refused(n) => Flow::Out(Step::Halt(n)),
+    if evaluate(ws, val, test + 1, test, items, atcs, flags, times, vars)? == 0 {
+        return Ok(ControlFlow::Break(Some(other)));
     }
+    Ok(ControlFlow::Break(follow_link(link)?))
 }
 
 // One command of a block whose next is link.
@@ -166,24 +118,21 @@ fn command(
     requires { Readable cw.now c }
     ensures { (n m : ℕ) → Flows (reads items.now atcs.now flags.now times.now) (link_in link.0) (command_in (coded_in ws.now val.now cw.now n m) c) vars.old result vars.new }
 {
-    let at = c as usize;
-    let kind = cw[4 * at];
-    let first = cw[4 * at + 1];
-    let second = cw[4 * at + 2];
-    let block = cw[4 * at + 3];
-    let to = block_no(block);
-    match kind {
-        0 => Flow::Out(Step::Done),
-        1 => Flow::Out(Step::Next(to)),
+    let at = 4 * usize::from(c);
+    let first = cw[at + 1];
+    let block = cw[at + 3];
+    let to = BlockNo(u32::from(block));
+    match cw[at] {
+        0 => Ok(ControlFlow::Break(None)),
+        1 | 4 => Ok(ControlFlow::Break(Some(to))),
         2 => {
             if block != 0 {
-                return Flow::Out(Step::Halt(13));
+                return Err(Refusal::MetOther);
             }
-            set_variable(ws, val, first, second, items, atcs, flags, times, vars)
+            set_variable(ws, val, first, cw[at + 2], items, atcs, flags, times, vars)
         }
         3 => if_else(ws, val, first, to, link, items, atcs, flags, times, vars),
-        4 => Flow::Out(Step::Next(to)),
-        _ => Flow::Out(Step::Halt(13)),
+        _ => Err(Refusal::MetOther),
     }
 }
 
@@ -206,17 +155,10 @@ fn execute_block(
     requires { Readables cw.now first many }
     ensures { (n m : ℕ) → outcome_of result vars.new ≡ execute (reads items.now atcs.now flags.now times.now) (link_in link.0) (commands_in (coded_in ws.now val.now cw.now n m) many first) vars.old }
 {
-    let mut i = 0;
-    while i < many {
-        let c = first + i;
-        let f = command(ws, val, cw, c, link, items, atcs, flags, times, vars);
-        match f {
-            Flow::On => {
-                i += 1;
-            }
-            Flow::Out(s) => {
-                return s;
-            }
+    for c in first..first + many {
+        let flow = command(ws, val, cw, c, link, items, atcs, flags, times, vars)?;
+        if let ControlFlow::Break(way) = flow {
+            return Ok(way);
         }
     }
     follow_link(link)
@@ -239,19 +181,27 @@ fn step_block(
     requires { Ready cw.now bw.now counts.blocks }
     ensures { outcome_of result vars.new ≡ step (script_of (memory_of ws.now val.now cw.now bw.now counts)).blocks (reads items.now atcs.now flags.now times.now) b.0 vars.old }
 {
-    let n = b.0;
-    if n >= counts.blocks as u32 {
-        return Step::Halt(13);
+    if b.0 >= u32::from(counts.blocks) {
+        return Err(Refusal::MetOther);
     }
-    let at = n as usize;
-    let kind = bw[5 * at];
-    if kind != 1 {
-        return Step::Halt(13);
+    let at = 5 * b.0 as usize;
+    if bw[at] != 1 {
+        return Err(Refusal::MetOther);
     }
-    let c = bw[5 * at + 1];
-    let many = bw[5 * at + 2];
-    let link = Link(bw[5 * at + 3]);
-    execute_block(ws, val, cw, c, many, link, items, atcs, flags, times, vars)
+    let link = Link(bw[at + 3]);
+    execute_block(
+        ws,
+        val,
+        cw,
+        bw[at + 1],
+        bw[at + 2],
+        link,
+        items,
+        atcs,
+        flags,
+        times,
+        vars,
+    )
 }
 
 // Block after block. Entering one of any kind costs 1, counts 1 and needs budget left.
@@ -273,46 +223,27 @@ fn run_blocks(
     ensures { ran_of result vars.new ≡ run (script_of (memory_of ws.now val.now cw.now bw.now counts)).blocks (reads items.now atcs.now flags.now times.now) budget start.0 vars.old }
 {
     let mut b = start;
-    let mut entered = 0;
-    while entered < budget {
-        let s = step_block(ws, val, cw, bw, counts, b, items, atcs, flags, times, vars);
-        entered += 1;
-        match s {
-            Step::Next(k) => {
-                b = k;
-            }
-            Step::Done => {
-                return ended(0, entered);
-            }
-            Step::Halt(r) => {
-                return ended(r, entered);
-            }
+    for before in 0..budget {
+        let entered = before + 1;
+        match step_block(ws, val, cw, bw, counts, b, items, atcs, flags, times, vars) {
+            Ok(Some(next)) => b = next,
+            Ok(None) => return Ran {
+                outcome: Ok(()),
+                entered,
+            },
+            Err(refusal) => return Ran {
+                outcome: Err(refusal),
+                entered,
+            },
         }
     }
-    ended(15, entered)
+    Ran {
+        outcome: Err(Refusal::BudgetSpent),
+        entered: budget,
+    }
 }
 
 // ---- the call
-
-// Copies a list over another that is as long.
-fn copy_numbers(from: &[i32], to: &mut [i32])
-    requires { length from.now ≡ length to.old }
-    ensures { to.new ≡ from.now }
-{
-    let mut i = 0;
-    while i < from.len() {
-        to[i] = from[i];
-        i += 1;
-    }
-}
-
-// An array lent to a call has its length in its type, which of a local is forgotten once it was written to.
-fn write_back(held: &Variables, vars: &mut [i32])
-    requires { length vars.old ≡ variable_count }
-    ensures { vars.new ≡ held.now }
-{
-    copy_numbers(held, vars);
-}
 
 // The blocks from start on, of a record whose checks passed. They work on an array: checked once, its length is in its type
 // for every read and write after.
@@ -335,11 +266,11 @@ pub fn run_copied(
     ensures { ran_of result vars.new ≡ run (script_of (memory_of ws.now val.now cw.now bw.now counts)).blocks (reads items.now atcs.now flags.now times.now) budget start.0 vars.old }
 {
     let mut held = [0; VARIABLES];
-    copy_numbers(vars, &mut held);
+    held.copy_from_slice(vars);
     let ran = run_blocks(
         ws, val, cw, bw, counts, start, items, atcs, flags, times, &mut held, budget,
     );
-    write_back(&held, vars);
+    vars.copy_from_slice(&held);
     ran
 }
 
@@ -362,11 +293,19 @@ pub fn run(
 ) -> Ran
     ensures { ran_of result vars.new ≡ run_in (sheet_of attached.now sheet) (memory_of ws.now val.now cw.now bw.now counts) start.0 (save_of items.now atcs.now flags.now times.now vars.old) budget }
 {
-    let refused = check_call(attached, sheet, ws, val, cw, bw, counts, start);
-    if refused == 0 && check_save(attached, sheet, items, atcs, flags, times, vars) {
-        return run_copied(
-            ws, val, cw, bw, counts, start, items, atcs, flags, times, vars, budget,
-        );
+    if let Err(refusal) = check_call(attached, sheet, ws, val, cw, bw, counts, start) {
+        return Ran {
+            outcome: Err(refusal),
+            entered: 0,
+        };
     }
-    ended(if refused == 0 { 12 } else { refused }, 0)
+    if !check_save(attached, sheet, items, atcs, flags, times, vars) {
+        return Ran {
+            outcome: Err(Refusal::BadSave),
+            entered: 0,
+        };
+    }
+    run_copied(
+        ws, val, cw, bw, counts, start, items, atcs, flags, times, vars, budget,
+    )
 }
