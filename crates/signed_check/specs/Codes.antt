@@ -22,10 +22,6 @@ concerns_code v a cs c = cond (eqb v 3) (not (req_inside (requirement_of c))) (c
 unfoldable pub place_code : ℕ → ℕ → List ℕ → Option ℕ
 place_code v a cs = first_place (concerns_code v a cs) cs
 
-abbrev pub place_or : ℕ → Option ℕ → ℕ
-place_or n none = n
-place_or n (some i) = i
-
 unfoldable pub verdict_code : Bool → ℕ → List ℕ → Verdict
 verdict_code one a cs = or_else (place_code 3 a cs) outside (or_else (place_code 1 a cs) pair (or_else (cond one (place_code 2 a cs) none) own faithful))
 
@@ -114,53 +110,37 @@ module _ (p : ℕ → Bool) (cs : List ℕ) where
       by j d m (yes s) = rw s (ap p (any_default cs i d 0 l) ∙ e)
       by j d m (no s) = q.none_before j d (omega arith)
 
-  pub passed_found : (n i : ℕ) → Passed p cs i → i < length cs → p (get_or cs i 0) ≡ true → i ≡ place_or n (first_place p cs)
-  passed_found n i q l e = ap (place_or n) (sym (first_place_lem p cs i (record { low = l; is = λ d. ap p (any_default cs i d 0 l) ∙ e; none_before = q.none_before })))
+  pub passed_found : (i : ℕ) → Passed p cs i → i < length cs → p (get_or cs i 0) ≡ true → some i ≡ first_place p cs
+  passed_found i q l e = sym (first_place_lem p cs i (record { low = l; is = λ d. ap p (any_default cs i d 0 l) ∙ e; none_before = q.none_before }))
 
-  pub passed_none : (n i : ℕ) → Passed p cs i → length cs ≤ i → n ≡ place_or n (first_place p cs)
-  passed_none n i q l = by (first_place p cs) (place_first p cs)
+  pub passed_none : (i : ℕ) → Passed p cs i → length cs ≤ i → none ≡ first_place p cs
+  passed_none i q l = by (first_place p cs) (place_first p cs)
     where
-      by : (o : Option ℕ) → ((j : ℕ) → o ≡ some j → First p cs j) → n ≡ place_or n o
+      by : (o : Option ℕ) → ((j : ℕ) → o ≡ some j → First p cs j) → none ≡ o
       by none f = refl
       by (some j) f = let g = f j refl in absurd (true≢false (sym (g.is 0) ∙ q.none_before j 0 (omega (arith, g.low))))
 
--- ---- the verdict by the places found, n being how many codes there are
+-- ---- the verdict by the places found
 
-module _ (one : Bool) (a : ℕ) (cs : List ℕ) (n : ℕ) (long : length cs ≡ n) where
-  place_at : (v r : ℕ) → r ≡ place_or n (place_code v a cs) → r < n → place_code v a cs ≡ some r
-  unfolding place_code
-  place_at v r e l = by (first_place (concerns_code v a cs) cs) e
-    where
-      by : (o : Option ℕ) → r ≡ place_or n o → o ≡ some r
-      by none e = absurd (omega arith)
-      by (some i) e = ap some (sym e)
-
-  place_past : (v r : ℕ) → r ≡ place_or n (place_code v a cs) → n ≤ r → place_code v a cs ≡ none
-  unfolding place_code
-  place_past v r e l = by (first_place (concerns_code v a cs) cs) (place_first (concerns_code v a cs) cs) e
-    where
-      by : (o : Option ℕ) → ((j : ℕ) → o ≡ some j → First (concerns_code v a cs) cs j) → r ≡ place_or n o → o ≡ none
-      by none f e = refl
-      by (some i) f e = absurd (omega (arith, (f i refl).low))
-
-  pub verdict_outside : (r : ℕ) → r ≡ place_or n (place_code 3 a cs) → r < n → outside r ≡ verdict_code one a cs
+module _ (one : Bool) (a : ℕ) (cs : List ℕ) where
+  pub verdict_outside : (i : ℕ) → some i ≡ place_code 3 a cs → outside i ≡ verdict_code one a cs
   unfolding verdict_code
-  verdict_outside r e l = rw (place_at 3 r e l)
+  verdict_outside i e = rw (← e)
 
-  module _ (q : ℕ) (qe : q ≡ place_or n (place_code 3 a cs)) (ql : n ≤ q) where
-    pub verdict_pair : (r : ℕ) → r ≡ place_or n (place_code 1 a cs) → r < n → pair r ≡ verdict_code one a cs
+  module _ (q : none ≡ place_code 3 a cs) where
+    pub verdict_pair : (i : ℕ) → some i ≡ place_code 1 a cs → pair i ≡ verdict_code one a cs
     unfolding verdict_code
-    verdict_pair r e l = rw (place_past 3 q qe ql, place_at 1 r e l)
+    verdict_pair i e = rw (← q, ← e)
 
-    module _ (p : ℕ) (pe : p ≡ place_or n (place_code 1 a cs)) (pl : n ≤ p) where
-      pub verdict_own : one ≡ true → (r : ℕ) → r ≡ place_or n (place_code 2 a cs) → r < n → own r ≡ verdict_code one a cs
+    module _ (p : none ≡ place_code 1 a cs) where
+      pub verdict_own : one ≡ true → (i : ℕ) → some i ≡ place_code 2 a cs → own i ≡ verdict_code one a cs
       unfolding verdict_code
-      verdict_own o r e l = rw (place_past 3 q qe ql, place_past 1 p pe pl, o, place_at 2 r e l)
+      verdict_own o i e = rw (← q, ← p, o, ← e)
 
-      pub verdict_own_none : one ≡ true → (r : ℕ) → r ≡ place_or n (place_code 2 a cs) → n ≤ r → faithful ≡ verdict_code one a cs
+      pub verdict_own_none : one ≡ true → none ≡ place_code 2 a cs → faithful ≡ verdict_code one a cs
       unfolding verdict_code
-      verdict_own_none o r e l = rw (place_past 3 q qe ql, place_past 1 p pe pl, o, place_past 2 r e l)
+      verdict_own_none o e = rw (← q, ← p, o, ← e)
 
       pub verdict_any : one ≡ false → faithful ≡ verdict_code one a cs
       unfolding verdict_code
-      verdict_any o = rw (place_past 3 q qe ql, place_past 1 p pe pl, o)
+      verdict_any o = rw (← q, ← p, o)

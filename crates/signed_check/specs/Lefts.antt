@@ -4,8 +4,7 @@ use Rattle.std.proofs.Common.{sym, ◌∙◌, append_assoc, append-nil, add-one,
 use Rattle.std.proofs.Math.Path.{ap}
 use Rattle.std.proofs.lemmas.List.{set_at}
 use Rattle.model.specs.Limits.{entry_limit}
-use Rattle.shop.specs.Sets.{reqs_in, reqs_of}
-use Rattle.shop.specs.declared.Reqs.{Reqs}
+use Rattle.shop.specs.Sets.{Reqs, reqs_in, reqs_of}
 use Rattle.settings_model.specs.Closed.{bit}
 use Rattle.signed_check.specs.Codes.{pick}
 

@@ -1,5 +1,5 @@
 -- What is found on the codes of a slot that passed 1 and 8 is what is told of it. Assumes nothing.
-use Rattle.std.specs.Prelude.{◌≡◌, refl, Bool, cond, ◌&&◌, List, [], ◌∷◌, map, ℕ, ◌-◌, ◌≤◌, leb, length, take, replicate}
+use Rattle.std.specs.Prelude.{◌≡◌, refl, Bool, cond, ◌&&◌, List, [], ◌∷◌, map, ℕ, ◌-◌, ◌≤◌, leb, length, take, replicate, Some, None}
 use Rattle.std.proofs.Math.Path.{sym, ap}
 use Rattle.std.proofs.Common.{◌∙◌, true≢false, arith}
 use Rattle.std.proofs.Math.Bool.{true, false, not, not-not}
@@ -20,25 +20,22 @@ use Rattle.shop_codes.specs.Codes.{AllNarrow, Narrow, code_of, is_missing, requi
 use Rattle.shop_codes.specs.Laws.{code_stands, same_code}
 use Rattle.shop_codes.specs.Subjects.{negate_narrow}
 use Rattle.shop.specs.Shapes.{entries, slot_of}
-use Rattle.shop.specs.Sets.{held, reqs_in, reqs_of, sorted_reqs}
+use Rattle.shop.specs.Sets.{Reqs, held, reqs_in, reqs_of, sorted_reqs}
 use Rattle.shop.specs.SetLaws.{held_set}
 use Rattle.shop.specs.Codes.{sorted_narrow}
 use Rattle.shop.specs.Slots.{entries_length, slot_narrow}
 use Rattle.shop.specs.declared.Slot.{Slot}
-use Rattle.shop.specs.declared.SlotItem.TheVariants.{Nothing, Of}
-use Rattle.shop.specs.declared.Reqs.{Reqs}
+use Rattle.settings_model.specs.Settings as Counted
 use Rattle.settings_model.specs.Settings.{hidden_count, listed_count, settings_call}
 use Rattle.settings_model.proofs.Closed.{none_listed}
 use Rattle.settings.specs.Codes.{codes_are, lacks_is, negated_code_lem, own_narrow}
-use Rattle.settings.specs.Answer.{settings_of, item_none, item_some}
+use Rattle.settings.specs.Answer.{accepted_as, item_none, item_some}
 use Rattle.settings.specs.declared.Settings.{Settings}
 use Rattle.signed_model.specs.Findings as Told
 use Rattle.signed_model.specs.Findings.{faithful, pair, own, outside, doubled, finding, first_place, limit_for, listed_as, settings_for, verdict, verdict_filled}
 use Rattle.signed_model.proofs.Rule.{left_of, normal_left}
 use Rattle.signed_check.specs.Codes.{concerns_code, left_code, pick, place_code, shown_code, verdict_code}
-use Rattle.signed_check.specs.Answer.{finding_of, verdict_of}
-use Rattle.signed_check.specs.declared.Finding.{Finding}
-use Rattle.signed_check.specs.declared.Verdict.{Verdict}
+use Rattle.signed_check.specs.Answer.{Finding, finding_of, verdict_of}
 
 -- ---- tests of codes and of requirements
 
@@ -171,7 +168,7 @@ shown_is_lem (outside i) qs = refl
 
 -- ---- without an item
 
-pub none_told : (x : Slot) (n : ℕ) → x.item ≡ Nothing → n ≡ length (sorted (slot_of x).requirements) → (h : Model.Sheet)
+pub none_told : (x : Slot) (n : ℕ) → x.item ≡ None → n ≡ length (sorted (slot_of x).requirements) → (h : Model.Sheet)
     → record { verdict = 0; entry = 0; limit = 0; doubled = x.len - n; lost = x.len; listed = 1; settings = 0; codes = replicate entry_limit 0 } ≡ finding_of (finding h (slot_of x))
 unfolding finding_of finding verdict reqs_of
 none_told x n e s h =
@@ -184,11 +181,11 @@ made : {v v' e e' l l' d d' z z' t t' m m' : ℕ} {cs cs' : List ℕ} → v ≡ 
 made q r s t u v w x = rw (q, r, s, t, u, v, w, x)
 
 counted_is : (h : Model.Sheet) → sheet_ok h ≡ true → (x : Slot) → slot_ok h (slot_of x) ≡ true
-    → listed_as (settings_of (settings_call h (slot_of x))).listed (settings_of (settings_call h (slot_of x))).hidden ≡ listed_as (listed_count h (slot_of x)) (hidden_count h (slot_of x))
-unfolding settings_of settings_call
+    → listed_as (settings_call h (slot_of x)).listed (settings_call h (slot_of x)).hidden ≡ listed_as (listed_count h (slot_of x)) (hidden_count h (slot_of x))
+unfolding settings_call
 counted_is h ok x good = rw (ok, good)
 
-module _ (h : Model.Sheet) (ok : sheet_ok h ≡ true) (x : Slot) (good : slot_ok h (slot_of x) ≡ true) (w : ItemId) (e : x.item ≡ Of w) (one : Bool) (l : leb (limit_of h w.0 x.limit) 1 ≡ one)
+module _ (h : Model.Sheet) (ok : sheet_ok h ≡ true) (x : Slot) (good : slot_ok h (slot_of x) ≡ true) (w : ItemId) (e : x.item ≡ Some w) (one : Bool) (l : leb (limit_of h w.0 x.limit) 1 ≡ one)
     (mine : ℕ) (o : mine ≡ code_of (acquired_of h w.0)) where
   abbrev low : Narrow (acquired_of h w.0)
   low = own_narrow h ok x good w e
@@ -205,26 +202,26 @@ module _ (h : Model.Sheet) (ok : sheet_ok h ≡ true) (x : Slot) (good : slot_ok
 
   -- v the verdict, n the length of the set, m codes found, r what was counted
   pub filled_told : (long : length x.requirements ≡ entry_limit) (row : List ℕ) (n : ℕ) → reqs_in row n ≡ sorted_reqs x
-      → (v : Verdict) → v ≡ verdict_of (verdict_code one mine (take x.len x.requirements))
-      → (codes : List ℕ) (m : ℕ) → reqs_in codes m ≡ reqs_of (shown_code v.verdict (pick (left_code one mine (take n row)) (take n row)))
-      → (r : Settings) → r ≡ settings_of (settings_call h (slot_of x)) → (t : ℕ) → t ≡ listed_as r.listed r.hidden → (limit : ℕ) → limit ≡ limit_of h w.0 x.limit
-      → record { verdict = v.verdict; entry = v.entry; limit = limit; doubled = x.len - n; lost = 0; listed = t; settings = m; codes = codes } ≡ finding_of (finding h (slot_of x))
+      → (v : Told.Verdict) → v ≡ verdict_code one mine (take x.len x.requirements)
+      → (codes : List ℕ) (m : ℕ) → reqs_in codes m ≡ reqs_of (shown_code (verdict_of v).verdict (pick (left_code one mine (take n row)) (take n row)))
+      → (r : Settings) → accepted_as r ≡ settings_call h (slot_of x) → (t : ℕ) → t ≡ listed_as r.listed r.hidden → (limit : ℕ) → limit ≡ limit_of h w.0 x.limit
+      → record { verdict = (verdict_of v).verdict; entry = (verdict_of v).entry; limit = limit; doubled = x.len - n; lost = 0; listed = t; settings = m; codes = codes } ≡ finding_of (finding h (slot_of x))
   unfolding finding_of finding reqs_of
   filled_told long row n s v ve codes m ce r re t te limit le =
-      made (ap (λ (k : Verdict). k.verdict) told) (ap (λ (k : Verdict). k.entry) told) (le ∙ limit_told) (rw (given_is x, ← set_long x row n s)) (rw (item_some x w e)) (te ∙ ap (λ (k : Settings). listed_as k.listed k.hidden) re ∙ counted)
+      made (ap (λ (k : Told.Verdict). (verdict_of k).verdict) told) (ap (λ (k : Told.Verdict). (verdict_of k).entry) told) (le ∙ limit_told) (rw (given_is x, ← set_long x row n s)) (rw (item_some x w e)) (te ∙ ap (λ (k : Counted.Settings). listed_as k.listed k.hidden) re ∙ counted)
       (ap (λ (q : Reqs). q.len) shown ∙ length-map (settings_for (verdict h (slot_of x)) (normal h (slot_of x)).requirements) code_of) (ap (λ (q : Reqs). q.codes) shown)
     where
-      told : v ≡ verdict_of (verdict h (slot_of x))
-      told = ve ∙ ap verdict_of (verdict_slot long)
+      told : v ≡ verdict h (slot_of x)
+      told = ve ∙ verdict_slot long
 
       limit_told : limit_of h w.0 x.limit ≡ limit_for h (slot_of x).item (slot_of x).limit
       limit_told = rw (item_some x w e, limit_is x)
 
-      counted : listed_as (settings_of (settings_call h (slot_of x))).listed (settings_of (settings_call h (slot_of x))).hidden ≡ listed_as (listed_count h (slot_of x)) (hidden_count h (slot_of x))
+      counted : listed_as (settings_call h (slot_of x)).listed (settings_call h (slot_of x)).hidden ≡ listed_as (listed_count h (slot_of x)) (hidden_count h (slot_of x))
       counted = counted_is h ok x good
 
       shown : reqs_in codes m ≡ reqs_of (map code_of (settings_for (verdict h (slot_of x)) (normal h (slot_of x)).requirements))
       shown =
-          ce ∙ ap reqs_of (ap (shown_code v.verdict) (left_slot row n s)
-          ∙ ap (λ (k : Verdict). shown_code k.verdict (map code_of (keep is_have (normal h (slot_of x)).requirements))) told
+          ce ∙ ap reqs_of (ap (shown_code (verdict_of v).verdict) (left_slot row n s)
+          ∙ ap (λ (k : Told.Verdict). shown_code (verdict_of k).verdict (map code_of (keep is_have (normal h (slot_of x)).requirements))) told
           ∙ shown_is_lem (verdict h (slot_of x)) (normal h (slot_of x)).requirements)
