@@ -16,7 +16,7 @@ ghost use Rattle.image_write.specs.Lengths.{most_bytes};
 use image_numbers::{write_short, write_value};
 use judge_plain::is_plain;
 use judge_record::judge_record;
-use memory::{BlockWords, CommandWords, Counts, NodeWords, Values, index_of, kind_of};
+use memory::{BlockWords, CommandWords, Counts, NodeWords, Values, kind_of};
 use model::{Kind, Refusal};
 
 // ---- expressions
@@ -30,8 +30,7 @@ fn write_expr(ws: &NodeWords, val: &Values, i: u16, out: &mut [u8], at: usize) -
     let j = i as usize;
     let c = ws[3 * j];
     let p = write_short(out, at, c);
-    let k = kind_of(c);
-    match k {
+    match kind_of(c) {
         Kind::Two(_) => {
             let q = write_operand(ws, val, i, ws[3 * j + 1], out, p);
             write_operand(ws, val, i, ws[3 * j + 2], out, q)
@@ -53,8 +52,7 @@ fn write_operand(ws: &NodeWords, val: &Values, b: u16, i: u16, out: &mut [u8], a
         return write_short(out, at, 19);
     }
     let j = i as usize;
-    let c = ws[3 * j];
-    if c == 11 {
+    if ws[3 * j] == 11 {
         let p = write_short(out, at, 11);
         return write_value(out, p, val[j]);
     }
@@ -153,8 +151,7 @@ fn write_command(
     requires { KeptBy counts × Room out.old at (command_image_in (coded_of ws.now val.now cw.now counts) i) }
     ensures { Stored out.old at (command_image_in (coded_of ws.now val.now cw.now counts) i) out.new result }
 {
-    let there = index_of(counts.commands);
-    if i >= there {
+    if i >= usize::from(counts.commands) {
         return write_short(out, at, 6);
     }
     let k = cw[4 * i];
@@ -176,13 +173,9 @@ fn write_commands(
     requires { KeptBy counts × Room out.old at (commands_image_in (coded_of ws.now val.now cw.now counts) held first) }
     ensures { Stored out.old at (commands_image_in (coded_of ws.now val.now cw.now counts) held first) out.new result }
 {
-    let f = index_of(first);
-    let count = index_of(held);
     let mut p = at;
-    let mut i: usize = 0;
-    while i < count {
-        p = write_command(ws, val, cw, counts, f + i, out, p);
-        i += 1;
+    for i in 0..usize::from(held) {
+        p = write_command(ws, val, cw, counts, usize::from(first) + i, out, p);
     }
     p
 }
@@ -245,12 +238,9 @@ fn write_blocks(
     requires { KeptBy counts × Room out.old at (blocks_image_in (memory_of ws.now val.now cw.now bw.now counts) counts.blocks 0) }
     ensures { Stored out.old at (blocks_image_in (memory_of ws.now val.now cw.now bw.now counts) counts.blocks 0) out.new result }
 {
-    let end = index_of(counts.blocks);
     let mut p = at;
-    let mut i: usize = 0;
-    while i < end {
+    for i in 0..usize::from(counts.blocks) {
         p = write_block(ws, val, cw, bw, counts, i, out, p);
-        i += 1;
     }
     p
 }
