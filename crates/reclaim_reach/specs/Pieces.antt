@@ -204,9 +204,6 @@ module _ (rs : List ℕ) (q₀ q : Queue) (i : ℕ) (g : Going q₀ rs q (drop i
   roots_next : i < length rs → drop i rs ≡ with_link (some (get_or rs i 0)) (drop (i + 1) rs)
   roots_next l = rw (add-one i) (drop-cons rs i 0 l)
 
-  pub roots_ask : i < length rs → get_or rs i 0 < block_limit
-  roots_ask l = go_low (some (get_or rs i 0)) (drop (i + 1) rs) (roots_next l) g
-
   pub roots_step : i < length rs → (k : ℕ) → k ≡ get_or rs i 0 → (r : Queue) → Marking q (k ∷ []) r → Going q₀ rs r (drop (i + 1) rs)
   roots_step l k e r m = go_next (some (get_or rs i 0)) (drop (i + 1) rs) (roots_next l) g (subst (λ (j : ℕ). Marking q (j ∷ []) r) e m)
 

@@ -11,10 +11,17 @@ ghost use Rattle.reclaim_reach.specs.Queue.{queue_in, Queued};
 ghost use Rattle.reclaim_reach.specs.Pieces.{Marking};
 ghost use Rattle.reclaim_reach.specs.Marks.{Reaching};
 
-use memory::{BLOCKS, BlockWords, CommandWords, index_of};
+use memory::{BLOCKS, BlockWords, CommandWords};
 
 // How many roots a reclaim may name.
 const ROOTS: usize = 256;
+
+// The codes of the commands that name a block (01, Script).
+const GOTO: u16 = 1;
+
+const IF: u16 = 3;
+
+const END_IF: u16 = 4;
 
 // A mark for each place of a block.
 pub type Marks = [bool; BLOCKS];
@@ -24,29 +31,11 @@ pub type Todo = [u16; BLOCKS];
 
 // ---- the check of the roots
 
-// A count beside the roots, which are as wide as any block number that a caller may name.
-fn wide(x: u16) -> u32
-    ensures { result ≡ x }
-{
-    x as u32
-}
-
 // At most so many, each one of the blocks.
 pub fn roots_ok(roots: &[u32], blocks: u16) -> bool
     ensures { result ≡ roots_ok blocks roots.now }
 {
-    if ROOTS < roots.len() {
-        return false;
-    }
-    let count = wide(blocks);
-    let mut i: usize = 0;
-    while i < roots.len() {
-        if count <= roots[i] {
-            return false;
-        }
-        i += 1;
-    }
-    true
+    roots.len() <= ROOTS && roots.iter().all(|root| *root < u32::from(blocks))
 }
 
 // ---- marking
@@ -56,7 +45,7 @@ fn mark(live: &mut Marks, todo: &mut Todo, n: usize, k: u16) -> usize
     requires { Queued (queue_in live.old todo.old n) × (k < block_limit) }
     ensures { Marking (queue_in live.old todo.old n) (k ∷ []) (queue_in live.new todo.new result) }
 {
-    let i = index_of(k);
+    let i = usize::from(k);
     if live[i] {
         return n;
     }
@@ -76,17 +65,12 @@ fn mark_link(live: &mut Marks, todo: &mut Todo, n: usize, w: u16) -> usize
     mark(live, todo, n, w - 1)
 }
 
-// Goto, If and EndIf.
+// Whether a command of code k has a block as its target.
+#[tactic(auto, unfolding(crate::specs::Words::names_block))]
 fn names_block(k: u16) -> bool
     ensures { result ≡ names_block k }
 {
-    if k == 1 {
-        return true;
-    }
-    if k == 3 {
-        return true;
-    }
-    k == 4
+    matches!(k, GOTO | IF | END_IF)
 }
 
 // The target of command i.
@@ -112,13 +96,10 @@ fn mark_targets(
     requires { Queued (queue_in live.old todo.old n) × ((j : ℕ) → j < held → first + j < command_limit) × Every Low (targets_at cw.now held first) }
     ensures { Marking (queue_in live.old todo.old n) (targets_at cw.now held first) (queue_in live.new todo.new result) }
 {
-    let f = index_of(first);
-    let count = index_of(held);
+    let f = usize::from(first);
     let mut end = n;
-    let mut i: usize = 0;
-    while i < count {
+    for i in 0..usize::from(held) {
         end = mark_target(cw, f + i, live, todo, end);
-        i += 1;
     }
     end
 }
@@ -143,34 +124,16 @@ fn mark_links(
     mark_targets(cw, bw[5 * b + 1], bw[5 * b + 2], live, todo, y)
 }
 
-// A root that is a block.
-fn root_no(r: u32) -> u16
-    requires { r < block_limit }
-    ensures { result ≡ r }
-{
-    r as u16
-}
-
 // The roots, into a queue that is empty.
 fn mark_roots(roots: &[u32], live: &mut Marks, todo: &mut Todo) -> usize
     requires { Queued (queue_in live.old todo.old 0) × Every Low roots.now }
     ensures { Marking (queue_in live.old todo.old 0) roots.now (queue_in live.new todo.new result) }
 {
-    let mut end: usize = 0;
-    let mut at: usize = 0;
-    while at < roots.len() {
-        end = mark(live, todo, end, root_no(roots[at]));
-        at += 1;
+    let mut end = 0;
+    for root in roots {
+        end = mark(live, todo, end, *root as u16);
     }
     end
-}
-
-// The length of the queue's array.
-fn known(todo: &Todo) -> usize
-    ensures { length todo.now ≡ block_limit }
-{
-    let all: &[u16] = todo;
-    all.len()
 }
 
 // Marks what the roots reach by next, else and command targets; `live` holds no mark before. How many blocks there are only the contract asks: no link leads past them.
@@ -185,11 +148,11 @@ pub fn reach_roots(
     requires { Safe cw.now bw.now blocks × Every (λ r. r < blocks) roots.now × (live.old ≡ replicate block_limit false) }
     ensures { Reaching cw.now bw.now blocks roots.now live.new }
 {
-    let _all = known(todo);
     let mut end = mark_roots(roots, live, todo);
-    let mut done: usize = 0;
+    let mut done = 0;
+    // No range: the queue grows while it is followed.
     while done < end {
-        let b = index_of(todo[done]);
+        let b = usize::from(todo[done]);
         end = mark_links(cw, bw, b, live, todo, end);
         done += 1;
     }
