@@ -1,5 +1,5 @@
 -- Lists of entries in one array, one list after the other: what reading a condition adds (01, Parser). Assumes nothing: these are definitions.
-use Rattle.std.specs.Prelude.{◌≡◌, List, [], ◌∷◌, ℕ, suc, ◌+◌, ◌/◌, ◌%◌, ◌≤◌, ◌<◌, get_or, length, ℤ}
+use Rattle.std.specs.Prelude.{Option, Some, None, ◌≡◌, List, [], ◌∷◌, ℕ, suc, ◌+◌, ◌/◌, ◌%◌, ◌≤◌, ◌<◌, get_or, length, ℤ}
 use Rattle.model.specs.Limits.{wide16}
 use Rattle.model.specs.Requirement.{Requirement}
 use Rattle.model.specs.Sheet.{Sheet}
@@ -19,9 +19,6 @@ keys_of r = r / wide16
 
 abbrev pub used_of : ℕ → ℕ
 used_of r = r % wide16
-
-abbrev pub full : ℕ
-full = 4294967295
 
 -- the tables have come as far as r says
 pub record Place (ks kd cs ls : List ℕ) (r : ℕ) : Type 0 where
@@ -47,6 +44,7 @@ pub record Added (ws : List ℕ) (vs : List ℤ) (k : Known) (b i : ℕ) (g : Fi
 abbrev pub NoRoom : List ℕ → List ℤ → Known → ℕ → ℕ → Finds → ℕ → List ℕ → List ℕ → Type 0
 NoRoom ws vs k b i g r ks ls = OfNode ws vs k b i (λ h e. used_of r + length (g h e) ≤ length ls → keys_of r + length (g h e) < length ks → ⊥)
 
-pub record ReadCondition (ws : List ℕ) (vs : List ℤ) (k : Known) (b i : ℕ) (g : Finds) (r : ℕ) (ks ls ks' kd' cs' ls' : List ℕ) (s : ℕ) : Type 0 where
-  pub added : (s ≡ full → ⊥) → Added ws vs k b i g r ks ls ks' kd' cs' ls' s
-  pub no_room : s ≡ full → NoRoom ws vs k b i g r ks ls
+-- the place after, none where there was no room
+abbrev pub ReadCondition : List ℕ → List ℤ → Known → ℕ → ℕ → Finds → ℕ → List ℕ → List ℕ → List ℕ → List ℕ → List ℕ → List ℕ → Option ℕ → Type 0
+ReadCondition ws vs k b i g r ks ls ks' kd' cs' ls' (Some s) = Added ws vs k b i g r ks ls ks' kd' cs' ls' s
+ReadCondition ws vs k b i g r ks ls ks' kd' cs' ls' None = NoRoom ws vs k b i g r ks ls

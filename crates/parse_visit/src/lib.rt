@@ -19,7 +19,7 @@ ghost use Rattle.parse_visit.specs.Ways.{place_of, Joined, ReadsOn, GoesOn};
 
 use memory::{BLOCKS, BlockWords, CommandWords, Counts, NodeWords, Values};
 use model::{BlockNo, Link, Refusal};
-use parse_conditions::{FULL, PLACES, read_condition};
+use parse_conditions::{PLACES, read_condition};
 use parse_filter::{Marked, parse_requirements};
 use parse_keys::Known;
 use parse_scan::{Scanned, hides, scan_block, update_slots};
@@ -193,13 +193,14 @@ fn join(
     let n = usize::from(g.counts.nodes);
     let i = usize::from(s.last_if - 1);
     let p = place(w);
-    let r = read_condition(ws, val, keys, kids, companions, list, known, n, i, false, p);
-    if r == FULL {
-        return out_of_room(w);
+    match read_condition(ws, val, keys, kids, companions, list, known, n, i, false, p) {
+        None => out_of_room(w),
+        Some(r) => {
+            let used = (r % PLACES) as u16;
+            add_cell(cells, at, b.under, w.used, used);
+            one_cell_more(w, used, (r / PLACES) as u16)
+        }
     }
-    let used = (r % PLACES) as u16;
-    add_cell(cells, at, b.under, w.used, used);
-    one_cell_more(w, used, (r / PLACES) as u16)
 }
 
 // Word j of block b.

@@ -11,28 +11,28 @@ returns-then-cells-at c = record { full = λ q l. absurd (omega (arith, c.if-cel
 pub overflow_sub-s : goal.overflow_sub-s
 overflow_sub-s c = let d = c.requires.0.1.0 in omega arith
 
-pub read_condition-r-requires : goal.read_condition-r-requires
-read_condition-r-requires c = (rw c.from-n.ensures c.requires.0.0, rw c.place-p.ensures c.requires.1.1)
+pub read_condition-requires : goal.read_condition-requires
+read_condition-requires c = (rw c.from-n.ensures c.requires.0.0, rw c.place-p.ensures c.requires.1.1)
 
-pub returns-then-r : goal.returns-then-r
-returns-then-r c = record {
-  full = λ q l. rw (c.place-p.ensures, c.from-i.ensures, c.from-n.ensures) at (c.read_condition-r.ensures.no_room c.if-r.true);
-  read = λ d. absurd (d c.out_of_room-then-r.ensures.0);
-  limit = c.out_of_room-then-r.ensures.1;
+pub returns-in-None : goal.returns-in-None
+returns-in-None c = record {
+  full = λ q l. rw (c.place-p.ensures, c.from-i.ensures, c.from-n.ensures) at c.in-None.ensures;
+  read = λ d. absurd (d c.out_of_room-in-None.ensures.0);
+  limit = c.out_of_room-in-None.ensures.1;
 }
 
 pub one_cell_more-requires : goal.one_cell_more-requires
 one_cell_more-requires c = c.requires.0.1.1
 
-pub returns : goal.returns
-returns c =
+pub returns-in-Some : goal.returns-in-Some
+returns-in-Some c =
     record {
       full = λ q l. absurd (c.requires.1.0 (sym (ap (λ (z : Walk). answer_in z.outcome) c.one_cell_more.ensures) ∙ q));
       read = λ d. record {
-        place = c.read_condition-r.result;
-        added = rw (c.place-p.ensures, c.from-i.ensures, c.from-n.ensures) at (c.read_condition-r.ensures.added c.if-r.false);
+        place = c.in-Some.r;
+        added = rw (c.place-p.ensures, c.from-i.ensures, c.from-n.ensures) at c.in-Some.ensures;
         rows = omega (arith, c.if-cells-at.false, c.from-at.ensures);
-        cell = ◌∙◌ {b = with_cell c.args.cells.now c.from-at.result c.args.b.under.0 c.args.w.used (used_of c.read_condition-r.result)} c.add_cell.ensures (rw c.from-at.ensures);
+        cell = ◌∙◌ {b = with_cell c.args.cells.now c.from-at.result c.args.b.under.0 c.args.w.used (used_of c.in-Some.r)} c.add_cell.ensures (rw c.from-at.ensures);
         walk = c.one_cell_more.ensures;
       };
       limit = rw c.one_cell_more.ensures;
