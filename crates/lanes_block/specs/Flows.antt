@@ -13,10 +13,10 @@ use Rattle.lanes_model.specs.Flat.{part}
 use Rattle.lanes_model.specs.Lanes.{moved}
 use Rattle.lanes_expr.specs.Lanes.{lane_value, first_stop, Valued, Stand}
 use Rattle.memory.specs.RecordLaws.{next_command}
+use Rattle.std.specs.Prelude as code
+use Rattle.std.specs.Prelude.{Some, None}
 use Rattle.lanes_block.specs.declared.Way.{Way}
 use Rattle.lanes_block.specs.declared.Exit.{Exit}
-use Rattle.lanes_block.specs.declared.Flow.{Flow}
-use Rattle.lanes_block.specs.declared.Flow.TheVariants.{On, Out}
 use Rattle.lanes_block.specs.Ways.{KeptParts, carry, goes, way_of, leave, followed, forked, chosen, same_way, stored_part, Worth, StoredAll, onward, Flows, Does, Leaves, state_of, Settled, Visited}
 use Rattle.lanes_block.specs.Laws.{parts_same, parts_on}
 
@@ -48,7 +48,7 @@ module _ (s : Save) (nx : Option ℕ) (v : List ℤ) where
     set_target zero r₂ p q cs = ap (λ a. or_halt a v (λ j. or_halt (eval s v e) v (λ y. execute s nx cs (store v j y)))) (sym p) ∙ set_value r₂ q cs
     set_target (suc m) r₂ p q cs = ap (λ a. or_halt a v (λ j. or_halt (eval s v e) v (λ y. execute s nx cs (store v j y)))) (sym p) ∙ set_stopped m (suc m) r₂ refl q cs
 
-    set_flows : (r r₁ r₂ : ℕ) (v' : List ℤ) → lane_value r₁ k ≡ first_stop r (eval s v t) → lane_value r₂ x ≡ first_stop r₁ (eval s v e) → v' ≡ stored_part r₂ v k x → Flows s nx (set_variable t e) r v On z r₂ v'
+    set_flows : (r r₁ r₂ : ℕ) (v' : List ℤ) → lane_value r₁ k ≡ first_stop r (eval s v t) → lane_value r₂ x ≡ first_stop r₁ (eval s v e) → v' ≡ stored_part r₂ v k x → Flows s nx (set_variable t e) r v None z r₂ v'
     set_flows zero r₁ r₂ v' p q w = record { is = λ cs. set_target r₁ r₂ p q cs ∙ ap (λ u. carry r₂ u (execute s nx cs)) (sym w) }
     set_flows (suc n) r₁ r₂ v' p q w = record { is = λ cs. set_stopped n r₁ r₂ p q cs ∙ ap (λ u. carry r₂ u (execute s nx cs)) (sym w) }
 
@@ -71,7 +71,7 @@ same_leaves k r z v = by (is_zero z)
     by false = refl
 
 if_flows : (s : Save) (v : List ℤ) (c : Expr) (n k r r' : ℕ) (z : ℤ) → lane_value r' z ≡ first_stop r (eval s v c)
-    → Flows s (link_in n) (if_else c k) r v (Out (forked n (k + 1))) z r' v
+    → Flows s (link_in n) (if_else c k) r v (Some (forked n (k + 1))) z r' v
 if_flows s v c n k zero zero z p =
     record { is = λ cs. ap (λ a. or_halt a v (λ x. cond (is_zero x) (next k v) (follow (link_in n) v))) (sym p) ∙ if_leaves s (link_in n) v n k z }
 if_flows s v c n k zero (suc m) z p = record { is = λ cs. ap (λ a. or_halt a v (λ x. cond (is_zero x) (next k v) (follow (link_in n) v))) (sym p) }
@@ -84,18 +84,18 @@ pub valued_worth : {save : ℕ → Save} {ls : List ℕ} {s : ℕ} {vs : List �
 valued_worth p = record { is = p.is }
 
 module _ {save : ℕ → Save} {nx : Option ℕ} {ls : List ℕ} {s : ℕ} {vs : List ℤ} {rs : List ℕ} where
-  pub does_as : {f : Flow} {vs' xs' : List ℤ} {rs' : List ℕ} (x y : Command) → x ≡ y → Does save nx y ls s vs rs f vs' xs' rs' → Does save nx x ls s vs rs f vs' xs' rs'
+  pub does_as : {f : code.Option Exit} {vs' xs' : List ℤ} {rs' : List ℕ} (x y : Command) → x ≡ y → Does save nx y ls s vs rs f vs' xs' rs' → Does save nx x ls s vs rs f vs' xs' rs'
   does_as {f} {vs'} {xs'} {rs'} x y e d = subst (λ z. Does save nx z ls s vs rs f vs' xs' rs') (sym e) d
 
   pub set_does : {t e : Expr} {ks xs : ℕ → ℤ} {zs vs' : List ℤ} {rs₁ rs₂ : List ℕ} → Worth save ls s vs t rs rs₁ ks → Worth save ls s vs e rs₁ rs₂ xs → StoredAll ls ks xs rs₂ vs s vs'
-      → Does save nx (set_variable t e) ls s vs rs On vs' zs rs₂
+      → Does save nx (set_variable t e) ls s vs rs None vs' zs rs₂
   set_does {t} {e} {ks} {xs} {zs} {vs'} {rs₁} {rs₂} p q w = record {
     kept = w.kept;
     each = λ j h. set_flows (save (get_or ls j 0)) nx (part variable_count (get_or ls j 0) vs) t e (ks j) (xs j) (get_or zs j (pos 0)) (get_or rs j 0) (get_or rs₁ j 0) (get_or rs₂ j 0) (part variable_count (get_or ls j 0) vs') (p.is j h) (q.is j h) (w.each j h);
   }
 
   -- a command that leads all lanes out of the block the same way
-  pub out_does : {x : Command} {k r : ℕ} {xs : List ℤ} → ((t : Save) (v : List ℤ) (cs : List Command) → execute t nx (x ∷ cs) v ≡ goes k r v) → Does save nx x ls s vs rs (Out (same_way k r)) vs xs rs
+  pub out_does : {x : Command} {k r : ℕ} {xs : List ℤ} → ((t : Save) (v : List ℤ) (cs : List Command) → execute t nx (x ∷ cs) v ≡ goes k r v) → Does save nx x ls s vs rs (Some (same_way k r)) vs xs rs
   out_does {x} {k} {r} {xs} f = record {
     kept = parts_same ls s vs;
     each = λ j h. record { is = λ cs. carry_as (get_or rs j 0) (part variable_count (get_or ls j 0) vs) _ _ (f (save (get_or ls j 0)) (part variable_count (get_or ls j 0) vs) cs ∙ sym (same_leaves k r (get_or xs j (pos 0)) (part variable_count (get_or ls j 0) vs))) };
@@ -106,12 +106,12 @@ goto_way k b v q = rw (q, add-one b)
 
 -- the exit as the code has it
 pub does_out : {save : ℕ → Save} {nx : Option ℕ} {x : Command} {ls : List ℕ} {s : ℕ} {vs : List ℤ} {rs : List ℕ} {e e' : Exit} {vs' xs' : List ℤ} {rs' : List ℕ}
-    → e' ≡ e → Does save nx x ls s vs rs (Out e) vs' xs' rs' → Does save nx x ls s vs rs (Out e') vs' xs' rs'
-does_out {save} {nx} {x} {ls} {s} {vs} {rs} {e} {e'} {vs'} {xs'} {rs'} q d = subst (λ z. Does save nx x ls s vs rs (Out z) vs' xs' rs') (sym q) d
+    → e' ≡ e → Does save nx x ls s vs rs (Some e) vs' xs' rs' → Does save nx x ls s vs rs (Some e') vs' xs' rs'
+does_out {save} {nx} {x} {ls} {s} {vs} {rs} {e} {e'} {vs'} {xs'} {rs'} q d = subst (λ z. Does save nx x ls s vs rs (Some z) vs' xs' rs') (sym q) d
 
 pub if_does : (n : ℕ) {save : ℕ → Save} {ls : List ℕ} {s : ℕ} {vs : List ℤ} {rs rs' : List ℕ} {c : Expr} {k : ℕ} {xs : List ℤ}
     → Valued s (λ j. eval (save (get_or ls j 0)) (part variable_count (get_or ls j 0) vs) c) rs rs' xs
-    → Does save (link_in n) (if_else c k) ls s vs rs (Out (forked n (k + 1))) vs xs rs'
+    → Does save (link_in n) (if_else c k) ls s vs rs (Some (forked n (k + 1))) vs xs rs'
 if_does n {save} {ls} {s} {vs} {rs} {rs'} {c} {k} {xs} p = record {
   kept = parts_same ls s vs;
   each = λ j h. if_flows (save (get_or ls j 0)) (part variable_count (get_or ls j 0) vs) c n k (get_or rs j 0) (get_or rs' j 0) (get_or xs j (pos 0)) (p.is j h);
@@ -141,7 +141,7 @@ module _ (save : ℕ → Save) (nx : Option ℕ) (ws : List ℕ) (val : List ℤ
       record { low = omega arith; kept = parts_same ls s vs; each = λ d e j h. rw (y, z) refl }
 
   module _ {vs' : List ℤ} {rs' : List ℕ} {i : ℕ} (p : Passed save nx ws val cw first many ls s vs rs vs' rs' i) where
-    module _ (h : i < many) {f : Flow} {vs'' xs'' : List ℤ} {rs'' : List ℕ} (w : (d e : ℕ) → Does save nx (command_in (coded_in ws val cw d e) (first + i)) ls s vs' rs' f vs'' xs'' rs'') where
+    module _ (h : i < many) {f : code.Option Exit} {vs'' xs'' : List ℤ} {rs'' : List ℕ} (w : (d e : ℕ) → Does save nx (command_in (coded_in ws val cw d e) (first + i)) ls s vs' rs' f vs'' xs'' rs'') where
       passed_each : (d e j : ℕ) → j < s → carry (get_or rs j 0) (part variable_count (get_or ls j 0) vs) (execute (save (get_or ls j 0)) nx (commands_in (coded_in ws val cw d e) many first))
           ≡ carry (get_or rs'' j 0) (part variable_count (get_or ls j 0) vs'') (onward (save (get_or ls j 0)) nx (commands_in (coded_in ws val cw d e) (many - (i + 1)) (first + (i + 1))) f (get_or xs'' j (pos 0)))
       passed_each d e j l =
@@ -149,14 +149,14 @@ module _ (save : ℕ → Save) (nx : Option ℕ) (ws : List ℕ) (val : List ℤ
           ∙ ap (λ cs. carry (get_or rs' j 0) (part variable_count (get_or ls j 0) vs') (execute (save (get_or ls j 0)) nx cs)) (next_command (coded_in ws val cw d e) many first i h)
           ∙ ((w d e).each j l).is (commands_in (coded_in ws val cw d e) (many - (i + 1)) (first + (i + 1)))
 
-      pub one_passed : f ≡ On → Passed save nx ws val cw first many ls s vs rs vs'' rs'' (i + 1)
+      pub one_passed : f ≡ None → Passed save nx ws val cw first many ls s vs rs vs'' rs'' (i + 1)
       one_passed q = record {
         low = omega arith;
         kept = parts_on p.kept (w 0 0).kept;
         each = λ d e j l. passed_each d e j l ∙ ap (λ g. carry (get_or rs'' j 0) (part variable_count (get_or ls j 0) vs'') (onward (save (get_or ls j 0)) nx (commands_in (coded_in ws val cw d e) (many - (i + 1)) (first + (i + 1))) g (get_or xs'' j (pos 0)))) q;
       }
 
-      pub out_passed : {x : Exit} → f ≡ Out x → (d e : ℕ) → Leaves (λ t. execute t nx (commands_in (coded_in ws val cw d e) many first)) save ls s vs rs x vs'' xs'' rs''
+      pub out_passed : {x : Exit} → f ≡ Some x → (d e : ℕ) → Leaves (λ t. execute t nx (commands_in (coded_in ws val cw d e) many first)) save ls s vs rs x vs'' xs'' rs''
       out_passed {x} q d e = record {
         kept = parts_on p.kept (w 0 0).kept;
         each = λ j l. passed_each d e j l ∙ ap (λ g. carry (get_or rs'' j 0) (part variable_count (get_or ls j 0) vs'') (onward (save (get_or ls j 0)) nx (commands_in (coded_in ws val cw d e) (many - (i + 1)) (first + (i + 1))) g (get_or xs'' j (pos 0)))) q;

@@ -11,10 +11,10 @@ use Rattle.model.specs.Run.{Outcome, next, done, halt, store, execute, step}
 use Rattle.lanes_model.specs.Flat.{part}
 use Rattle.lanes_model.specs.Lanes.{State, at, ended, moved}
 use Rattle.lanes_expr.specs.Lanes.{lane_value, first_stop}
+use Rattle.std.specs.Prelude as code
+use Rattle.std.specs.Prelude.{Some, None}
 use Rattle.lanes_block.specs.declared.Way.{Way}
 use Rattle.lanes_block.specs.declared.Exit.{Exit}
-use Rattle.lanes_block.specs.declared.Flow.{Flow}
-use Rattle.lanes_block.specs.declared.Flow.TheVariants.{On, Out}
 
 -- ---- the lanes: the first s numbers of ls
 
@@ -102,15 +102,15 @@ pub record StoredAll (ls : List ℕ) (ks xs : ℕ → ℤ) (rs : List ℕ) (vs :
   pub each : (j : ℕ) → j < s → part variable_count (get_or ls j 0) vs' ≡ stored_part (get_or rs j 0) (part variable_count (get_or ls j 0) vs) (ks j) (xs j)
 
 -- what follows a command
-abbrev pub onward : Save → Option ℕ → List Command → Flow → ℤ → List ℤ → Outcome
-onward s nx cs On z v = execute s nx cs v
-onward s nx cs (Out e) z v = leave e z v
+abbrev pub onward : Save → Option ℕ → List Command → code.Option Exit → ℤ → List ℤ → Outcome
+onward s nx cs None z v = execute s nx cs v
+onward s nx cs (Some e) z v = leave e z v
 
 -- command x brings one lane from v to v'
-pub record Flows (s : Save) (nx : Option ℕ) (x : Command) (r : ℕ) (v : List ℤ) (f : Flow) (z : ℤ) (r' : ℕ) (v' : List ℤ) : Type 0 where
+pub record Flows (s : Save) (nx : Option ℕ) (x : Command) (r : ℕ) (v : List ℤ) (f : code.Option Exit) (z : ℤ) (r' : ℕ) (v' : List ℤ) : Type 0 where
   pub is : (cs : List Command) → carry r v (execute s nx (x ∷ cs)) ≡ carry r' v' (onward s nx cs f z)
 
-pub record Does (save : ℕ → Save) (nx : Option ℕ) (x : Command) (ls : List ℕ) (s : ℕ) (vs : List ℤ) (rs : List ℕ) (f : Flow) (vs' xs' : List ℤ) (rs' : List ℕ) : Type 0 where
+pub record Does (save : ℕ → Save) (nx : Option ℕ) (x : Command) (ls : List ℕ) (s : ℕ) (vs : List ℤ) (rs : List ℕ) (f : code.Option Exit) (vs' xs' : List ℤ) (rs' : List ℕ) : Type 0 where
   pub kept : KeptParts ls s vs vs'
   pub each : (j : ℕ) → j < s → Flows (save (get_or ls j 0)) nx x (get_or rs j 0) (part variable_count (get_or ls j 0) vs) f (get_or xs' j (pos 0)) (get_or rs' j 0) (part variable_count (get_or ls j 0) vs')
 

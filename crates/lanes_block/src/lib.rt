@@ -1,7 +1,7 @@
 // One block for many lanes (02, A.8): it is decoded once, and each of its commands is applied to all the lanes that stand at it.
 #![tactic(auto)]
 
-ghost use Rattle.std.specs.Prelude.{◌≡◌, ℕ, ◌+◌, ◌*◌, ◌≤◌, ◌<◌, pos, get_or, length};
+ghost use Rattle.std.specs.Prelude.{◌≡◌, None, ℕ, ℤ, ◌+◌, ◌*◌, ◌≤◌, ◌<◌, pos, get_or, length};
 ghost use Rattle.model.specs.Limits.{node_limit, variable_count, most_saves};
 ghost use Rattle.model.specs.Run.{execute, step};
 ghost use Rattle.model.specs.Memory.{nodes_in, coded_in, tree, command_in, commands_in, link_in, script_of};
@@ -15,30 +15,24 @@ ghost use Rattle.lanes_model.specs.Flat.{save_in};
 ghost use Rattle.lanes_expr.specs.Lanes.{Stand};
 ghost use Rattle.lanes_block.specs.Ways.{Rising, Held, Countable, chosen, followed, forked, same_way, stored_in, Always, StoredAll, Does, Leaves, Settled, Visited};
 
-use expr::{MaybeNumber, number_below};
+use expr::number_below;
 use lanes_expr::{LANES, Widths, evaluate_lanes};
 use memory::{BlockWords, CommandWords, Counts, NodeWords, Values};
-use model::VARIABLES;
+use model::{Refusal, VARIABLES};
 
-// Where a lane goes: block + 1, or 0 where it ends with that answer.
-#[derive(Clone, Copy)]
+// Where a lane goes: block + 1, or 0 where it ends with that answer. The answer stays a number: both fields are stored lane by
+// lane as they are, in arrays of numbers that C reads.
+#[derive(Clone, Copy, Debug, PartialEq, Eq)]
 pub struct Way {
     pub word: u32,
     pub answer: u8,
 }
 
 // The ways out of a block: `then` where the last value is not 0, `otherwise` where it is. Only an If tells the two apart.
-#[derive(Clone, Copy)]
+#[derive(Clone, Copy, Debug, PartialEq, Eq)]
 pub struct Exit {
     pub then: Way,
     pub otherwise: Way,
-}
-
-// Where a command leads the lanes that have not stopped: to the command after it, or out of the block.
-#[derive(Clone, Copy)]
-enum Flow {
-    On,
-    Out(Exit),
 }
 
 // ---- commands
@@ -46,23 +40,11 @@ enum Flow {
 fn both(word: u32, answer: u8) -> Exit
     ensures { result ≡ same_way word answer }
 {
+    let way = Way { word, answer };
     Exit {
-        then: Way {
-            word: word,
-            answer: answer,
-        },
-        otherwise: Way {
-            word: word,
-            answer: answer,
-        },
+        then: way,
+        otherwise: way,
     }
-}
-
-// Block k as a way's word. An element behind a call: whoever passes it owes no proof that it fits.
-fn word_of(block: u16) -> u32
-    ensures { result ≡ block + 1 }
-{
-    (block as u32) + 1
 }
 
 // The way by a block's next: none is 14.
@@ -70,14 +52,15 @@ fn follow_link(link: u16) -> Way
     ensures { result ≡ followed link }
 {
     if link == 0 {
-        return Way {
+        Way {
             word: 0,
-            answer: 14,
-        };
-    }
-    Way {
-        word: link as u32,
-        answer: 0,
+            answer: Refusal::NoNext.number(),
+        }
+    } else {
+        Way {
+            word: u32::from(link),
+            answer: 0,
+        }
     }
 }
 
@@ -89,68 +72,31 @@ fn store_lane(vars: &mut [i32], lane: u8, k: i32, x: i32, stop: u8)
     if stop != 0 {
         return;
     }
-    if k < 0 {
+    let Ok(i) = usize::try_from(k) else {
         return;
-    }
-    let i = k as usize;
+    };
     if i < VARIABLES {
-        vars[(lane as usize) * VARIABLES + i] = x;
+        vars[usize::from(lane) * VARIABLES + i] = x;
     }
 }
 
-fn store_lanes(
+// The write of a Set for each lane: target and value say where and what, by the lane's place in the list. Where they are one
+// number for all lanes, as those of an Imm are, no array is read.
+fn store_lanes<K: Fn(usize) -> i32, X: Fn(usize) -> i32>(
     lanes: &[u8; LANES],
     s: usize,
-    targets: &[i32; LANES],
-    values: &[i32; LANES],
+    target: K,
+    value: X,
     stops: &[u8; LANES],
     vars: &mut [i32],
 )
-    requires { Rising lanes.now s × Held lanes.now s vars.old }
-    ensures { StoredAll lanes.now (λ j. get_or targets.now j (pos 0)) (λ j. get_or values.now j (pos 0)) stops.now vars.old s vars.new }
+    requires lanes { Rising lanes.now s × Held lanes.now s vars.old }
+    requires target { (j : ℕ) → j < s → K.pre target j }
+    requires value { (j : ℕ) → j < s → X.pre value j }
+    ensures { (ks xs : ℕ → ℤ) → ((j : ℕ) (z : ℤ) → j < s → K.post target j z → z ≡ ks j) → ((j : ℕ) (z : ℤ) → j < s → X.post value j z → z ≡ xs j) → StoredAll lanes.now ks xs stops.now vars.old s vars.new }
 {
-    let mut j = 0;
-    while j < s {
-        store_lane(vars, lanes[j], targets[j], values[j], stops[j]);
-        j += 1;
-    }
-}
-
-// The same with one place for all lanes, as a target that is an Imm has it.
-fn store_same(
-    lanes: &[u8; LANES],
-    s: usize,
-    k: i32,
-    values: &[i32; LANES],
-    stops: &[u8; LANES],
-    vars: &mut [i32],
-)
-    requires { Rising lanes.now s × Held lanes.now s vars.old }
-    ensures { StoredAll lanes.now (λ _. k) (λ j. get_or values.now j (pos 0)) stops.now vars.old s vars.new }
-{
-    let mut j = 0;
-    while j < s {
-        store_lane(vars, lanes[j], k, values[j], stops[j]);
-        j += 1;
-    }
-}
-
-// And with one number, as a value that is an Imm has it.
-fn store_number(
-    lanes: &[u8; LANES],
-    s: usize,
-    k: i32,
-    x: i32,
-    stops: &[u8; LANES],
-    vars: &mut [i32],
-)
-    requires { Rising lanes.now s × Held lanes.now s vars.old }
-    ensures { StoredAll lanes.now (λ _. k) (λ _. x) stops.now vars.old s vars.new }
-{
-    let mut j = 0;
-    while j < s {
-        store_lane(vars, lanes[j], k, x, stops[j]);
-        j += 1;
+    for j in 0..s {
+        store_lane(vars, lanes[j], target(j), value(j), stops[j]);
     }
 }
 
@@ -171,7 +117,7 @@ fn set_each(
     rs: &mut [u8; LANES],
 )
     requires { (t < node_limit) × (v < node_limit) × Stand w.items w.atcs (reads items.now atcs.now flags.now times.now) vs.old ls.now w.lanes × Rising ls.now w.lanes }
-    ensures { (c : ℕ) (nx : Option ℕ) → Does (save_in w.items w.atcs (reads items.now atcs.now flags.now times.now)) nx (set_variable (tree (nodes_in ws.now val.now c) t) (tree (nodes_in ws.now val.now c) v)) ls.now w.lanes vs.old rs.old Flow.On vs.new xs.new rs.new }
+    ensures { (c : ℕ) (nx : Option ℕ) → Does (save_in w.items w.atcs (reads items.now atcs.now flags.now times.now)) nx (set_variable (tree (nodes_in ws.now val.now c) t) (tree (nodes_in ws.now val.now c) v)) ls.now w.lanes vs.old rs.old None vs.new xs.new rs.new }
 {
     let mut targets = [0; LANES];
     let ks = &mut targets;
@@ -179,7 +125,7 @@ fn set_each(
     evaluate_lanes(ws, val, b, t, ls, w, items, atcs, flags, times, vs, ks, rs);
     let e = v + 1;
     evaluate_lanes(ws, val, e, v, ls, w, items, atcs, flags, times, vs, xs, rs);
-    store_lanes(ls, w.lanes, &targets, xs, rs, vs);
+    store_lanes(ls, w.lanes, |j| targets[j], |j| xs[j], rs, vs);
 }
 
 // A Set whose target is the Imm k. Where the value v is one too, as most are, nothing is evaluated.
@@ -199,15 +145,14 @@ fn set_same(
     rs: &mut [u8; LANES],
 )
     requires { (v < node_limit) × Stand w.items w.atcs (reads items.now atcs.now flags.now times.now) vs.old ls.now w.lanes × Rising ls.now w.lanes }
-    ensures { (c : ℕ) (nx : Option ℕ) (t : Expr) → Always t k → Does (save_in w.items w.atcs (reads items.now atcs.now flags.now times.now)) nx (set_variable t (tree (nodes_in ws.now val.now c) v)) ls.now w.lanes vs.old rs.old Flow.On vs.new xs.new rs.new }
+    ensures { (c : ℕ) (nx : Option ℕ) (t : Expr) → Always t k → Does (save_in w.items w.atcs (reads items.now atcs.now flags.now times.now)) nx (set_variable t (tree (nodes_in ws.now val.now c) v)) ls.now w.lanes vs.old rs.old None vs.new xs.new rs.new }
 {
     let b = v + 1;
-    let q = number_below(ws, val, b, v);
-    match q {
-        MaybeNumber::Is(x) => store_number(ls, w.lanes, k, x, rs, vs),
-        MaybeNumber::Nothing => {
+    match number_below(ws, val, b, v) {
+        Some(x) => store_lanes(ls, w.lanes, |_| k, |_| x, rs, vs),
+        None => {
             evaluate_lanes(ws, val, b, v, ls, w, items, atcs, flags, times, vs, xs, rs);
-            store_same(ls, w.lanes, k, xs, rs, vs);
+            store_lanes(ls, w.lanes, |_| k, |j| xs[j], rs, vs);
         }
     }
 }
@@ -229,16 +174,11 @@ fn set_variable(
     rs: &mut [u8; LANES],
 )
     requires { (t < node_limit) × (v < node_limit) × Stand w.items w.atcs (reads items.now atcs.now flags.now times.now) vs.old ls.now w.lanes × Rising ls.now w.lanes }
-    ensures { (c : ℕ) (nx : Option ℕ) → Does (save_in w.items w.atcs (reads items.now atcs.now flags.now times.now)) nx (set_variable (tree (nodes_in ws.now val.now c) t) (tree (nodes_in ws.now val.now c) v)) ls.now w.lanes vs.old rs.old Flow.On vs.new xs.new rs.new }
+    ensures { (c : ℕ) (nx : Option ℕ) → Does (save_in w.items w.atcs (reads items.now atcs.now flags.now times.now)) nx (set_variable (tree (nodes_in ws.now val.now c) t) (tree (nodes_in ws.now val.now c) v)) ls.now w.lanes vs.old rs.old None vs.new xs.new rs.new }
 {
-    let q = number_below(ws, val, t + 1, t);
-    match q {
-        MaybeNumber::Is(k) => {
-            set_same(ws, val, k, v, ls, w, items, atcs, flags, times, vs, xs, rs)
-        }
-        MaybeNumber::Nothing => {
-            set_each(ws, val, t, v, ls, w, items, atcs, flags, times, vs, xs, rs)
-        }
+    match number_below(ws, val, t + 1, t) {
+        Some(k) => set_same(ws, val, k, v, ls, w, items, atcs, flags, times, vs, xs, rs),
+        None => set_each(ws, val, t, v, ls, w, items, atcs, flags, times, vs, xs, rs),
     }
 }
 
@@ -248,14 +188,12 @@ fn fork(link: u16, word: u32) -> Exit
 {
     Exit {
         then: follow_link(link),
-        otherwise: Way {
-            word: word,
-            answer: 0,
-        },
+        otherwise: Way { word, answer: 0 },
     }
 }
 
-// One command of a block whose next is link.
+// One command of a block whose next is link: the exit by which the lanes that have not stopped leave the block, or none where
+// the command after it follows.
 fn command(
     ws: &NodeWords,
     val: &Values,
@@ -271,33 +209,31 @@ fn command(
     vs: &mut [i32],
     xs: &mut [i32; LANES],
     rs: &mut [u8; LANES],
-) -> Flow
+) -> Option<Exit>
     requires { Readable cw.now c × Stand w.items w.atcs (reads items.now atcs.now flags.now times.now) vs.old ls.now w.lanes × Rising ls.now w.lanes }
     ensures { (d e : ℕ) → Does (save_in w.items w.atcs (reads items.now atcs.now flags.now times.now)) (link_in link) (command_in (coded_in ws.now val.now cw.now d e) c) ls.now w.lanes vs.old rs.old result vs.new xs.new rs.new }
 {
-    let at = c as usize;
-    let kind = cw[4 * at];
+    let at = usize::from(c);
     let t = cw[4 * at + 1];
     let v = cw[4 * at + 2];
     let block = cw[4 * at + 3];
-    let target = word_of(block);
-    match kind {
-        0 => Flow::Out(both(0, 0)),
-        1 => Flow::Out(both(target, 0)),
+    let target = u32::from(block) + 1;
+    match cw[4 * at] {
+        0 => Some(both(0, 0)),
+        1 | 4 => Some(both(target, 0)),
         2 => {
             if block != 0 {
-                return Flow::Out(both(0, 13));
+                return Some(both(0, Refusal::MetOther.number()));
             }
             set_variable(ws, val, t, v, ls, w, items, atcs, flags, times, vs, xs, rs);
-            Flow::On
+            None
         }
         3 => {
             let b = t + 1;
             evaluate_lanes(ws, val, b, t, ls, w, items, atcs, flags, times, vs, xs, rs);
-            Flow::Out(fork(link, target))
+            Some(fork(link, target))
         }
-        4 => Flow::Out(both(target, 0)),
-        _ => Flow::Out(both(0, 13)),
+        _ => Some(both(0, Refusal::MetOther.number())),
     }
 }
 
@@ -330,9 +266,8 @@ fn execute_block(
     requires { Readables cw.now c.first c.many × Stand w.items w.atcs (reads items.now atcs.now flags.now times.now) vs.old ls.now w.lanes × Rising ls.now w.lanes }
     ensures { (d e : ℕ) → Leaves (λ t. execute t (link_in c.link) (commands_in (coded_in ws.now val.now cw.now d e) c.many c.first)) (save_in w.items w.atcs (reads items.now atcs.now flags.now times.now)) ls.now w.lanes vs.old rs.old result vs.new xs.new rs.new }
 {
-    let mut i = 0;
-    while i < c.many {
-        let f = command(
+    for i in 0..c.many {
+        let exit = command(
             ws,
             val,
             cw,
@@ -348,13 +283,8 @@ fn execute_block(
             xs,
             rs,
         );
-        match f {
-            Flow::On => {
-                i += 1;
-            }
-            Flow::Out(e) => {
-                return e;
-            }
+        if let Some(exit) = exit {
+            return exit;
         }
     }
     let next = follow_link(c.link);
@@ -385,13 +315,12 @@ fn step_block(
     requires { Ready cw.now bw.now counts.blocks × Stand w.items w.atcs (reads items.now atcs.now flags.now times.now) vs.old ls.now w.lanes × Rising ls.now w.lanes }
     ensures { Leaves (λ t. step (script_of (memory_of ws.now val.now cw.now bw.now counts)).blocks t b) (save_in w.items w.atcs (reads items.now atcs.now flags.now times.now)) ls.now w.lanes vs.old rs.old result vs.new xs.new rs.new }
 {
-    if b >= counts.blocks as u32 {
-        return both(0, 13);
+    if b >= u32::from(counts.blocks) {
+        return both(0, Refusal::MetOther.number());
     }
     let at = b as usize;
-    let kind = bw[5 * at];
-    if kind != 1 {
-        return both(0, 13);
+    if bw[5 * at] != 1 {
+        return both(0, Refusal::MetOther.number());
     }
     let c = Code {
         first: bw[5 * at + 1],
@@ -403,36 +332,20 @@ fn step_block(
 
 // ---- lanes
 
-// An element of the list of lanes, behind a call: whoever uses it as an index owes no proof that it fits.
-fn lane_of(x: u8) -> usize
-    ensures { result ≡ x }
-{
-    x as usize
-}
-
-fn known(at: &[u32; LANES], answers: &[u8; LANES], entered: &[u32; LANES]) -> usize
-    ensures { (length at.now ≡ most_saves) × (length answers.now ≡ most_saves) × (length entered.now ≡ most_saves) }
-{
-    let a: &[u32] = at;
-    let b: &[u8] = answers;
-    let c: &[u32] = entered;
-    a.len() + b.len() + c.len()
-}
-
 // The way of a lane that the block left with that value, or that stopped in it.
 fn choose(exit: Exit, x: i32, stop: u8) -> Way
     ensures { result ≡ chosen exit x stop }
 {
     if stop != 0 {
-        return Way {
+        Way {
             word: 0,
             answer: stop,
-        };
+        }
+    } else if x == 0 {
+        exit.otherwise
+    } else {
+        exit.then
     }
-    if x == 0 {
-        return exit.otherwise;
-    }
-    exit.then
 }
 
 // Each lane of the list has entered one block more and goes its way.
@@ -449,15 +362,12 @@ fn settle(
     requires { Rising lanes.now s × Countable lanes.now s entered.old }
     ensures { Settled lanes.now exit out.now stops.now s at.old answers.old entered.old at.new answers.new entered.new }
 {
-    let _all = known(at, answers, entered);
-    let mut j = 0;
-    while j < s {
-        let lane = lane_of(lanes[j]);
+    for j in 0..s {
+        let lane = usize::from(lanes[j]);
         let way = choose(exit, out[j], stops[j]);
         at[lane] = way.word;
         answers[lane] = way.answer;
-        entered[lane] = entered[lane] + 1;
-        j += 1;
+        entered[lane] += 1;
     }
 }
 
