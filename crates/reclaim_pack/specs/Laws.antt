@@ -60,28 +60,6 @@ table_out rk n total t l = rw (le-ltb t n l)
 
 -- ---- targets
 
-module _ (f : ℕ → ℕ) (k t r : ℕ) where
-  pub code_1 : k ≡ 1 → r ≡ f t → r ≡ follow_code f k t
-  unfolding follow_code
-  code_1 e p = rw e p
-
-  pub code_3 : k ≡ 3 → r ≡ f t → r ≡ follow_code f k t
-  unfolding follow_code
-  code_3 e p = rw e p
-
-  pub code_4 : k ≡ 4 → r ≡ f t → r ≡ follow_code f k t
-  unfolding follow_code
-  code_4 e p = rw e p
-
-pub code_rest : (f : ℕ → ℕ) (k t : ℕ) → (k ≡ 1 → ⊥) → (k ≡ 3 → ⊥) → (k ≡ 4 → ⊥) → t ≡ follow_code f k t
-unfolding follow_code
-code_rest f zero t a b c = refl
-code_rest f (suc zero) t a b c = absurd (a refl)
-code_rest f (suc (suc zero)) t a b c = refl
-code_rest f (suc (suc (suc zero))) t a b c = absurd (b refl)
-code_rest f (suc (suc (suc (suc zero)))) t a b c = absurd (c refl)
-code_rest f (suc (suc (suc (suc (suc k))))) t a b c = refl
-
 pub record Following (f : ℕ → ℕ) (commands end : ℕ) (cw₀ cw : List ℕ) (i : ℕ) : Type 0 where
   pub end_is : end ≡ commands
   pub few : commands ≤ command_limit
@@ -94,9 +72,6 @@ module _ (f : ℕ → ℕ) (commands end : ℕ) (cw₀ : List ℕ) where
   follow_start e l = record { end_is = e; few = l; upto = omega arith; words = refl }
 
   module _ (cw : List ℕ) (i : ℕ) (t : Following f commands end cw₀ cw i) where
-    pub follow_room : i < end → i < command_limit
-    follow_room l = omega (arith, t.end_is, t.few)
-
     pub follow_next : i < end → (r : ℕ) → r ≡ follow_code f (get_or cw (4 * i) 0) (get_or cw (4 * i + 3) 0) → Following f commands end cw₀ (set cw (4 * i + 3) r) (i + 1)
     unfolding followed_to followed_at
     follow_next l r e = rw (add-one i) (record {

@@ -8,16 +8,13 @@ ghost use Rattle.reclaim_pack.specs.Table.{plus_if, rank_to, ranks_to, table_ran
 
 pub mod answer;
 
-use memory::{BLOCKS, BlockWords, CommandWords, index_of, set_block};
+use memory::{BLOCKS, BlockWords, CommandWords, set_block};
 
 fn plus_if(n: u16, b: bool) -> u16
     requires { n < block_limit }
     ensures { result ≡ plus_if n b }
 {
-    if b {
-        return n + 1;
-    }
-    n
+    if b { n + 1 } else { n }
 }
 
 // The table of new numbers, and how many survive.
@@ -25,13 +22,10 @@ pub fn number(live: &[bool; BLOCKS], blocks: u16, table: &mut [u16; BLOCKS]) -> 
     requires { blocks ≤ block_limit }
     ensures { (table.new ≡ ranks_to live.now blocks table.old) × (result ≡ rank_to live.now blocks) }
 {
-    let end = index_of(blocks);
     let mut n: u16 = 0;
-    let mut b: usize = 0;
-    while b < end {
+    for b in 0..usize::from(blocks) {
         table[b] = n;
         n = plus_if(n, live[b]);
-        b += 1;
     }
     n
 }
@@ -42,20 +36,20 @@ fn rank_of(table: &[u16; BLOCKS], blocks: u16, total: u16, t: u16) -> u16
     ensures { result ≡ table_rank table.now blocks total t }
 {
     if t < blocks {
-        return table[index_of(t)];
+        table[usize::from(t)]
+    } else {
+        total
     }
-    total
 }
 
-// The fourth word of a command of code k.
+// The fourth word of a command of code k: a block's number at Goto, If and EndIf.
+#[tactic(auto, unfolding(reclaim_record::specs::Packed::follow_code))]
 fn follow_code(table: &[u16; BLOCKS], blocks: u16, total: u16, k: u16, t: u16) -> u16
     requires { blocks ≤ block_limit }
     ensures { result ≡ follow_code (table_rank table.now blocks total) k t }
 {
     match k {
-        1 => rank_of(table, blocks, total, t),
-        3 => rank_of(table, blocks, total, t),
-        4 => rank_of(table, blocks, total, t),
+        1 | 3 | 4 => rank_of(table, blocks, total, t),
         _ => t,
     }
 }
@@ -65,12 +59,8 @@ pub fn follow(cw: &mut CommandWords, commands: u16, table: &[u16; BLOCKS], block
     requires { (commands ≤ command_limit) × (blocks ≤ block_limit) }
     ensures { cw.new ≡ followed_to (table_rank table.now blocks total) commands cw.old }
 {
-    let end = index_of(commands);
-    let mut i: usize = 0;
-    while i < end {
-        let t = follow_code(table, blocks, total, cw[4 * i], cw[4 * i + 3]);
-        cw[4 * i + 3] = t;
-        i += 1;
+    for i in 0..usize::from(commands) {
+        cw[4 * i + 3] = follow_code(table, blocks, total, cw[4 * i], cw[4 * i + 3]);
     }
 }
 
@@ -82,8 +72,7 @@ fn follow_link(table: &[u16; BLOCKS], blocks: u16, total: u16, w: u16) -> u16
     if w == 0 {
         return 0;
     }
-    let k = rank_of(table, blocks, total, w - 1);
-    k + 1
+    rank_of(table, blocks, total, w - 1) + 1
 }
 
 // Block b to its new place, if it survives.
@@ -98,7 +87,7 @@ fn pack_block(
     requires { (b < blocks) × (blocks ≤ block_limit) × Small table.now blocks total × (table_rank table.now blocks total b < block_limit) }
     ensures { bw.new ≡ packed_at (table_rank table.now blocks total) live.now bw.old b }
 {
-    let i = index_of(b);
+    let i = usize::from(b);
     if !live[i] {
         return;
     }
@@ -122,9 +111,7 @@ pub fn pack(
     requires { (blocks ≤ block_limit) × Small table.now blocks total × ((b : ℕ) → b < blocks → table_rank table.now blocks total b < block_limit) }
     ensures { bw.new ≡ packed_to (table_rank table.now blocks total) live.now blocks bw.old }
 {
-    let mut b: u16 = 0;
-    while b < blocks {
+    for b in 0..blocks {
         pack_block(bw, live, b, table, blocks, total);
-        b += 1;
     }
 }
