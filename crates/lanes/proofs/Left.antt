@@ -19,10 +19,14 @@ use Rattle.runner.proofs.Rest.{run_rest}
 use Rattle.shop.specs.Shapes.{sheet_of}
 use Rattle.shop.specs.declared.Sheet as code
 use Rattle.lanes_model.specs.Walk.{Walked, unless_refused, blocks_entered}
-use Rattle.lanes_model.specs.Flat.{part, saves_from, saves_in, joined, left_by, walk_in, walk_refusal_in}
+use Rattle.lanes_model.specs.Flat.{Left, part, saves_from, saves_in, joined, left_by, walk_in, walk_refusal_in}
 use Rattle.lanes_model.proofs.Laws.Walks.{by_lanes, PassedIn, walk_passed_in, walk_in_lem}
 use Rattle.lanes.specs.Alone.{Alone, one_walked}
 use Rattle.lanes.specs.Calls.{left_of}
+use Rattle.std.specs.Prelude.{Ok, Err}
+use Rattle.model.specs.Refusals.{refusal_number}
+use Rattle.model.specs.declared.Refusal.{Refusal}
+use Rattle.checks.specs.Passed.{refuses}
 use Rattle.lanes.specs.Walks.{rans_from, LanesWalked}
 use Rattle.lanes.proofs.Saves.{save_whole}
 
@@ -80,14 +84,18 @@ sets_whole vs vs' e =
 
 -- ---- the call
 
-pub left_refused : (h : Sheet) (m : Memory) (b k : ℕ) (f : Save) (qs es : List ℕ) (vs : List ℤ) (n : ℕ) → n ≡ walk_refusal_in h m b k f → (n ≡ 0 → ⊥)
-    → left_of (record { refusal = n; read = 0 }) qs es vs ≡ left_by (walk_in h m b k f) qs es vs
+refused_by : (h : Sheet) (m : Memory) (b k : ℕ) (f : Save) (qs es : List ℕ) (vs : List ℤ) (n : ℕ) → n ≡ walk_refusal_in h m b k f → (n ≡ 0 → ⊥)
+    → ◌≡◌ {A = Left} (record { answer = n; read = 0; refusals = qs; counts = es; variables = vs }) (left_by (walk_in h m b k f) qs es vs)
 unfolding walk_in
-left_refused h m b k f qs es vs n e d = rw (← e) (go n d)
+refused_by h m b k f qs es vs n e d = rw (← e) (go n d)
   where
-    go : (n : ℕ) → (n ≡ 0 → ⊥) → left_of (record { refusal = n; read = 0 }) qs es vs ≡ left_by (unless_refused n (map (λ s. run_in h m b s lane_budget) (saves_in h k f)) (blocks_entered (script_of m).blocks b (saves_in h k f))) qs es vs
+    go : (n : ℕ) → (n ≡ 0 → ⊥) → ◌≡◌ {A = Left} (record { answer = n; read = 0; refusals = qs; counts = es; variables = vs }) (left_by (unless_refused n (map (λ s. run_in h m b s lane_budget) (saves_in h k f)) (blocks_entered (script_of m).blocks b (saves_in h k f))) qs es vs)
     go zero d = absurd (d refl)
     go (suc n) d = refl
+
+pub left_refused : (h : Sheet) (m : Memory) (b k : ℕ) (f : Save) (qs es : List ℕ) (vs : List ℤ) (e : Refusal) → refusal_number e ≡ walk_refusal_in h m b k f
+    → left_of (Err e) qs es vs ≡ left_by (walk_in h m b k f) qs es vs
+left_refused h m b k f qs es vs e p = refused_by h m b k f qs es vs (refusal_number e) p (refuses e)
 
 saves_of : (ks : List ℕ) (s : code.Sheet) (k : ℕ) (f : Save) → saves_from (length ks) s.atcs f 0 k ≡ saves_in (sheet_of ks s) k f
 unfolding sheet_of
@@ -95,7 +103,7 @@ saves_of ks s k f = rw length-map
 
 pub left_walked : (ks : List ℕ) (s : code.Sheet) (m : Memory) (b k : ℕ) (f : Save) (qs es : List ℕ) (r : ℕ) (qs' es' : List ℕ) (vs' : List ℤ) → walk_refusal_in (sheet_of ks s) m b k f ≡ 0
     → length f.variables ≡ k * variable_count → LanesWalked (script_of m).blocks b (length ks) s.atcs f k qs es r qs' es' vs'
-    → left_of (record { refusal = 0; read = r }) qs' es' vs' ≡ left_by (walk_in (sheet_of ks s) m b k f) qs es f.variables
+    → left_of (Ok r) qs' es' vs' ≡ left_by (walk_in (sheet_of ks s) m b k f) qs es f.variables
 left_walked ks s m b k f qs es r qs' es' vs' e l w =
     whole
     ∙ ap (λ z. left_by z qs es f.variables) (walked ∙ ap (by_lanes (script_of m).blocks b) (saves_of ks s k f) ∙ sym (walk_in_lem (sheet_of ks s) m b k f e))
@@ -112,7 +120,7 @@ left_walked ks s m b k f qs es r qs' es' vs' e l w =
     variables : vs' ≡ sets f.variables 0 (joined (map (λ (x : Ran). x.variables) (rans_from qs' es' vs' 0 k)))
     variables = sets_whole f.variables vs' w.long ∙ ap (sets f.variables 0) (sym (joined_parts qs' es' vs' 0 k long))
 
-    whole : left_of (record { refusal = 0; read = r }) qs' es' vs' ≡ left_by lanes qs es f.variables
+    whole : left_of (Ok r) qs' es' vs' ≡ left_by lanes qs es f.variables
     whole = λ i. record {
       answer = 0;
       read = r;
@@ -123,7 +131,7 @@ left_walked ks s m b k f qs es r qs' es' vs' e l w =
 
 left_alone : (ks : List ℕ) (s : code.Sheet) (m : Memory) (b : ℕ) (f : Save) (qs es : List ℕ) (r : ℕ) (qs' es' : List ℕ) (vs' : List ℤ) → walk_refusal_in (sheet_of ks s) m b 1 f ≡ 0
     → Alone (run (script_of m).blocks (reads f.items f.atcs f.flags f.times) lane_budget b f.variables) qs es f.variables r qs' es' vs'
-    → left_of (record { refusal = 0; read = r }) qs' es' vs' ≡ left_by (walk_in (sheet_of ks s) m b 1 f) qs es f.variables
+    → left_of (Ok r) qs' es' vs' ≡ left_by (walk_in (sheet_of ks s) m b 1 f) qs es f.variables
 left_alone ks s m b f qs es r qs' es' vs' e w =
     whole
     ∙ ap (λ z. left_by z qs es f.variables) (sym (walk_in_lem (sheet_of ks s) m b 1 f e ∙ ap (by_lanes (script_of m).blocks b) (sym (saves_of ks s 1 f) ∙ ap (λ x. x ∷ []) (save_whole ks s f p.lengths)) ∙ one_walked (script_of m) b p.judged p.here p.falling f))
@@ -137,7 +145,7 @@ left_alone ks s m b f qs es r qs' es' vs' e w =
     left : vs' ≡ (run (script_of m).blocks f lane_budget b f.variables).variables
     left = w.variables ∙ ap (λ (x : Ran). x.variables) same
 
-    whole : left_of (record { refusal = 0; read = r }) qs' es' vs'
+    whole : left_of (Ok r) qs' es' vs'
         ≡ left_by (record { answer = 0; runs = run (script_of m).blocks f lane_budget b f.variables ∷ []; read = (run (script_of m).blocks f lane_budget b f.variables).entered }) qs es f.variables
     whole = λ i. record {
       answer = 0;
@@ -149,5 +157,5 @@ left_alone ks s m b f qs es r qs' es' vs' e w =
 
 pub left_one : (ks : List ℕ) (s : code.Sheet) (m : Memory) (b k : ℕ) (f : Save) (qs es : List ℕ) (r : ℕ) (qs' es' : List ℕ) (vs' : List ℤ) → k ≡ 1 → walk_refusal_in (sheet_of ks s) m b k f ≡ 0
     → Alone (run (script_of m).blocks (reads f.items f.atcs f.flags f.times) lane_budget b f.variables) qs es f.variables r qs' es' vs'
-    → left_of (record { refusal = 0; read = r }) qs' es' vs' ≡ left_by (walk_in (sheet_of ks s) m b k f) qs es f.variables
+    → left_of (Ok r) qs' es' vs' ≡ left_by (walk_in (sheet_of ks s) m b k f) qs es f.variables
 left_one ks s m b k f qs es r qs' es' vs' q e w = rw q (left_alone ks s m b f qs es r qs' es' vs' (rw q at e) w)

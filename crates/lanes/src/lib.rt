@@ -1,8 +1,9 @@
 // One walk for many saves (02, A.8): from the setup block on in falling number, each block where some lane stands is read once for all the lanes that stand there.
 #![tactic(auto)]
 
-ghost use Rattle.std.specs.Prelude.{◌≡◌, cond, List, ℕ, ◌+◌, ◌-◌, ◌*◌, ◌≤◌, ◌<◌, eqb, ℤ, get_or, length};
+ghost use Rattle.std.specs.Prelude.{◌≡◌, Ok, List, ℕ, ◌+◌, ◌-◌, ◌*◌, ◌≤◌, ◌<◌, ℤ, get_or, length};
 ghost use Rattle.model.specs.Limits.{lane_budget, most_saves, most_items, variable_count, wide, wide16};
+ghost use Rattle.model.specs.Refusals.{refusal_in};
 ghost use Rattle.model.specs.Run.{run};
 ghost use Rattle.model.specs.Memory.{script_of};
 ghost use Rattle.memory.specs.View.{memory_of};
@@ -24,28 +25,11 @@ use lanes_block::visit_block;
 use lanes_expr::{LANES, Widths};
 use lanes_falls::falls_from;
 use memory::{BlockWords, CommandWords, Counts, NodeWords, Values};
-use model::{BlockNo, FLAGS, TIMES, VARIABLES};
+use model::{BlockNo, FLAGS, Refusal, TIMES, VARIABLES, refusal_in};
 use runner::run_copied;
 use shop::Sheet;
 
 // ---- the lanes that stand somewhere
-
-// One more where the two are equal.
-fn same(a: u32, b: u32) -> usize
-    ensures { result ≡ cond (eqb a b) 1 0 }
-{
-    if a == b {
-        return 1;
-    }
-    0
-}
-
-fn known_lanes(lanes: &[u8; LANES]) -> usize
-    ensures { length lanes.now ≡ most_saves }
-{
-    let all: &[u8] = lanes;
-    all.len()
-}
 
 // The lanes of the first k that stand at that word, in their order. Every lane is written and only counted where it stands
 // there: without a branch the loop waits for no guess.
@@ -53,13 +37,10 @@ fn gather(at: &[u32; LANES], k: usize, word: u32, lanes: &mut [u8; LANES]) -> us
     requires { k ≤ most_saves }
     ensures { Gathered at.now k word lanes.new result }
 {
-    let _all = known_lanes(lanes);
-    let mut s: usize = 0;
-    let mut l: usize = 0;
-    while l < k {
+    let mut s = 0;
+    for l in 0..k {
         lanes[s] = l as u8;
-        s = s + same(at[l], word);
-        l += 1;
+        s += usize::from(at[l] == word);
     }
     s
 }
@@ -67,13 +48,7 @@ fn gather(at: &[u32; LANES], k: usize, word: u32, lanes: &mut [u8; LANES]) -> us
 fn higher(most: u32, word: u32, top: u32) -> u32
     ensures { Higher most word top result }
 {
-    if word > top {
-        return most;
-    }
-    if word > most {
-        return word;
-    }
-    most
+    if word > top { most } else { most.max(word) }
 }
 
 // The highest word of the first k lanes that is at most top.
@@ -82,10 +57,8 @@ fn highest_below(at: &[u32; LANES], k: usize, top: u32) -> u32
     ensures { Highest at.now top k result }
 {
     let mut most = 0;
-    let mut l: usize = 0;
-    while l < k {
+    for l in 0..k {
         most = higher(most, at[l], top);
-        l += 1;
     }
     most
 }
@@ -95,7 +68,7 @@ fn highest(at: &[u32; LANES], k: usize, top: u32) -> u32
     requires { k ≤ most_saves }
     ensures { Highest at.now top k result }
 {
-    let most = highest_below(at, k, 4294967295);
+    let most = highest_below(at, k, u32::MAX);
     if most <= top {
         return most;
     }
@@ -169,7 +142,7 @@ fn walk_down(
     ensures { (v : List ℤ) → Down (save_in w.items w.atcs (save_of items.now atcs.now flags.now times.now v)) (script_of (memory_of ws.now val.now cw.now bw.now counts)).blocks counts.blocks w.lanes at.old answers.old entered.old vars.old result at.new answers.new entered.new vars.new }
 {
     let mut read: u32 = 0;
-    let mut top = counts.blocks as u32;
+    let mut top = u32::from(counts.blocks);
     let mut word = highest(at, w.lanes, top);
     while word != 0 {
         visit_standing(
@@ -182,25 +155,14 @@ fn walk_down(
     read
 }
 
-fn known_counts(at: &[u32; LANES], entered: &[u32; LANES]) -> usize
-    ensures { (length at.now ≡ most_saves) × (length entered.now ≡ most_saves) }
-{
-    let a: &[u32] = at;
-    let b: &[u32] = entered;
-    a.len() + b.len()
-}
-
 // The first k lanes stand at that word and have entered nothing.
 fn begin(k: usize, word: u32, at: &mut [u32; LANES], entered: &mut [u32; LANES])
     requires { k ≤ most_saves }
     ensures { Begun k word at.old entered.old at.new entered.new }
 {
-    let _all = known_counts(at, entered);
-    let mut l: usize = 0;
-    while l < k {
+    for l in 0..k {
         at[l] = word;
         entered[l] = 0;
-        l += 1;
     }
 }
 
@@ -209,21 +171,18 @@ fn last_answer(word: u32, answer: u8) -> u8
     ensures { result ≡ last_answer word answer }
 {
     if word == 0 {
-        return answer;
+        answer
+    } else {
+        Refusal::BudgetSpent.number()
     }
-    15
 }
 
 fn finish(at: &[u32; LANES], k: usize, answers: &mut [u8; LANES])
     requires { k ≤ most_saves }
     ensures { Each 0 (λ l a. last_answer (get_or at.now l 0) a) k answers.old answers.new }
 {
-    let _all = known_lanes(answers);
-    let mut l: usize = 0;
-    while l < k {
-        let a = answers[l];
-        answers[l] = last_answer(at[l], a);
-        l += 1;
+    for l in 0..k {
+        answers[l] = last_answer(at[l], answers[l]);
     }
 }
 
@@ -263,13 +222,6 @@ fn walk_all(
 
 // ---- the call
 
-// The refusal or 0, and how many blocks were read.
-#[derive(Clone, Copy)]
-pub struct Walked {
-    pub refusal: u8,
-    pub read: u32,
-}
-
 // Check 12, first half: each slice is as long as k saves have it.
 fn lengths_ok(
     k: usize,
@@ -284,25 +236,18 @@ fn lengths_ok(
     requires { (k < wide) × (n < wide16) × (m < wide16) × (k * n < wide * wide16) × (k * m < wide * wide16) }
     ensures { result ≡ lengths_are k n m (save_of items.now atcs.now flags.now times.now vars.now) }
 {
-    let a = items.len() == k * n;
-    let b = atcs.len() == k * m;
-    let c = flags.len() == k * FLAGS;
-    let d = times.len() == k * TIMES;
-    let e = vars.len() == k * VARIABLES;
-    a & (b & (c & (d & e)))
+    items.len() == k * n
+        && atcs.len() == k * m
+        && flags.len() == k * FLAGS
+        && times.len() == k * TIMES
+        && vars.len() == k * VARIABLES
 }
 
 // Check 12, second half: the values of all saves at once.
 fn values_ok(items: &[i16], atcs: &[u8], flags: &[u8]) -> bool
     ensures { result ≡ values_ok items.now atcs.now flags.now }
 {
-    if !counts_ok(items) {
-        return false;
-    }
-    if !bits_ok(atcs) {
-        return false;
-    }
-    bits_ok(flags)
+    counts_ok(items) && bits_ok(atcs) && bits_ok(flags)
 }
 
 // Check 12 of k saves one behind another.
@@ -334,16 +279,10 @@ fn check_walk(cw: &CommandWords, bw: &BlockWords, counts: Counts, start: BlockNo
     requires { Safe cw.now bw.now counts.blocks × (start.0 < counts.blocks) }
     ensures { (ws : List ℕ) (val : List ℤ) → result ≡ walk_ok (script_of (memory_of ws val cw.now bw.now counts)).blocks start.0 k }
 {
-    if k < 1 {
-        return false;
-    }
-    if k > 64 {
-        return false;
-    }
-    falls_from(cw, bw, counts, start)
+    (1..=64).contains(&k) && falls_from(cw, bw, counts, start)
 }
 
-// Checks 1 to 7, 12 and 22, in this order: the number of the first that refuses, or 0.
+// Checks 1 to 7, 12 and 22, in this order: the first that refuses answers.
 fn check_all(
     attached: &[u8],
     sheet: Sheet,
@@ -359,20 +298,17 @@ fn check_all(
     flags: &[u8],
     times: &[i16],
     vars: &[i32],
-) -> u8
-    ensures { result ≡ walk_refusal_in (sheet_of attached.now sheet) (memory_of ws.now val.now cw.now bw.now counts) start.0 k (save_of items.now atcs.now flags.now times.now vars.now) }
+) -> Result<(), Refusal>
+    ensures { refusal_in result ≡ walk_refusal_in (sheet_of attached.now sheet) (memory_of ws.now val.now cw.now bw.now counts) start.0 k (save_of items.now atcs.now flags.now times.now vars.now) }
 {
-    let refused = check_call(attached, sheet, ws, val, cw, bw, counts, start);
-    if refused != 0 {
-        return refused;
-    }
+    check_call(attached, sheet, ws, val, cw, bw, counts, start)?;
     if !check_saves(attached, sheet, k, items, atcs, flags, times, vars) {
-        return 12;
+        return Err(Refusal::BadSave);
     }
     if !check_walk(cw, bw, counts, start, k) {
-        return 22;
+        return Err(Refusal::BadWalk);
     }
-    0
+    Ok(())
 }
 
 // One save: its own run, which finds no other lane at a block and so reads as many blocks as it enters.
@@ -397,7 +333,7 @@ fn walk_one(
     let ran = run_copied(
         ws, val, cw, bw, counts, start, items, atcs, flags, times, vars, 4096,
     );
-    answers[0] = ran.refusal;
+    answers[0] = refusal_in(ran.outcome);
     entered[0] = ran.entered;
     ran.entered
 }
@@ -422,7 +358,7 @@ fn walk_saves(
     entered: &mut [u32; LANES],
 ) -> u32
     requires { walk_refusal_in (sheet_of attached.now sheet) (memory_of ws.now val.now cw.now bw.now counts) start.0 k (save_of items.now atcs.now flags.now times.now vars.old) ≡ 0 }
-    ensures { left_of (record { refusal = 0; read = result }) answers.new entered.new vars.new ≡ left_by (walk_in (sheet_of attached.now sheet) (memory_of ws.now val.now cw.now bw.now counts) start.0 k (save_of items.now atcs.now flags.now times.now vars.old)) answers.old entered.old vars.old }
+    ensures { left_of (Ok result) answers.new entered.new vars.new ≡ left_by (walk_in (sheet_of attached.now sheet) (memory_of ws.now val.now cw.now bw.now counts) start.0 k (save_of items.now atcs.now flags.now times.now vars.old)) answers.old entered.old vars.old }
 {
     if k == 1 {
         return walk_one(
@@ -439,7 +375,8 @@ fn walk_saves(
     )
 }
 
-// Walks the blocks from start on for k saves lent one behind another, with a budget of 4,096 each. Refused, it writes nothing.
+// Walks the blocks from start on for k saves lent one behind another, with a budget of 4,096 each: how many blocks were read.
+// Refused, it writes nothing. What each lane answers stays a number in an array, which C reads.
 pub fn run_all(
     attached: &[u8],
     sheet: Sheet,
@@ -457,24 +394,14 @@ pub fn run_all(
     vars: &mut [i32],
     answers: &mut [u8; LANES],
     entered: &mut [u32; LANES],
-) -> Walked
+) -> Result<u32, Refusal>
     ensures { left_of result answers.new entered.new vars.new ≡ left_by (walk_in (sheet_of attached.now sheet) (memory_of ws.now val.now cw.now bw.now counts) start.0 k (save_of items.now atcs.now flags.now times.now vars.old)) answers.old entered.old vars.old }
 {
-    let refused = check_all(
+    check_all(
         attached, sheet, ws, val, cw, bw, counts, start, k, items, atcs, flags, times, vars,
-    );
-    if refused != 0 {
-        return Walked {
-            refusal: refused,
-            read: 0,
-        };
-    }
-    let read = walk_saves(
+    )?;
+    Ok(walk_saves(
         attached, sheet, ws, val, cw, bw, counts, start, k, items, atcs, flags, times, vars,
         answers, entered,
-    );
-    Walked {
-        refusal: 0,
-        read: read,
-    }
+    ))
 }
