@@ -9,11 +9,14 @@ ghost use Rattle.judge_trees.specs.Codes.{Before, Next, Joined, High};
 use memory::{NODES, NodeWords, Values, kind_of};
 use model::{Kind, LEAST16};
 
+// The largest signed number of 16 bits.
+const MOST16: i32 = 32767;
+
 // The number of an Imm16, which has to have 16 bits.
 fn imm16_size(z: i32) -> Option<usize>
     ensures { IfSome result (λ r. Number z wide16 r) }
 {
-    if z < LEAST16 || 32767 < z {
+    if z < LEAST16 || MOST16 < z {
         None
     } else {
         Some(1)
