@@ -30,7 +30,7 @@ pub struct Word {
     pub count: u16,
 }
 
-// The word where there is no room for another key.
+// The word where there is no room for another key: a number as 0 is, since the list of a condition holds words.
 pub const NO_ROOM: u16 = 65535;
 
 // ---- keys

@@ -26,7 +26,7 @@ use memory::{CommandWords, NODE_LIMIT, NodeWords, Values, kind_of};
 use model::{ItemId, Kind, Op1, Op2};
 use shop::{COUNT_END, COUNT_FIRST, Codes, ENTRIES, ITEM_FIRST, Row, SLOTS, insert_row};
 
-// What a block's commands leave: which slots' variables they wrote, the limit, and last_if, 0 or 1 + the root of the last If's condition.
+// What a block's commands leave: which slots' variables they wrote, the limit, and last_if, 0 or 1 + the root of the last If's condition, a link as those of the script's words.
 // The numbers written lie in two lent arrays, and mean something only where the mask has the slot's bit: the arrays are never cleared.
 #[derive(Clone, Copy)]
 pub struct Scanned {
@@ -52,14 +52,6 @@ fn bit(i: usize) -> u32
     ensures { result ≡ 2 ^ i }
 {
     1 << i
-}
-
-// How long the array is, for the proofs.
-pub fn size(xs: &[i16; SLOTS]) -> usize
-    ensures { length xs.now ≡ slot_count }
-{
-    let part: &[i16] = xs;
-    part.len()
 }
 
 // A number written goes into the array, and its bit into the mask; one that cannot be read leaves what was there.
@@ -292,7 +284,7 @@ fn hides_by(item: Option<i16>) -> bool
     item.is_none_or(|id| id < 0)
 }
 
-// Whether the block hides a slot, of those that it wrote a count of. The counts' numbers do not matter.
+// Whether the block hides a slot, of those that it wrote a count of. The counts' numbers do not matter. The loop goes from bit to bit (01), and not over all slots.
 pub fn hides(s: Scanned, ids: &[i16; SLOTS]) -> bool
     ensures { (cs : List ℤ) → length cs ≡ slot_count → result ≡ hides_one (table_of s.item_mask ids.now) (table_of s.count_mask cs) }
 {
@@ -417,7 +409,7 @@ fn update_slot(
     true
 }
 
-// The slots that the block wrote to, the lowest first; n codes of more are the negated requirements, n being over ENTRIES where they are too many. False where a slot would have one requirement too many.
+// The slots that the block wrote to, the lowest first; n codes of more are the negated requirements, n being over ENTRIES where they are too many. False where a slot would have one requirement too many. The loop goes from bit to bit (01), and not over all slots.
 pub fn update_slots(
     items: &mut [i32; SLOTS],
     limits: &mut [i16; SLOTS],

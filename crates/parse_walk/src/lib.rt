@@ -108,7 +108,7 @@ fn walk_all(
     Ok(())
 }
 
-// With tables for what a usual shop reaches, whatever the script's size.
+// With tables for what a usual shop reaches, whatever the script's size. This walk and the one in large tables stay two functions: they differ in the sizes of nine tables, and only large ones promise room.
 fn walk_few(
     ws: &NodeWords,
     val: &Values,
