@@ -17,8 +17,13 @@ ghost use Rattle.expr_build.specs.Tests.{with_zero, join_codes, rate_test, acqui
 use expr_negate::negate;
 use memory::{NodeWords, Values, code_one, code_two, push_node};
 use model::{ItemId, LEAST16, Op1, Op2};
-use shop::{Row, capacity};
+use shop::Row;
 use shop_codes::{Subject, is_missing, subject_of};
+
+// The codes of nodes that hold a number.
+const IMM16: u16 = 11;
+
+const IMM32: u16 = 12;
 
 // How an item counts as acquired: of is Item or Atc, id is its id there, rate that of a timer or 0.
 #[derive(Clone, Copy)]
@@ -49,7 +54,7 @@ pub fn push_imm16(ws: &mut NodeWords, val: &mut Values, n: u16, k: u16) -> u16
     requires { (n < node_limit) × (k < half16) }
     ensures { PutExpr (nodes_in ws.old val.old n) (imm16 (pos k)) (nodes_in ws.new val.new result) }
 {
-    push_node(ws, val, n, 11, 0, 0, k as i32)
+    push_node(ws, val, n, IMM16, 0, 0, k as i32)
 }
 
 // Expr::imm: Imm16 where the number fits.
@@ -58,12 +63,12 @@ pub fn push_imm(ws: &mut NodeWords, val: &mut Values, n: u16, z: i32) -> u16
     ensures { PutImm (nodes_in ws.old val.old n) z (nodes_in ws.new val.new result) }
 {
     if z < LEAST16 {
-        return push_node(ws, val, n, 12, 0, 0, z);
+        return push_node(ws, val, n, IMM32, 0, 0, z);
     }
     if z > 32767 {
-        return push_node(ws, val, n, 12, 0, 0, z);
+        return push_node(ws, val, n, IMM32, 0, 0, z);
     }
-    push_node(ws, val, n, 11, 0, 0, z)
+    push_node(ws, val, n, IMM16, 0, 0, z)
 }
 
 // o[z] != 0
@@ -91,8 +96,7 @@ fn push_subject(ws: &mut NodeWords, val: &mut Values, n: u16, code: u64) -> u16
     requires { n + size (test (subject (requirement_of code))) ≤ node_limit }
     ensures { PutExpr (nodes_in ws.old val.old n) (test (subject (requirement_of code))) (nodes_in ws.new val.new result) }
 {
-    let about = subject_of(code);
-    match about {
+    match subject_of(code) {
         Subject::Item(i) => push_compare(ws, val, n, Op1::Item, i as i32),
         Subject::Atc(a) => push_compare(ws, val, n, Op1::Atc, a as i32),
         Subject::Flag(f) => push_flag(ws, val, n, f),
@@ -117,15 +121,11 @@ pub fn push_tests(ws: &mut NodeWords, val: &mut Values, n: u16, codes: &Row, len
     requires len_bound { n + size (join_codes codes.now len) ≤ node_limit }
     ensures { PutExpr (nodes_in ws.old val.old n) (join_codes codes.now len) (nodes_in ws.new val.new result) }
 {
-    capacity(codes);
     let mut at = push_test(ws, val, n, codes[0]);
-    let end = len as usize;
-    let mut i = 1;
-    while i < end {
+    for i in 1..len as usize {
         let left_root = at - 1;
         let right_end = push_test(ws, val, at, codes[i]);
         at = push_two(ws, val, right_end, Op2::BitAnd, left_root, right_end - 1);
-        i += 1;
     }
     at
 }
@@ -146,13 +146,11 @@ pub fn push_acquired(ws: &mut NodeWords, val: &mut Values, n: u16, a: Acquired) 
     requires { (n + size (acquired_of a) ≤ node_limit) × (a.rate < half16) }
     ensures { PutExpr (nodes_in ws.old val.old n) (acquired_of a) (nodes_in ws.new val.new result) }
 {
-    let of = a.of;
-    let rate = a.rate;
-    let n1 = push_compare(ws, val, n, of, a.id as i32);
-    if rate == 0 {
+    let n1 = push_compare(ws, val, n, a.of, a.id as i32);
+    if a.rate == 0 {
         return n1;
     }
-    let n2 = push_rate(ws, val, n1, rate);
+    let n2 = push_rate(ws, val, n1, a.rate);
     push_two(ws, val, n2, Op2::BitOr, n1 - 1, n2 - 1)
 }
 
