@@ -27,6 +27,7 @@ fn write_expr(ws: &NodeWords, val: &Values, i: u16, out: &mut [u8], at: usize) -
     requires { (i < node_limit) × Room out.old at (node_image (nodes_in ws.now val.now 0) (suc i) i) }
     ensures { Stored out.old at (node_image (nodes_in ws.now val.now 0) (suc i) i) out.new result }
 {
+    // The cast and the two arms of Imm stay: the proof knows a node by i itself, and the image of each kind by its own law.
     let j = i as usize;
     let c = ws[3 * j];
     let p = write_short(out, at, c);
@@ -129,6 +130,7 @@ fn write_tail(
     requires { (i < counts.commands) × KeptBy counts × Room out.old at (command_tail (coded_of ws.now val.now cw.now counts) i k) }
     ensures { Stored out.old at (command_tail (coded_of ws.now val.now cw.now counts) i k) out.new result }
 {
+    // An arm each for Goto and EndIf: each code has its own law.
     match k {
         1 => write_short(out, at, cw[4 * i + 3]),
         2 => write_set(ws, val, cw, counts, i, out, at),
