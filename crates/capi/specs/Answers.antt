@@ -9,7 +9,7 @@ use Rattle.memory.specs.View.{memory_of}
 use Rattle.image_read.specs.Outcome.{Outcome, held, nothing}
 use Rattle.capi_values.specs.Values.{counts_by}
 use Rattle.capi.specs.declared.Kept.{Kept}
-use Rattle.preview.specs.declared.Previewed as Preview
+use Rattle.preview.specs.Shown as Preview
 use Rattle.capi.specs.declared.Ran.{Ran}
 use Rattle.capi.specs.declared.Previewed.{Previewed}
 
@@ -33,5 +33,5 @@ read_as r ws vs cw bw = outcome_by r.refusal (memory_of ws vs cw bw (counts_in r
 abbrev pub ran_as : Ran → List ℤ → Run.Ran
 ran_as r v = record { answer = r.refusal; variables = v; entered = r.entered }
 
-abbrev pub previewed_as : Previewed → Preview.Previewed
+abbrev pub previewed_as : Previewed → Preview.Answer
 previewed_as r = record { refusal = r.refusal; items = r.items; counts = r.counts; temp = r.temp }

@@ -1,7 +1,7 @@
 // The calls of the engine for programs in Rust and C: numbers, slices and references to arrays of numbers go in, structs of numbers come out.
 #![tactic(auto)]
 
-ghost use Rattle.std.specs.Prelude.{◌≡◌, replicate};
+ghost use Rattle.std.specs.Prelude.{◌≡◌, replicate, get_or, pos};
 ghost use Rattle.model.specs.Limits.{block_limit};
 ghost use Rattle.model.specs.Image.{read_image};
 ghost use Rattle.model.specs.RecordCalls.{run_in, write_in};
@@ -17,7 +17,7 @@ ghost use Rattle.shop_arrays.specs.Arrays.{arrays_in, shop_from};
 ghost use Rattle.compile.specs.Answer.{call_of, CompiledAs};
 ghost use Rattle.reclaim.specs.Answer.{ReclaimedAs};
 ghost use Rattle.parse.specs.Answer.{ParsedInto};
-ghost use Rattle.preview.specs.Shown.{previewed_of};
+ghost use Rattle.preview.specs.Shown.{answer_in, previewed_of};
 ghost use Rattle.shop_with_slots.specs.Twenty.{twenty};
 ghost use Rattle.capi_values.specs.Values.{counts_by, sheet_by};
 ghost use Rattle.capi.specs.Answers.{counts_in, loader_by, read_as, ran_as, previewed_as};
@@ -25,10 +25,10 @@ ghost use Rattle.capi.specs.Answers.{counts_in, loader_by, read_as, ran_as, prev
 use births::start_anew;
 use capi_values::{counts_by, sheet_by};
 use compile::compile_arrays;
-use image_read::{Image, read_script};
+use image_read::read_script;
 use image_write::write_script;
 use memory::{BLOCKS, Births, BlockWords, CommandWords, Counts, NodeWords, Values};
-use model::{BlockNo, Loader};
+use model::{BlockNo, Loader, Refusal, refusal_in};
 use parse::parse_arrays;
 use preview::preview_arrays;
 use reclaim::reclaim;
@@ -95,16 +95,23 @@ fn kept_by(refusal: u8, counts: Counts, compiles: u32) -> Kept
     }
 }
 
-fn previewed_by(p: preview::Previewed) -> Previewed
-    ensures { previewed_as result ≡ p }
+// Refused, each pair is 0 and variable 0 is as the save has it.
+fn previewed_by(answer: Result<preview::Previewed, Refusal>, vars: &[i32]) -> Previewed
+    ensures { previewed_as result ≡ answer_in (get_or vars.now 0 (pos 0)) answer }
 {
-    let items = p.items;
-    let counts = p.counts;
-    Previewed {
-        refusal: p.refusal,
-        items: items,
-        counts: counts,
-        temp: p.temp,
+    match answer {
+        Ok(p) => Previewed {
+            refusal: 0,
+            items: p.items,
+            counts: p.counts,
+            temp: p.temp,
+        },
+        Err(e) => Previewed {
+            refusal: e.number(),
+            items: [0; SLOTS],
+            counts: [0; SLOTS],
+            temp: vars.first().copied().unwrap_or(0),
+        },
     }
 }
 
@@ -120,10 +127,9 @@ pub fn lk_read(
     ensures { (read_as result ws.new val.new cw.new bw.new ≡ read_into (empty_in ws.old val.old cw.old bw.old) (read_image bytes.now)) × (births.new ≡ replicate block_limit 0) × (result.compiles ≡ 0) }
 {
     start_anew(births);
-    let r = read_script(bytes, 0, ws, val, cw, bw);
-    match r {
-        Image::Read(k) => kept_by(0, k, 0),
-        Image::No(e) => kept_by(e, counts_by(0, 0, 0), 0),
+    match read_script(bytes, 0, ws, val, cw, bw) {
+        Ok(counts) => kept_by(0, counts, 0),
+        Err(e) => kept_by(e.number(), counts_by(0, 0, 0), 0),
     }
 }
 
@@ -141,10 +147,15 @@ pub fn lk_write(
     ensures { (wrote result.refusal out.new ≡ write_in (memory_of ws.now val.now cw.now bw.now (counts_by nodes commands blocks)) out.old) × (result.len ≡ length_in (memory_of ws.now val.now cw.now bw.now (counts_by nodes commands blocks)) out.old) }
 {
     let counts = counts_by(nodes, commands, blocks);
-    let w = write_script(ws, val, cw, bw, counts, out);
-    Written {
-        refusal: w.refusal,
-        len: w.len,
+    match write_script(ws, val, cw, bw, counts, out) {
+        Ok(len) => Written {
+            refusal: 0,
+            len: len,
+        },
+        Err(e) => Written {
+            refusal: e.number(),
+            len: 0,
+        },
     }
 }
 
@@ -191,7 +202,7 @@ pub fn lk_run(
         budget,
     );
     Ran {
-        refusal: r.refusal,
+        refusal: refusal_in(r.outcome),
         entered: r.entered,
     }
 }
@@ -240,8 +251,10 @@ pub fn lk_compile(
         codes,
         lens,
     );
-    let kept = r.counts;
-    kept_by(r.refusal, kept, r.compiles)
+    match r {
+        Ok(c) => kept_by(0, c.counts, c.compiles),
+        Err(e) => kept_by(e.number(), counts, compiles),
+    }
 }
 
 // Takes back the blocks that no root reaches by next, else and command targets: the others keep their order and get the numbers from 0 on,
@@ -262,9 +275,10 @@ pub fn lk_reclaim(
     ensures { ReclaimedAs (born_of ws.old val.old cw.old bw.old (counts_by nodes commands blocks) births.old compiles) roots.now moved.old result.refusal (born_of ws.new val.new cw.new bw.new (counts_in result) births.new result.compiles) moved.new }
 {
     let counts = counts_by(nodes, commands, blocks);
-    let r = reclaim(ws, val, cw, bw, births, counts, roots, moved);
-    let left = r.counts;
-    kept_by(r.refusal, left, compiles)
+    match reclaim(ws, val, cw, bw, births, counts, roots, moved) {
+        Ok(left) => kept_by(0, left, compiles),
+        Err(e) => kept_by(e.number(), counts, compiles),
+    }
 }
 
 // The arrays of a shop from any number of slots, each with a row of codes. As many slots are given as there are items; what another slice
@@ -310,7 +324,7 @@ pub fn lk_parse(
 {
     let sheet = sheet_by(atcs, timer5, timer10, timer15);
     let counts = counts_by(nodes, commands, blocks);
-    parse_arrays(
+    let answer = parse_arrays(
         attached,
         sheet,
         ws,
@@ -323,7 +337,8 @@ pub fn lk_parse(
         limits,
         codes,
         lens,
-    )
+    );
+    refusal_in(answer)
 }
 
 // What the shop that the arrays stand for means under a save.
@@ -349,5 +364,5 @@ pub fn lk_preview(
     let r = preview_arrays(
         attached, sheet, items, limits, codes, lens, counts, held, flags, times, vars,
     );
-    previewed_by(r)
+    previewed_by(r, vars)
 }

@@ -1,5 +1,5 @@
 -- The program's answer by what its input was read as: an image in empty arrays parses as its blocks do. Assumes nothing.
-use Rattle.std.specs.Prelude.{◌≡◌, refl, List, [], ℕ, ◌≤◌, ◌<◌, length, drop, ℤ}
+use Rattle.std.specs.Prelude.{◌≡◌, refl, List, [], ℕ, ◌≤◌, ◌<◌, length, drop, ℤ, Ok, Err}
 use Rattle.std.proofs.Common.{sym, ap, ◌∙◌, subst, le-leb, arith}
 use Rattle.std.proofs.lemmas.Bool.{lt-leb}
 use Rattle.model.specs.Limits.{command_limit, node_limit, input_limit}
@@ -21,8 +21,8 @@ use Rattle.memory.specs.ReadRecord.{Empty, read_judged, read_blocks_lem}
 use Rattle.memory.specs.declared.Counts.{Counts}
 use Rattle.image_read.specs.Outcome.{outcome, read_into}
 use Rattle.image_read.specs.Caller.{was_accepted, was_refused}
-use Rattle.image_read.specs.declared.Image.{Image}
-use Rattle.image_read.specs.declared.Image.TheVariants.{Read, No}
+use Rattle.model.specs.Refusals.{refusal_number}
+use Rattle.model.specs.declared.Refusal.{Refusal}
 use Rattle.model.specs.Printer.{refused_text, parsed_text, input_text, slots}
 use Rattle.memory.specs.View.{memory_of}
 use Rattle.slots_sheet.specs.declared.Heading.{Heading}
@@ -62,7 +62,7 @@ put_stands m e long s bs r p =
     }
 
 pub read_stands : (ws : List ℕ) (vs : List ℤ) (cw bw : List ℕ) → Long (memory_in ws vs cw bw 0 0 0) → (ws' : List ℕ) (vs' : List ℤ) (cw' bw' : List ℕ) (s : List ℕ) (k : Counts)
-    → outcome (Read k) ws' vs' cw' bw' ≡ read_into (memory_in ws vs cw bw 0 0 0) (read_image s) → Stands s (memory_of ws' vs' cw' bw' k)
+    → outcome (Ok k) ws' vs' cw' bw' ≡ read_into (memory_in ws vs cw bw 0 0 0) (read_image s) → Stands s (memory_of ws' vs' cw' bw' k)
 read_stands ws vs cw bw long ws' vs' cw' bw' s k p =
     let a = was_accepted ws vs cw bw ws' vs' cw' bw' (read_image s) k p in
     subst (Stands s) (sym a.after) (put_stands (memory_in ws vs cw bw 0 0 0) (record { blocks = refl; commands = refl; nodes = refl }) long s a.blocks a.rest a.read)
@@ -102,12 +102,12 @@ pub record Headed (s : List ℕ) (h : Heading) (ks : List ℕ) : Type 0 where
   pub read : read_head s ≡ got (head_of h ks) (drop h.at s)
 
 module _ (s : List ℕ) (h : Heading) (ks : List ℕ) (d : Headed s h ks) where
-  module _ (ws : List ℕ) (vs : List ℤ) (cw bw : List ℕ) (ws' : List ℕ) (vs' : List ℤ) (cw' bw' : List ℕ) (a : Image) (p : outcome a ws' vs' cw' bw' ≡ read_into (memory_in ws vs cw bw 0 0 0) (read_image (drop h.at s))) where
-    pub image_parsed : Long (memory_in ws vs cw bw 0 0 0) → (k : Counts) → a ≡ Read k
+  module _ (ws : List ℕ) (vs : List ℤ) (cw bw : List ℕ) (ws' : List ℕ) (vs' : List ℤ) (cw' bw' : List ℕ) where
+    pub image_parsed : Long (memory_in ws vs cw bw 0 0 0) → (k : Counts) → outcome (Ok k) ws' vs' cw' bw' ≡ read_into (memory_in ws vs cw bw 0 0 0) (read_image (drop h.at s))
         → parsed_text (parse_in (head_of h ks).sheet (memory_of ws' vs' cw' bw' k) h.setup) ≡ slots s
-    image_parsed long k e =
-        let z = read_stands ws vs cw bw long ws' vs' cw' bw' (drop h.at s) k (rw e at p) in
+    image_parsed long k p =
+        let z = read_stands ws vs cw bw long ws' vs' cw' bw' (drop h.at s) k p in
         ap parsed_text (z.parses (head_of h ks).sheet h.setup) ∙ sym (slots_parsed s d.short (head_of h ks) (drop h.at s) d.read z.blocks z.rest z.read)
 
-    pub image_no : (e : ℕ) → a ≡ No e → refused_text e ≡ slots s
-    image_no e q = sym (slots_image_no s d.short (head_of h ks) (drop h.at s) d.read e (was_refused ws vs cw bw ws' vs' cw' bw' (read_image (drop h.at s)) e (rw q at p)).0)
+    pub image_no : (e : Refusal) → outcome (Err e) ws' vs' cw' bw' ≡ read_into (memory_in ws vs cw bw 0 0 0) (read_image (drop h.at s)) → refused_text (refusal_number e) ≡ slots s
+    image_no e p = sym (slots_image_no s d.short (head_of h ks) (drop h.at s) d.read (refusal_number e) (was_refused ws vs cw bw ws' vs' cw' bw' (read_image (drop h.at s)) e p).0)

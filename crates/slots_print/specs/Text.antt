@@ -1,5 +1,5 @@
 -- The text of a parse by its answer, and that it has room in the array. Assumes nothing.
-use Rattle.std.specs.Prelude.{◌≡◌, refl, List, ℕ, zero, suc, ◌≤◌, length}
+use Rattle.std.specs.Prelude.{◌≡◌, refl, List, ℕ, zero, suc, ◌≤◌, length, Ok, Err}
 use Rattle.std.proofs.Common.{sym, ◌∙◌, arith}
 use Rattle.std.proofs.Math.Path.{ap}
 use Rattle.model.specs.Limits.{slot_count}
@@ -10,8 +10,10 @@ use Rattle.shop.specs.declared.Shop.{Shop}
 use Rattle.shop.specs.Good.{GoodShop}
 use Rattle.slots_text.specs.Written.{text_limit, Wrote}
 use Rattle.slots_text.specs.Lines.{FewEach, refused_space, lines_space}
-use Rattle.parse.specs.Answer.{answer_of, ParsedAs}
-use Rattle.parse.specs.declared.ParsedShop.{ParsedShop}
+use Rattle.model.specs.Refusals.{refusal_number}
+use Rattle.model.specs.declared.Refusal.{Refusal}
+use Rattle.parse.specs.Answer.{HandedOut}
+use Rattle.slots_print.specs.Refuses.{refuses}
 
 -- the text b stands at the start of the array, whose bytes take all of it
 pub record Printed (xs b ys : List ℕ) (r : ℕ) : Type 0 where
@@ -41,13 +43,9 @@ lines_text : (p : Parsed) → 0 ≡ p.answer → slot_lines 0 p.slots ≡ parsed
 unfolding parsed_text
 lines_text p e = rw (← e)
 
-module _ {p : Parsed} {r : ParsedShop} (a : ParsedAs p r) where
-  answered : r.refusal ≡ p.answer
-  unfolding answer_of
-  answered = ap (λ (x : ParsedShop). x.refusal) a.is
+module _ {p : Parsed} where
+  pub text_refused : (e : Refusal) → HandedOut p (Err e) → refused_text (refusal_number e) ≡ parsed_text p
+  text_refused e a = refusal_text (refusal_number e) p a.refusal (refuses e)
 
-  pub text_refused : (r.refusal ≡ 0 → ⊥) → refused_text r.refusal ≡ parsed_text p
-  text_refused d = refusal_text r.refusal p answered d
-
-  pub text_lines : r.refusal ≡ 0 → slot_lines 0 (slots_of r.shop) ≡ parsed_text p
-  text_lines z = ap (slot_lines 0) (a.slots z) ∙ lines_text p (sym z ∙ answered)
+  pub text_lines : (s : Shop) → HandedOut p (Ok s) → slot_lines 0 (slots_of s) ≡ parsed_text p
+  text_lines s a = ap (slot_lines 0) (a.shop.slots refl) ∙ lines_text p a.refusal

@@ -5,32 +5,20 @@ ghost use Rattle.std.specs.Prelude.{◌≤◌, length, take};
 ghost use Rattle.model.specs.RecordCalls.{parse_in};
 ghost use Rattle.model.specs.Printer.{parsed_text};
 ghost use Rattle.model.specs.Printer as Printer;
-ghost use Rattle.memory.specs.View.{memory_of, empty_in};
-ghost use Rattle.memory.specs.Sound.{Long};
+ghost use Rattle.memory.specs.View.{memory_of};
 ghost use Rattle.shop.specs.Shapes.{sheet_of};
 ghost use Rattle.slots_print.specs.Input.{Headed};
 ghost use Rattle.slots_print.specs.Text.{Printed};
 
-use image_read::{Image, read_script};
+use image_read::read_script;
 use memory::{
     BLOCK_WORDS, BlockWords, COMMAND_WORDS, CommandWords, Counts, NODE_WORDS, NODES, NodeWords,
     Values,
 };
-use model::{BlockNo, INPUT};
+use model::{BlockNo, INPUT, Refusal};
 use parse::parse;
 use slots_sheet::{Heading, read_heading};
 use slots_text::{Text, put_refused, put_slots};
-
-// The arrays' lengths, for the proofs.
-fn known_arrays(ws: &NodeWords, val: &Values, cw: &CommandWords, bw: &BlockWords) -> usize
-    ensures { Long (empty_in ws.now val.now cw.now bw.now) }
-{
-    let words: &[u16] = ws;
-    let values: &[i32] = val;
-    let commands: &[u16] = cw;
-    let blocks: &[u16] = bw;
-    words.len() - values.len() + commands.len() - blocks.len()
-}
 
 // The text of the shop that a script holds: parsed from the heading's setup block.
 fn parsed_text(
@@ -46,15 +34,20 @@ fn parsed_text(
     requires { h.items ≤ length attached.now }
     ensures { Printed out.old (parsed_text (parse_in (sheet_of (take h.items attached.now) h.sheet) (memory_of ws.now val.now cw.now bw.now counts) h.setup)) out.new result }
 {
-    let n = h.items as usize;
-    let sheet = h.sheet;
-    let all: &[u8] = attached;
-    let p = parse(&all[..n], sheet, ws, val, cw, bw, counts, BlockNo(h.setup));
-    if p.refusal != 0 {
-        return put_refused(out, p.refusal);
+    let n = usize::from(h.items);
+    match parse(
+        &attached[..n],
+        h.sheet,
+        ws,
+        val,
+        cw,
+        bw,
+        counts,
+        BlockNo(h.setup),
+    ) {
+        Ok(shop) => put_slots(out, shop),
+        Err(e) => put_refused(out, e.number()),
     }
-    let shop = p.shop;
-    put_slots(out, shop)
 }
 
 // The image after the heading, read into arrays whose contents do not matter, then its text.
@@ -71,11 +64,9 @@ fn image_text(
     requires { Headed input.now h attached.now }
     ensures { Printed out.old (Printer.slots input.now) out.new result }
 {
-    known_arrays(ws, val, cw, bw);
-    let k = read_script(input, h.at, ws, val, cw, bw);
-    match k {
-        Image::Read(counts) => parsed_text(attached, h, ws, val, cw, bw, counts, out),
-        Image::No(e) => put_refused(out, e),
+    match read_script(input, h.at, ws, val, cw, bw) {
+        Ok(counts) => parsed_text(attached, h, ws, val, cw, bw, counts, out),
+        Err(e) => put_refused(out, e.number()),
     }
 }
 
@@ -96,13 +87,12 @@ fn input_text(input: &[u8], attached: &mut [u8; 512], out: &mut Text) -> usize
     ensures { Printed out.old (Printer.slots input.now) out.new result }
 {
     if INPUT < input.len() {
-        return put_refused(out, 3);
+        return put_refused(out, Refusal::OverLimit.number());
     }
-    let h = read_heading(input, attached);
-    if h.refusal != 0 {
-        return put_refused(out, h.refusal);
+    match read_heading(input, attached) {
+        Ok(h) => script_text(input, attached, h, out),
+        Err(e) => put_refused(out, e.number()),
     }
-    script_text(input, attached, h, out)
 }
 
 // Writes what the program prints for an input into out, and answers how long that is; the bytes past it stay.
