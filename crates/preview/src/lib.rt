@@ -93,7 +93,7 @@ fn flag_at(flags: &[u8], number: i32) -> bool
     bit_at(flags, i)
 }
 
-// Whether the save has what a requirement is about.
+// Whether the save has what a requirement is about. Its number is a u32, which has no From into usize: hence the casts.
 fn is_there(code: u64, items: &[i16], atcs: &[u8], flags: &[u8]) -> bool
     ensures { (t v : List ℤ) → result ≡ is_there (save_of items.now atcs.now flags.now t v) (requirement_of code) }
 {

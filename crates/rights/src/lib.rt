@@ -23,6 +23,7 @@ pub const USERS: usize = 16;
 
 pub const RIGHTS: usize = USERS * SLOTS;
 
+// Users and slots are numbered by u32, which has no From into usize: where such a number is an index, it is cast.
 const USERS_HERE: u32 = USERS as u32;
 
 const SLOTS_HERE: u32 = SLOTS as u32;
@@ -57,6 +58,7 @@ fn right_for(field: Field) -> u8
     }
 }
 
+// By a division and not a mask: right is any number above 0 here.
 fn has_right(rights: &[u8; RIGHTS], user: u32, slot: u32, right: u8) -> bool
     requires { (user < user_count) × (slot < slot_count) × (0 < right) }
     ensures { result ≡ bit_of (get_or rights.now (user * slot_count + slot) 0) right }

@@ -49,7 +49,7 @@ pub fn lacks(row: &Row, n: u8, x: u64) -> bool
     row[..usize::from(n)].iter().all(|code| x != *code)
 }
 
-// No requirement stands beside its negation.
+// No requirement stands beside its negation. A loop and no closure: lacks has a bound, which a closure would ask of its caller.
 fn no_pair(row: &Row, n: u8) -> bool
     requires { n ≤ entry_limit }
     ensures { result ≡ no_pair_code (take n row.now) }

@@ -56,7 +56,7 @@ impl Verdict {
     }
 }
 
-// Why a slot is not faithful, as its entries are asked for it.
+// Why a slot is not faithful, as its entries are asked for it. A value and no closure: the search for the first such entry is proved once for the three.
 #[derive(Clone, Copy, Debug, PartialEq, Eq)]
 enum Reason {
     Pair,
@@ -175,7 +175,7 @@ fn add_left(row: &Row, n: u8, one: bool, own: u64, c: u64, out: &mut Row, m: usi
     m
 }
 
-// All of them into an array of zeros.
+// All of them into an array of zeros: not more than 14, which a byte holds.
 fn haves_left(row: &Row, n: u8, one: bool, own: u64, out: &mut Row) -> u8
     requires { (n ≤ entry_limit) × (out.old ≡ replicate entry_limit 0) }
     ensures { reqs_in out.new result ≡ reqs_of (pick (left_code one own (take n row.now)) (take n row.now)) }
