@@ -8,9 +8,17 @@ ghost use Rattle.tariff.specs.Prices.{tariff_of};
 ghost use Rattle.bill.specs.Billed.{BilledAs};
 ghost use Rattle.capi_values.specs.Values.{sheet_by};
 
-use bill::{Billed, bill};
+use bill::bill;
 use capi_values::sheet_by;
 use shop::SLOTS;
+
+// The refusal or 0, and the sum of the bill; refused, it is 0.
+#[repr(C)]
+#[derive(Clone, Copy)]
+pub struct Billed {
+    pub refusal: u8,
+    pub total: u64,
+}
 
 // The bill of the save that a run left: item, slot and coins of its twenty lines, in the order of the items. Refused, the three arrays stay as they were.
 pub fn lk_bill(
@@ -34,8 +42,18 @@ pub fn lk_bill(
     ensures { BilledAs (bill_by_item (sheet_of attached.now (sheet_by atcs timer5 timer10 timer15)) (save_of items.now held.now flags.now times.now vars.now) (tariff_of prices.now discount) basket.now) result.refusal result.total to_items.old to_items.new to_slots.old to_slots.new to_coins.old to_coins.new }
 {
     let sheet = sheet_by(atcs, timer5, timer10, timer15);
-    bill(
+    let total = bill(
         attached, sheet, items, held, flags, times, vars, prices, discount, basket, to_items,
         to_slots, to_coins,
-    )
+    );
+    match total {
+        Ok(total) => Billed {
+            refusal: 0,
+            total: total,
+        },
+        Err(e) => Billed {
+            refusal: e.number(),
+            total: 0,
+        },
+    }
 }

@@ -9,6 +9,7 @@ ghost use Rattle.rights.specs.InArrays.{arrays_edited, arrays_shown, contents};
 ghost use Rattle.capi_values.specs.Values.{sheet_by};
 
 use capi_values::sheet_by;
+use model::refusal_in;
 use rights::{RIGHTS, edit_arrays, show_arrays};
 use shop::{Codes, Row, SLOTS};
 
@@ -36,10 +37,10 @@ pub fn lk_edit(
     ensures { record { refusal = result; arrays = arrays_in items.new limits.new codes.new lens.new } ≡ arrays_edited (table_of rights.now) (sheet_of attached.now (sheet_by atcs timer5 timer10 timer15)) (arrays_in items.old limits.old codes.old lens.old) user slot field (contents item limit entries.now len) }
 {
     let sheet = sheet_by(atcs, timer5, timer10, timer15);
-    edit_arrays(
+    refusal_in(edit_arrays(
         attached, sheet, rights, items, limits, codes, lens, user, slot, field, item, limit,
         entries, len,
-    )
+    ))
 }
 
 // The arrays of a shop become those of the shop as the user sees it: the words of a slot with the right to see stay, those of every other
@@ -54,5 +55,5 @@ pub fn lk_show(
 ) -> u8
     ensures { record { refusal = result; arrays = arrays_in items.new limits.new codes.new lens.new } ≡ arrays_shown (table_of rights.now) (arrays_in items.old limits.old codes.old lens.old) user }
 {
-    show_arrays(rights, items, limits, codes, lens, user)
+    refusal_in(show_arrays(rights, items, limits, codes, lens, user))
 }

@@ -5,15 +5,25 @@ ghost use Rattle.std.specs.Prelude.{◌≡◌};
 ghost use Rattle.shop.specs.Shapes.{sheet_of, slot_of};
 ghost use Rattle.capi_values.specs.Values.{sheet_by};
 ghost use Rattle.settings_model.specs.Settings.{settings_call};
-ghost use Rattle.settings.specs.Answer.{settings_of};
+ghost use Rattle.capi_settings.specs.Answers.{settings_as};
 ghost use Rattle.shop_arrays.specs.Arrays.{slot_in};
 
 use capi_values::sheet_by;
-use settings::{Settings, settings_of};
+use settings::settings_of;
 use shop::Row;
 use shop_arrays::slot_by;
 
-// The slot's subjects, and in how many combinations of their answers it is listed and hidden; refused, every number is 0.
+// The refusal or 0, the slot's subjects, and in how many combinations of their answers it is listed and hidden; refused, every number is 0.
+#[repr(C)]
+#[derive(Clone, Copy)]
+pub struct Settings {
+    pub refusal: u8,
+    pub subjects: u8,
+    pub listed: u32,
+    pub hidden: u32,
+}
+
+// How many settings list the slot that the numbers stand for.
 pub fn lk_settings(
     attached: &[u8],
     atcs: u16,
@@ -25,9 +35,22 @@ pub fn lk_settings(
     codes: &Row,
     len: u8,
 ) -> Settings
-    ensures { result ≡ settings_of (settings_call (sheet_of attached.now (sheet_by atcs timer5 timer10 timer15)) (slot_of (slot_in item limit codes.now len))) }
+    ensures { settings_as result ≡ settings_call (sheet_of attached.now (sheet_by atcs timer5 timer10 timer15)) (slot_of (slot_in item limit codes.now len)) }
 {
     let sheet = sheet_by(atcs, timer5, timer10, timer15);
     let slot = slot_by(item, limit, codes, len);
-    settings_of(attached, sheet, slot)
+    match settings_of(attached, sheet, slot) {
+        Ok(s) => Settings {
+            refusal: 0,
+            subjects: s.subjects,
+            listed: s.listed,
+            hidden: s.hidden,
+        },
+        Err(e) => Settings {
+            refusal: e.number(),
+            subjects: 0,
+            listed: 0,
+            hidden: 0,
+        },
+    }
 }

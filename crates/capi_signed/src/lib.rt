@@ -9,8 +9,45 @@ ghost use Rattle.signed_model.specs.Findings.{check_call};
 ghost use Rattle.signed_check.specs.Answer.{checked_of};
 
 use capi_values::sheet_by;
-use shop::{Codes, SLOTS};
-use signed_check::{Checked, check_shop};
+use shop::{Codes, Row, SLOTS};
+use signed_check::check_shop;
+
+// What is told of one slot, as signed_check says it, by numbers.
+#[repr(C)]
+#[derive(Clone, Copy)]
+pub struct Finding {
+    pub verdict: u8,
+    pub entry: u8,
+    pub limit: u8,
+    pub doubled: u8,
+    pub lost: u8,
+    pub listed: u8,
+    pub settings: u8,
+    pub codes: Row,
+}
+
+// The refusal or 0, and what is told of the twenty slots.
+#[repr(C)]
+#[derive(Clone, Copy)]
+pub struct Checked {
+    pub refusal: u8,
+    pub slots: [Finding; SLOTS],
+}
+
+fn finding_by(f: &signed_check::Finding) -> Finding
+    ensures { finding_as result ≡ finding_is f.now }
+{
+    Finding {
+        verdict: f.verdict.number(),
+        entry: f.verdict.entry(),
+        limit: f.limit,
+        doubled: f.doubled,
+        lost: f.lost,
+        listed: f.listed.number(),
+        settings: f.settings,
+        codes: f.codes,
+    }
+}
 
 // What is told of each slot; refused, every number is 0.
 pub fn lk_check(
