@@ -54,7 +54,7 @@ pub fn push_imm16(ws: &mut NodeWords, val: &mut Values, n: u16, k: u16) -> u16
     requires { (n < node_limit) × (k < half16) }
     ensures { PutExpr (nodes_in ws.old val.old n) (imm16 (pos k)) (nodes_in ws.new val.new result) }
 {
-    push_node(ws, val, n, IMM16, 0, 0, k as i32)
+    push_node(ws, val, n, IMM16, 0, 0, i32::from(k))
 }
 
 // Expr::imm: Imm16 where the number fits.
@@ -122,7 +122,7 @@ pub fn push_tests(ws: &mut NodeWords, val: &mut Values, n: u16, codes: &Row, len
     ensures { PutExpr (nodes_in ws.old val.old n) (join_codes codes.now len) (nodes_in ws.new val.new result) }
 {
     let mut at = push_test(ws, val, n, codes[0]);
-    for i in 1..len as usize {
+    for i in 1..usize::from(len) {
         let left_root = at - 1;
         let right_end = push_test(ws, val, at, codes[i]);
         at = push_two(ws, val, right_end, Op2::BitAnd, left_root, right_end - 1);
@@ -146,7 +146,7 @@ pub fn push_acquired(ws: &mut NodeWords, val: &mut Values, n: u16, a: Acquired) 
     requires { (n + size (acquired_of a) ≤ node_limit) × (a.rate < half16) }
     ensures { PutExpr (nodes_in ws.old val.old n) (acquired_of a) (nodes_in ws.new val.new result) }
 {
-    let n1 = push_compare(ws, val, n, a.of, a.id as i32);
+    let n1 = push_compare(ws, val, n, a.of, i32::from(a.id));
     if a.rate == 0 {
         return n1;
     }
@@ -187,7 +187,7 @@ fn push_missing_item(ws: &mut NodeWords, val: &mut Values, n: u16, item: ItemId)
     requires { n + 4 ≤ node_limit }
     ensures { PutExpr (nodes_in ws.old val.old n) (negate (with_zero NotEqual Item (pos item.0))) (nodes_in ws.new val.new result) }
 {
-    let m = push_compare(ws, val, n, Op1::Item, item.0 as i32);
+    let m = push_compare(ws, val, n, Op1::Item, i32::from(item.0));
     negate(ws, val, m)
 }
 
@@ -212,7 +212,7 @@ pub fn push_left(ws: &mut NodeWords, val: &mut Values, n: u16, limit: u8, item: 
     requires { n + 4 ≤ node_limit }
     ensures { PutExpr (nodes_in ws.old val.old n) (remaining_expr limit item.0) (nodes_in ws.new val.new result) }
 {
-    let n1 = push_imm16(ws, val, n, limit as u16);
+    let n1 = push_imm16(ws, val, n, u16::from(limit));
     let n2 = push_imm(ws, val, n1, item.0 as i32);
     let n3 = push_one(ws, val, n2, Op1::Item, n2 - 1);
     push_two(ws, val, n3, Op2::Subtract, n1 - 1, n3 - 1)

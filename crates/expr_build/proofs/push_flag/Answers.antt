@@ -2,7 +2,6 @@ use mir.Syntax.{w32}
 use mir.Facts.{to_z-of_z}
 use Rattle.expr_negate.specs.InPlace.{one_put}
 use Rattle.expr_build.specs.Laws.{imm_put}
-use borrow.Author.Rules.{rules}
 use Rattle.expr_build.proofs.push_flag.Goals as goal
 
 pub returns : goal.returns

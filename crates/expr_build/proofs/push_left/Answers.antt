@@ -24,4 +24,4 @@ unfolding size
 push_two-requires c = search rules
 
 pub returns : goal.returns
-returns c = two_put c.push_imm16-n1.ensures (one_put (imm_put (rw (to_z_pos w32 {n = c.args.item.0} (omega arith)) at c.push_imm-n2.ensures)) c.push_one-n3.ensures) c.push_two.ensures
+returns c = two_put (rw c.from.ensures at c.push_imm16-n1.ensures) (one_put (imm_put (rw (to_z_pos w32 {n = c.args.item.0} (omega arith)) at c.push_imm-n2.ensures)) c.push_one-n3.ensures) c.push_two.ensures

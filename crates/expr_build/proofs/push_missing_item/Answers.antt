@@ -8,11 +8,10 @@ use Rattle.expr_negate.specs.Turns.{flips, compared}
 use Rattle.expr_negate.specs.InPlace.{last_put}
 use Rattle.expr_build.specs.Codes.{size_compare}
 use native.Mathlib.Omega.{arith}
-use borrow.Author.Rules.{rules}
 use Rattle.expr_build.proofs.push_missing_item.Goals as goal
 
 pub negate-requires : goal.negate-requires
-negate-requires c = last_put (rw (to_z_pos w32 {n = c.args.item.0} (omega arith)) at c.push_compare-m.ensures) (flips (compared refl refl)) (omega (arith, c.requires, size_compare Equal Item (pos c.args.item.0)))
+negate-requires c = last_put (rw (c.from.ensures, to_z_pos w32 {n = c.args.item.0} (omega arith)) at c.push_compare-m.ensures) (flips (compared refl refl)) (omega (arith, c.requires, size_compare Equal Item (pos c.args.item.0)))
 
 pub returns : goal.returns
-returns c = c.negate.ensures _ _ (flips (compared refl refl)) (rw (to_z_pos w32 {n = c.args.item.0} (omega arith)) at c.push_compare-m.ensures)
+returns c = c.negate.ensures _ _ (flips (compared refl refl)) (rw (c.from.ensures, to_z_pos w32 {n = c.args.item.0} (omega arith)) at c.push_compare-m.ensures)

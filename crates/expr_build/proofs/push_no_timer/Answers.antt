@@ -4,7 +4,6 @@ use Rattle.model.specs.declared.Op1.TheVariants.{Item}
 use Rattle.expr_build.specs.Laws.{two_put}
 use Rattle.expr_build.specs.Codes.{size_compare}
 use native.Mathlib.Omega.{arith}
-use borrow.Author.Rules.{rules}
 use Rattle.expr_build.proofs.push_no_timer.Goals as goal
 
 pub push_missing_item-n2-requires : goal.push_missing_item-n2-requires

@@ -1,4 +1,3 @@
-use borrow.Author.Rules.{rules}
 use Rattle.expr_build.proofs.push_one.Goals as goal
 
 pub returns : goal.returns

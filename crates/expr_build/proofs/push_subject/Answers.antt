@@ -5,7 +5,6 @@ use mir.Facts.{to_z_pos, to_z-of_z}
 use Rattle.shop_codes.specs.Codes.{subject_is}
 use Rattle.shop_codes.specs.Subjects.{subject_low}
 use Rattle.expr_build.specs.Codes.{about_item, about_atc, about_flag, size_item, size_atc, size_a_flag}
-use borrow.Author.Rules.{rules}
 use Rattle.expr_build.proofs.push_subject.Goals as goal
 
 pub overflow_cast-i : goal.overflow_cast-i

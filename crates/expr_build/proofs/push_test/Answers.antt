@@ -2,7 +2,6 @@ use mathlib.Core.Path.{sym, ◌∙◌}
 use Rattle.expr_negate.specs.InPlace.{last_put}
 use Rattle.expr_build.specs.Codes.{test_missing, test_had, subject_turns, subject_small}
 use native.Mathlib.Omega.{arith}
-use borrow.Author.Rules.{rules}
 use Rattle.expr_build.proofs.push_test.Goals as goal
 
 pub push_subject-m-requires : goal.push_subject-m-requires

@@ -1,5 +1,4 @@
-use Rattle.std.proofs.Common.{◌≡◌, ◌+◌, ◌≤◌, ◌<◌, get_or, arith}
-use Rattle.model.specs.Expr.{size}
+use Rattle.std.proofs.Common.{◌≡◌, get_or, arith}
 use Rattle.model.specs.Compile.{test, join_tests}
 use Rattle.shop_codes.specs.Codes.{requirement_of}
 use Rattle.memory.specs.PutNodes.{size_pos}
