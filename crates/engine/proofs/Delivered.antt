@@ -1,19 +1,20 @@
 -- Demand 3 over the exported calls: any list of compiles and reclaims as they were made and answered, at any block numbers, then a run and a parse as they were answered. Each call comes in by its own promise. Assumes nothing.
-use Rattle.std.specs.Prelude.{◌≡◌, Bool, ℤ, get_or}
+use Rattle.std.specs.Prelude.{◌≡◌, Bool, get_or, Result, Ok, Err, IfOk}
 use Rattle.std.proofs.Math.Path.{refl, sym, ap, subst}
 use Rattle.std.proofs.Common.{◌∙◌, eqb-true}
 use Rattle.std.proofs.Math.Bool.{true, false, cond}
 use Rattle.std.proofs.Math.Option.{Option, none, some}
 use mathlib.Core.List.{List, [], ◌∷◌, map}
-use Prim.Native.Nat.{ℕ, ◌≤◌, ◌<◌}
+use Prim.Native.Nat.{ℕ, ◌<◌}
 use Rattle.std.proofs.Math.Dec.{eqb}
-use Rattle.model.specs.Limits.{run_blocks}
 use Rattle.model.specs.Refusal.{accepted}
+use Rattle.model.specs.Refusals.{refusal_in}
+use Rattle.model.specs.declared.Refusal.{Refusal}
+use Rattle.checks.specs.Passed.{refuses}
 use Rattle.model.specs.Save.{Save}
 use Rattle.model.specs.Sheet.{Sheet, save_refusal}
 use Rattle.model.specs.Shop.{Slot}
 use Rattle.model.specs.Flags.{flag_answer, until_outside}
-use Rattle.model.specs.Meaning.{Means}
 use Rattle.model.specs.Normal.{normal_shop}
 use Rattle.model.specs.Run.{Ran}
 use Rattle.model.specs.Parse.{Parsed}
@@ -23,12 +24,11 @@ use Rattle.model.proofs.Demand.{RunsAs, runs_inside}
 use Rattle.model.specs.RecordCalls.{Born, born_at, compile_refusal_in, compiled_in, parse_in, run_in}
 use Rattle.model.proofs.Laws.Lists.{Follows, Followed, follows_all}
 use Rattle.compile.specs.Answer.{call_of}
-use Rattle.runner.specs.declared.Ran as code
-use Rattle.runner.specs.RunIn.{ran_of}
-use Rattle.parse.specs.declared.ParsedShop.{ParsedShop}
-use Rattle.parse.specs.Answer.{answer_of}
+use Rattle.shop.specs.declared.Shop.{Shop}
+use Rattle.shop.specs.Shapes.{slots_of}
+use Rattle.parse.specs.Answer.{HandedOut, ParsedShop, answer_of}
 use Rattle.model.specs.Preview.{preview_call}
-use Rattle.preview.specs.declared.Previewed.{Previewed}
+use Rattle.preview.specs.Shown as shown
 use Rattle.preview.specs.Agree.{AgreesCall, call_agrees, preview_agrees}
 use Rattle.reclaim_model.specs.Rename.{Every, links_of}
 use Rattle.reclaim_model.specs.Reclaim.{moved_word, word_tells}
@@ -117,36 +117,37 @@ module _ (h : Sheet) where
         subst (λ (t : Born). RunsAs h s (flag_answer ys) (until_outside ys) (λ budget. run_in h t.memory b' s budget)) (sym followed.after) (demand.ends b b' ys (now_is b ∙ n) (last_is b ∙ e) s f)
 
     ran : (b : ℕ) (s : Save) (a : ℕ) (ys : List Slot) → RunsAs h s a ys (λ budget. run_in h (after_all made k xs).memory b s budget)
-        → (budget : ℕ) (r : code.Ran) (v' : List ℤ) → ran_of r v' ≡ run_in h (after_all made k xs).memory b s budget → RanWell h s a ys budget r v'
-    ran b s a ys w budget r v' p =
-        let z : r.refusal ≡ (run_in h (after_all made k xs).memory b s budget).answer = ap (λ (q : Ran). q.answer) p in
-        record {
-          answered = λ l. z ∙ w.answered budget l;
-          else_spent = λ d. z ∙ w.else_spent budget (λ e. d (z ∙ e));
-          few = λ o. subst (λ (n : ℕ). n ≤ run_blocks) (sym (ap (λ (q : Ran). q.entered) p)) (w.few budget (sym z ∙ o));
-          means = λ o. subst (Means h s ys s.variables) (sym (ap (λ (q : Ran). q.variables) p)) (w.means budget (sym z ∙ o));
-        }
+        → (budget : ℕ) (r : Ran) → r ≡ run_in h (after_all made k xs).memory b s budget → RanWell h s a ys budget r
+    ran b s a ys w budget r p =
+        rw p (record { answered = w.answered budget; else_spent = w.else_spent budget; few = w.few budget; means = w.means budget })
+
+    -- a parse that hands out a shop, in numbers
+    handed : (ys : List Slot) (p : Parsed) → p ≡ record { answer = 0; slots = normal_shop h ys } → (r : Result Shop Refusal) → HandedOut p r → (refusal_in r ≡ 0) × IfOk r (λ t. slots_of t ≡ normal_shop h ys)
+    handed ys p e (Ok t) q = (refl, q.shop.slots refl ∙ ap (λ (a : Parsed). a.slots) e)
+    handed ys p e (Err n) q = absurd (refuses n (q.refusal ∙ ap (λ (a : Parsed). a.answer) e))
+
+    parsed_at : (b b' : ℕ) (ys : List Slot) → now_at made k xs b ≡ some b' → last_at made k xs b ≡ some ys → parse_in h (after_all made k xs).memory b' ≡ record { answer = 0; slots = normal_shop h ys }
+    parsed_at b b' ys n e = ap (λ (t : Born). parse_in h t.memory b') followed.after ∙ demand.parses b b' ys (now_is b ∙ n) (last_is b ∙ e)
 
     pub delivered : Delivered h k xs
     unfolding answer_of
     delivered = record {
-      runs = λ b b' ys n e i s f budget r v' p. ran b' s accepted ys (runs_inside h s ys _ i (runs_at b b' ys n e s f)) budget r v' p;
-      ends = λ b b' ys n e s f budget r v' p. ran b' s (flag_answer ys) (until_outside ys) (runs_at b b' ys n e s f) budget r v' p;
-      same = λ b b' ys n e s f budget other r q v w p u o i.
+      runs = λ b b' ys n e i s f budget r p. ran b' s accepted ys (runs_inside h s ys _ i (runs_at b b' ys n e s f)) budget r p;
+      ends = λ b b' ys n e s f budget r p. ran b' s (flag_answer ys) (until_outside ys) (runs_at b b' ys n e s f) budget r p;
+      same = λ b b' ys n e s f budget other r q p u o i.
           let a = runs_at b b' ys n e s f in
           p ∙ a.same budget (sym (ap (λ (x : Ran). x.answer) p) ∙ o) ∙ sym (u ∙ a.same other (sym (ap (λ (x : Ran). x.answer) u) ∙ i));
       parses = λ b b' ys n e r p.
-          let q : parse_in h (after_all made k xs).memory b' ≡ record { answer = 0; slots = normal_shop h ys }
-          = ap (λ (t : Born). parse_in h t.memory b') followed.after ∙ demand.parses b b' ys (now_is b ∙ n) (last_is b ∙ e) in
+          let q = parsed_at b b' ys n e in
           let z : r.refusal ≡ 0 = ap (λ (a : ParsedShop). a.refusal) (p.is ∙ ap answer_of q) in
           (z, p.slots z ∙ ap (λ (a : Parsed). a.slots) q);
-      previews = λ b b' ys n e s f budget l r v' q p u.
-          let a = runs_at b b' ys n e s f in
+      hands_out = λ b b' ys n e r p. handed ys (parse_in h (after_all made k xs).memory b') (parsed_at b b' ys n e) r p;
+      previews = λ b b' ys n e s f budget l r q p u.
+          let a = ran b' s (flag_answer ys) (until_outside ys) (runs_at b b' ys n e s f) budget r p in
           let g = demand.given b b' ys (now_is b ∙ n) (last_is b ∙ e) in
-          let z : r.refusal ≡ flag_answer ys = ap (λ (x : Ran). x.answer) p ∙ a.answered budget l in
-          let m : Means h s (until_outside ys) s.variables v' = subst (λ (x : Ran). Means h s (until_outside ys) s.variables x.variables) (sym p) (a.means budget (a.answered budget l)) in
-          subst (λ (x : ℕ). AgreesCall q x v') (sym z)
-          (subst (λ (x : Previewed). AgreesCall x (flag_answer ys) v') (sym u) (call_agrees (preview_call h ys s) (flag_answer ys) v' (preview_agrees h ys g.sheet g.twenty g.ok s f v' m)));
+          let z = a.answered l in
+          subst (λ (x : ℕ). AgreesCall q x r.variables) (sym z)
+          (subst (λ (x : shown.Answer). AgreesCall x (flag_answer ys) r.variables) (sym u) (call_agrees (preview_call h ys s) (flag_answer ys) r.variables (preview_agrees h ys g.sheet g.twenty g.ok s f r.variables (a.means z))));
       others = λ b b' l n e.
           let w = demand.others b b' l (now_is b ∙ n) (last_is b ∙ e) in
           record {

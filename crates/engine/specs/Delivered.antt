@@ -1,5 +1,5 @@
 -- Demand 3 over the exported calls: any list of compiles and reclaims as they were made and answered, at any block numbers, then a run and a parse as they were answered. Each call comes in by its own promise. Assumes nothing.
-use Rattle.std.specs.Prelude.{◌≡◌, ◌≢◌, ℤ, get_or}
+use Rattle.std.specs.Prelude.{◌≡◌, ◌≢◌, get_or, Result, IfOk}
 use Rattle.std.proofs.Math.Bool.{true, cond}
 use Rattle.std.proofs.Math.Option.{Option, none, some}
 use mathlib.Core.List.{List}
@@ -7,6 +7,8 @@ use Prim.Native.Nat.{ℕ, ◌≤◌, ◌<◌}
 use Rattle.std.proofs.Math.Dec.{eqb}
 use Rattle.model.specs.Limits.{run_blocks}
 use Rattle.model.specs.Refusal.{accepted, born_later, budget_spent}
+use Rattle.model.specs.Refusals.{refusal_in}
+use Rattle.model.specs.declared.Refusal.{Refusal}
 use Rattle.model.specs.declared.Loader.{Loader}
 use Rattle.model.specs.Save.{Save}
 use Rattle.model.specs.Sheet.{Sheet, save_refusal}
@@ -21,13 +23,9 @@ use Rattle.model.specs.RecordCalls.{Born, born_at, parse_in, run_in}
 use Rattle.shop.specs.declared.Shop.{Shop}
 use Rattle.shop.specs.Shapes.{slots_of}
 use Rattle.compile.specs.Answer.{call_of, CompiledAs}
-use Rattle.runner.specs.declared.Ran as code
-use Rattle.runner.specs.RunIn.{ran_of}
-use Rattle.parse.specs.declared.ParsedShop.{ParsedShop}
-use Rattle.parse.specs.Answer.{ParsedAs}
+use Rattle.parse.specs.Answer.{HandedOut, ParsedAs, ParsedShop}
 use Rattle.model.specs.Preview.{preview_call}
-use Rattle.preview.specs.declared.Previewed.{Previewed}
-use Rattle.preview.specs.Shown.{previewed_of}
+use Rattle.preview.specs.Shown.{Answer, previewed_of}
 use Rattle.preview.specs.Agree.{AgreesCall}
 use Rattle.reclaim_model.specs.Reclaim.{word_tells}
 use Rattle.reclaim_model.specs.Changes as change
@@ -74,32 +72,35 @@ AsPromised h k x =
       | reclaim rs mv ↦ ReclaimedAs k rs mv x.refusal x.after x.told
     ]
 
--- a run answered r and left the variables v', as run promises: n and what the slots xs mean, or 15 where the budget was less than 82 blocks
-pub record RanWell (h : Sheet) (s : Save) (n : ℕ) (xs : List Slot) (budget : ℕ) (r : code.Ran) (v' : List ℤ) : Type 0 where
-  pub answered : run_blocks ≤ budget → r.refusal ≡ n
-  pub else_spent : r.refusal ≢ n → r.refusal ≡ budget_spent
-  pub few : r.refusal ≡ n → r.entered ≤ run_blocks
-  pub means : r.refusal ≡ n → Means h s xs s.variables v'
+-- r is what a run answered with the variables that it left, as run promises (ran_of of runner/specs/RunIn): n and what the slots xs mean, or 15 where the budget was less than 82 blocks
+pub record RanWell (h : Sheet) (s : Save) (n : ℕ) (xs : List Slot) (budget : ℕ) (r : Ran) : Type 0 where
+  pub answered : run_blocks ≤ budget → r.answer ≡ n
+  pub else_spent : r.answer ≢ n → r.answer ≡ budget_spent
+  pub few : r.answer ≡ n → r.entered ≤ run_blocks
+  pub means : r.answer ≡ n → Means h s xs s.variables r.variables
 
 -- b is a block of the start, b' its number after the list
 pub record Delivered (h : Sheet) (k : Born) (xs : List Made) : Type 0 where
   -- from any surviving block where a compile was accepted, the flags of the shop's slots with an item lying in the save (A.10), under any save that fits the sheet and any budget
   pub runs : (b b' : ℕ) (ys : List Slot) → now_at made k xs b ≡ some b' → last_at made k xs b ≡ some ys → shop_inside ys ≡ true → (s : Save) → save_refusal h s ≡ 0
-      → (budget : ℕ) (r : code.Ran) (v' : List ℤ) → ran_of r v' ≡ run_in h (after_all made k xs).memory b' s budget → RanWell h s accepted ys budget r v'
+      → (budget : ℕ) (r : Ran) → r ≡ run_in h (after_all made k xs).memory b' s budget → RanWell h s accepted ys budget r
   -- of any shop: 23 exactly where one of them lies outside, and then what the slots before the first such slot mean
   pub ends : (b b' : ℕ) (ys : List Slot) → now_at made k xs b ≡ some b' → last_at made k xs b ≡ some ys → (s : Save) → save_refusal h s ≡ 0
-      → (budget : ℕ) (r : code.Ran) (v' : List ℤ) → ran_of r v' ≡ run_in h (after_all made k xs).memory b' s budget → RanWell h s (flag_answer ys) (until_outside ys) budget r v'
+      → (budget : ℕ) (r : Ran) → r ≡ run_in h (after_all made k xs).memory b' s budget → RanWell h s (flag_answer ys) (until_outside ys) budget r
   -- a run that its budget does not stop ends the same with any other such budget
   pub same : (b b' : ℕ) (ys : List Slot) → now_at made k xs b ≡ some b' → last_at made k xs b ≡ some ys → (s : Save) → save_refusal h s ≡ 0
-      → (budget other : ℕ) (r q : code.Ran) (v w : List ℤ) → ran_of r v ≡ run_in h (after_all made k xs).memory b' s budget
-      → ran_of q w ≡ run_in h (after_all made k xs).memory b' s other → r.refusal ≡ flag_answer ys → q.refusal ≡ flag_answer ys → ran_of r v ≡ ran_of q w
+      → (budget other : ℕ) (r q : Ran) → r ≡ run_in h (after_all made k xs).memory b' s budget
+      → q ≡ run_in h (after_all made k xs).memory b' s other → r.answer ≡ flag_answer ys → q.answer ≡ flag_answer ys → r ≡ q
   -- the parser reads there exactly that shop in normal form
   pub parses : (b b' : ℕ) (ys : List Slot) → now_at made k xs b ≡ some b' → last_at made k xs b ≡ some ys → (r : ParsedShop) → ParsedAs (parse_in h (after_all made k xs).memory b') r
       → (r.refusal ≡ 0) × (slots_of r.shop ≡ normal_shop h ys)
+  -- and so does what a parse hands out, which is a shop
+  pub hands_out : (b b' : ℕ) (ys : List Slot) → now_at made k xs b ≡ some b' → last_at made k xs b ≡ some ys → (r : Result Shop Refusal) → HandedOut (parse_in h (after_all made k xs).memory b') r
+      → (refusal_in r ≡ 0) × IfOk r (λ t. slots_of t ≡ normal_shop h ys)
   -- with a budget of 82 blocks or more the run and a preview of that shop are answered alike, 0 or 23, and where it is 0 the run leaves what the preview answers
   pub previews : (b b' : ℕ) (ys : List Slot) → now_at made k xs b ≡ some b' → last_at made k xs b ≡ some ys → (s : Save) → save_refusal h s ≡ 0
-      → (budget : ℕ) → run_blocks ≤ budget → (r : code.Ran) (v' : List ℤ) (q : Previewed)
-      → ran_of r v' ≡ run_in h (after_all made k xs).memory b' s budget → q ≡ previewed_of (preview_call h ys s) → AgreesCall q r.refusal v'
+      → (budget : ℕ) → run_blocks ≤ budget → (r : Ran) (q : Answer)
+      → r ≡ run_in h (after_all made k xs).memory b' s budget → q ≡ previewed_of (preview_call h ys s) → AgreesCall q r.answer r.variables
   -- every other surviving block of the start is as it was but for its number and the links, which go where the blocks are now that they named
   pub others : (b b' : ℕ) → b < k.memory.count → now_at made k xs b ≡ some b' → last_at made k xs b ≡ none
       → AsWas (now_at made k xs) (block_in k.memory b) (block_in (after_all made k xs).memory b')
