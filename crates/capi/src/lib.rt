@@ -100,12 +100,15 @@ fn previewed_by(answer: Result<preview::Previewed, Refusal>, vars: &[i32]) -> Pr
     ensures { previewed_as result ≡ answer_in (get_or vars.now 0 (pos 0)) answer }
 {
     match answer {
-        Ok(p) => Previewed {
-            refusal: 0,
-            items: p.items,
-            counts: p.counts,
-            temp: p.temp,
-        },
+        Ok(p) => {
+            let (items, counts) = (p.items, p.counts);
+            Previewed {
+                refusal: 0,
+                items: items,
+                counts: counts,
+                temp: p.temp,
+            }
+        }
         Err(e) => Previewed {
             refusal: e.number(),
             items: [0; SLOTS],
