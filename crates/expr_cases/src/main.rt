@@ -1,10 +1,10 @@
 // Expressions in lent arrays, what they are worth and their negations: runs the cases of its standard input, one to a line, and says of each whether it answered what the line says. The nodes go from line to line.
 #![tactic(auto)]
 
-ghost use Rattle.std.specs.Prelude.{◌≡◌, ◌+◌, ◌-◌, ◌<◌, ◌≤◌};
+ghost use Rattle.std.specs.Prelude.{◌≡◌, ◌+◌, ◌-◌, ◌<◌, ◌≤◌, IfSome};
 ghost use Rattle.model.specs.Limits.{node_limit};
 ghost use Rattle.model.specs.Memory.{Nodes, nodes_in};
-ghost use Rattle.expr_cases.specs.Stands.{Stands, Leaf, rank_of};
+ghost use Rattle.expr_cases.specs.Stands.{Stands, Leaf, turn_of};
 
 use case_lines::{Answer, WORDS, Words, low8, low16, run_cases, signed16};
 use expr::evaluate;
@@ -87,27 +87,30 @@ fn negated(a: &Words, ws: &mut NodeWords, val: &mut Values, t: &mut Answer) {
     if NODE_LIMIT <= n {
         return;
     }
-    let r = again(ws, val, low16(a[2]), n);
-    if r == 0 {
-        return;
+    if let Some(Turn::Over | Turn::Within) = again(ws, val, low16(a[2]), n) {
+        t[0] = u32::from(negate(ws, val, n));
     }
-    if 2 < r {
-        return;
-    }
-    t[0] = negate(ws, val, n) as u32;
 }
 
-// Appends the expression of the nodes from c to below n once more, where it stands: then it is what was appended last, as negate asks. Answers how it is negated: 1 by a Not over it, 2 where it stands, 3 in another way.
-// 0: these nodes do not lie as an expression that was appended.
-fn again(ws: &mut NodeWords, val: &mut Values, c: u16, n: u16) -> u8
+// How an expression is negated: by a Not over it, where it stands, or in another way.
+#[derive(Clone, Copy, Debug, PartialEq, Eq)]
+enum Turn {
+    Over,
+    Within,
+    Otherwise,
+}
+
+// Appends the expression of the nodes from c to below n once more, where it stands: then it is what was appended last, as negate asks. Answers how it is negated.
+// None: these nodes do not lie as an expression that was appended.
+fn again(ws: &mut NodeWords, val: &mut Values, c: u16, n: u16) -> Option<Turn>
     requires { n ≤ node_limit }
-    ensures { 0 < result → Stands (nodes_in ws.old val.old c) (nodes_in ws.new val.new n) result }
+    ensures { IfSome result (Stands (nodes_in ws.old val.old c) (nodes_in ws.new val.new n)) }
 {
     if n <= c {
-        return 0;
+        return None;
     }
     let i = n - 1;
-    let at = i as usize;
+    let at = usize::from(i);
     let left = ws[3 * at + 1];
     let right = ws[3 * at + 2];
     let z = val[at];
@@ -115,18 +118,19 @@ fn again(ws: &mut NodeWords, val: &mut Values, c: u16, n: u16) -> u8
     match k {
         Kind::Two(o) => {
             if i <= left || right != i - 1 {
-                return 0;
+                return None;
             }
+            // Both are appended, also where the first is none.
             let x = again(ws, val, c, left + 1);
             let y = again(ws, val, left + 1, i);
-            over_two(ws, val, o, left, n, x, y)
+            Some(over_two(ws, val, o, left, n, x?, y?))
         }
         Kind::One(o) => {
             if i <= left || left != i - 1 {
-                return 0;
+                return None;
             }
-            let x = again(ws, val, c, i);
-            over_one(ws, val, o, n, x)
+            let x = again(ws, val, c, i)?;
+            Some(over_one(ws, val, o, n, x))
         }
         Kind::Imm16 => leaf(ws, val, c, n, 11, z),
         Kind::Imm32 => leaf(ws, val, c, n, 12, z),
@@ -135,67 +139,62 @@ fn again(ws: &mut NodeWords, val: &mut Values, c: u16, n: u16) -> u8
 }
 
 // Node n - 1 over the expressions that end at left and just before it, which are negated by x and by y.
-fn over_two(ws: &mut NodeWords, val: &mut Values, o: Op2, left: u16, n: u16, x: u8, y: u8) -> u8
+fn over_two(
+    ws: &mut NodeWords,
+    val: &mut Values,
+    o: Op2,
+    left: u16,
+    n: u16,
+    x: Turn,
+    y: Turn,
+) -> Turn
     requires { (1 < n) × (n ≤ node_limit) }
-    ensures { (s t : Nodes) → t.count ≡ left + 1 → (0 < x → Stands s t x) → (0 < y → Stands t (nodes_in ws.old val.old (n - 1)) y) → 0 < result → Stands s (nodes_in ws.new val.new n) result }
+    ensures { (s t : Nodes) → t.count ≡ left + 1 → Stands s t x → Stands t (nodes_in ws.old val.old (n - 1)) y → Stands s (nodes_in ws.new val.new n) result }
 {
-    if x == 0 {
-        return 0;
-    }
-    if y == 0 {
-        return 0;
-    }
     let code = code_two(o);
     push_node(ws, val, n - 1, code, left, n - 1 - 1, 0);
-    rank(code, x, y)
+    turn(code, x, y)
 }
 
 // How a node of this code is negated whose operands are by x and by y.
-fn rank(code: u16, x: u8, y: u8) -> u8
-    ensures { result ≡ rank_of code x y }
+fn turn(code: u16, x: Turn, y: Turn) -> Turn
+    ensures { result ≡ turn_of code x y }
 {
-    if code < 6 {
-        return 2;
+    match code {
+        0..=5 => Turn::Within,
+        6 => Turn::Otherwise,
+        7 | 8 => Turn::Over,
+        9 | 10 if matches!((x, y), (Turn::Within, Turn::Within)) => Turn::Within,
+        9 | 10 => Turn::Otherwise,
+        _ => Turn::Over,
     }
-    if code == 6 {
-        return 3;
-    }
-    if code < 9 {
-        return 1;
-    }
-    if 10 < code {
-        return 1;
-    }
-    if x != 2 {
-        return 3;
-    }
-    if y != 2 {
-        return 3;
-    }
-    2
 }
 
 // Node n - 1 over the expression just before it, which is negated by x.
-fn over_one(ws: &mut NodeWords, val: &mut Values, o: Op1, n: u16, x: u8) -> u8
+fn over_one(ws: &mut NodeWords, val: &mut Values, o: Op1, n: u16, x: Turn) -> Turn
     requires { (1 < n) × (n ≤ node_limit) }
-    ensures { (s : Nodes) → (0 < x → Stands s (nodes_in ws.old val.old (n - 1)) x) → 0 < result → Stands s (nodes_in ws.new val.new n) result }
+    ensures { (s : Nodes) → Stands s (nodes_in ws.old val.old (n - 1)) x → Stands s (nodes_in ws.new val.new n) result }
 {
-    if x == 0 {
-        return 0;
-    }
     let code = code_one(o);
     push_node(ws, val, n - 1, code, n - 1 - 1, 0, 0);
-    rank(code, x, x)
+    turn(code, x, x)
 }
 
 // Node n - 1, which has this code and number and no operands, as all of the nodes from c on.
-fn leaf(ws: &mut NodeWords, val: &mut Values, c: u16, n: u16, code: u16, z: i32) -> u8
+fn leaf(
+    ws: &mut NodeWords,
+    val: &mut Values,
+    c: u16,
+    n: u16,
+    code: u16,
+    z: i32,
+) -> Option<Turn>
     requires { (c < n) × (n ≤ node_limit) }
-    ensures { 0 < result → Leaf (nodes_in ws.old val.old c) (nodes_in ws.new val.new n) code z result }
+    ensures { IfSome result (Leaf (nodes_in ws.old val.old c) (nodes_in ws.new val.new n) code z) }
 {
     if c + 1 != n {
-        return 0;
+        return None;
     }
     push_node(ws, val, c, code, 0, 0, z);
-    1
+    Some(Turn::Over)
 }
