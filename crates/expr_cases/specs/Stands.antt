@@ -1,5 +1,5 @@
 -- An expression that was appended last, and how it is negated. Assumes nothing.
-use Rattle.std.specs.Prelude.{◌≡◌, ℕ, ◌-◌, ◌<◌, true, cond, List, ℤ, pos, ◌==◌, nat_lt, refl}
+use Rattle.std.specs.Prelude.{◌≡◌, ℕ, ◌-◌, ◌<◌, true, cond, List, ℤ, pos, ◌==◌, nat_lt, refl, Option, Some, None, IfSome}
 use Rattle.std.proofs.Common.{ap, ◌∙◌, arith}
 use Rattle.model.specs.Limits.{node_limit}
 use Rattle.model.specs.Expr.{Expr, two, one, imm16, imm32, other, size}
@@ -116,6 +116,11 @@ imm32_stands {z = z} h = rw h.is (record { expr = imm32 z; put = record { is = h
 pub other_stands : {s t : Nodes} {r : Turn} → Leaf s t 18 (pos 0) r → Stands s t r
 unfolding put_expr size
 other_stands h = rw h.is (record { expr = other; put = record { is = h.put.is; counted = h.put.counted }; turned = over refl })
+
+-- what an answer says, where there is one
+pub if_some : {P Q : Turn → Type 0} → ((r : Turn) → P r → Q r) → (o : Option Turn) → IfSome o P → IfSome o Q
+if_some f (Some r) h = f r h
+if_some f None h = h
 
 -- ---- what negate asks for
 

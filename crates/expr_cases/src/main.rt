@@ -87,7 +87,10 @@ fn negated(a: &Words, ws: &mut NodeWords, val: &mut Values, t: &mut Answer) {
     if NODE_LIMIT <= n {
         return;
     }
-    if let Some(Turn::Over | Turn::Within) = again(ws, val, low16(a[2]), n) {
+    let Some(turn) = again(ws, val, low16(a[2]), n) else {
+        return;
+    };
+    if turn != Turn::Otherwise {
         t[0] = u32::from(negate(ws, val, n));
     }
 }
@@ -153,11 +156,11 @@ fn over_two(
 {
     let code = code_two(o);
     push_node(ws, val, n - 1, code, left, n - 1 - 1, 0);
-    turn(code, x, y)
+    turned(code, x, y)
 }
 
 // How a node of this code is negated whose operands are by x and by y.
-fn turn(code: u16, x: Turn, y: Turn) -> Turn
+fn turned(code: u16, x: Turn, y: Turn) -> Turn
     ensures { result ≡ turn_of code x y }
 {
     match code {
@@ -177,7 +180,7 @@ fn over_one(ws: &mut NodeWords, val: &mut Values, o: Op1, n: u16, x: Turn) -> Tu
 {
     let code = code_one(o);
     push_node(ws, val, n - 1, code, n - 1 - 1, 0, 0);
-    turn(code, x, x)
+    turned(code, x, x)
 }
 
 // Node n - 1, which has this code and number and no operands, as all of the nodes from c on.
