@@ -19,9 +19,8 @@ use Rattle.shop_arrays.specs.Back.{Full}
 use Rattle.shop_arrays.specs.Slots.{shop_none, slot_in_lem, slot_put, slots_long}
 use Rattle.rights.specs.Values.{edit_of}
 use Rattle.rights.specs.InArrays.{Answer, Contents, arrays_edited, arrays_shown, arrays_with, edited_as, field_from, first_shown, place_for, shown_as, slot_by}
-use Rattle.rights.specs.InShops.{answered_as, changed_slot, shop_edited, shop_shown, shop_with, slots_shown}
+use Rattle.rights.specs.InShops.{Answered, answered_as, changed_slot, shop_edited, shop_shown, shop_with, slots_shown}
 use Rattle.rights.specs.ShopLaws.{edit_call_lem, edited_is, handed_out, show_call_lem}
-use Rattle.rights.specs.declared.Answered.{Answered}
 use Rattle.rights.specs.declared.Field.{Field}
 use Rattle.rights.specs.declared.Field.TheVariants.{Item, Limit, Requirements}
 use Rattle.capi_rights.specs.Words.{changed_words, no_words, shown_first, with_full, with_other, with_own, words_at}
