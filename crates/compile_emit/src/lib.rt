@@ -1,12 +1,12 @@
 // Commands and blocks appended to a script in lent arrays, each as the compiler's definitions have them.
 #![tactic(auto)]
 
-ghost use Rattle.std.specs.Prelude.{[], ◌∷◌, ◌+◌, ◌-◌, ◌≤◌, ◌<◌};
+ghost use Rattle.std.specs.Prelude.{[], ◌∷◌, ◌+◌, ◌-◌, ◌≤◌, ◌<◌, ◌≡◌};
 ghost use Rattle.model.specs.Limits.{block_limit, command_limit, entry_limit, half16, node_limit, slot_count};
 ghost use Rattle.model.specs.Expr.{imm};
 ghost use Rattle.model.specs.Compile.{emit_set, temp_var, remaining_expr, return_block, reset_block, remaining_block, if_block};
 ghost use Rattle.memory.specs.View.{memory_of};
-ghost use Rattle.memory.specs.Pushed.{PutCommand};
+ghost use Rattle.memory.specs.Pushed.{PushedCommand, PutCommand};
 ghost use Rattle.memory.specs.Sound.{Room};
 ghost use Rattle.expr_build.specs.Tests.{join_codes, acquired_of, missing_and, both_missing};
 ghost use Rattle.compile_emit.specs.Put.{PutBlocks};
@@ -20,7 +20,18 @@ use memory::{BlockWords, CommandWords, Counts, NodeWords, Values, push_block, pu
 use model::{BlockNo, ItemId};
 use shop::{COUNT_FIRST, ITEM_FIRST, Row};
 
-// The variables of item and count of slot 0, as words.
+// The codes of commands, and the kind of a block that holds some.
+const RETURN: u16 = 0;
+
+const SET: u16 = 2;
+
+const IF: u16 = 3;
+
+const END_IF: u16 = 4;
+
+const CODE: u16 = 1;
+
+// The variables of item and count of slot 0, as words: a const calls no `from`.
 const ITEM_WORD: u16 = ITEM_FIRST as u16;
 
 const COUNT_WORD: u16 = COUNT_FIRST as u16;
@@ -32,7 +43,31 @@ pub struct Held {
     pub commands: u16,
 }
 
+// The counts before a block is built.
+fn held_before(k: Counts) -> Held
+    ensures { (result.nodes ≡ k.nodes) × (result.commands ≡ k.commands) }
+{
+    Held {
+        nodes: k.nodes,
+        commands: k.commands,
+    }
+}
+
+// The Set itself: the nodes of its variable end at target, those of its value behind them at nodes.
+fn push_set(cw: &mut CommandWords, commands: u16, target: u16, nodes: u16) -> Held
+    requires { (0 < target) × (0 < nodes) × (commands < command_limit) }
+    ensures { PushedCommand cw.old commands 2 (target - 1) (nodes - 1) 0 cw.new result.commands × (result.nodes ≡ nodes) }
+{
+    Held {
+        nodes,
+        commands: push_command(cw, commands, SET, target - 1, nodes - 1, 0),
+    }
+}
+
 // emit_set of a number: -1, 0, 1 or an item's id.
+// emit_temp and emit_left differ in the push of the value alone, and stay: an enum of the values cost a jump by table at
+// every Set.
+#[tactic(auto, unfolding(model::specs::Expr::size))]
 pub fn emit_number(
     ws: &mut NodeWords,
     val: &mut Values,
@@ -44,18 +79,13 @@ pub fn emit_number(
     requires { (h.nodes + 2 ≤ node_limit) × (h.commands < command_limit) × (var < half16) }
     ensures { PutCommand (held_in ws.old val.old cw.old h) (emit_set var (imm z)) (held_in ws.new val.new cw.new result) }
 {
-    let n0 = h.nodes;
-    let c0 = h.commands;
-    let n1 = push_imm16(ws, val, n0, var);
-    let n2 = push_imm(ws, val, n1, z);
-    let c1 = push_command(cw, c0, 2, n1 - 1, n2 - 1, 0);
-    Held {
-        nodes: n2,
-        commands: c1,
-    }
+    let target = push_imm16(ws, val, h.nodes, var);
+    let nodes = push_imm(ws, val, target, z);
+    push_set(cw, h.commands, target, nodes)
 }
 
 // emit_set of var[0].
+#[tactic(auto, unfolding(model::specs::Expr::size))]
 pub fn emit_temp(
     ws: &mut NodeWords,
     val: &mut Values,
@@ -66,18 +96,13 @@ pub fn emit_temp(
     requires { (h.nodes + 3 ≤ node_limit) × (h.commands < command_limit) × (var < half16) }
     ensures { PutCommand (held_in ws.old val.old cw.old h) (emit_set var temp_var) (held_in ws.new val.new cw.new result) }
 {
-    let n0 = h.nodes;
-    let c0 = h.commands;
-    let n1 = push_imm16(ws, val, n0, var);
-    let n2 = push_temp(ws, val, n1);
-    let c1 = push_command(cw, c0, 2, n1 - 1, n2 - 1, 0);
-    Held {
-        nodes: n2,
-        commands: c1,
-    }
+    let target = push_imm16(ws, val, h.nodes, var);
+    let nodes = push_temp(ws, val, target);
+    push_set(cw, h.commands, target, nodes)
 }
 
 // emit_set of what is left of a limit, to var[0].
+#[tactic(auto, unfolding(model::specs::Expr::size))]
 pub fn emit_left(
     ws: &mut NodeWords,
     val: &mut Values,
@@ -89,15 +114,9 @@ pub fn emit_left(
     requires { (h.nodes + 5 ≤ node_limit) × (h.commands < command_limit) }
     ensures { PutCommand (held_in ws.old val.old cw.old h) (emit_set 0 (remaining_expr limit item.0)) (held_in ws.new val.new cw.new result) }
 {
-    let n0 = h.nodes;
-    let c0 = h.commands;
-    let n1 = push_imm16(ws, val, n0, 0);
-    let n2 = push_left(ws, val, n1, limit, item);
-    let c1 = push_command(cw, c0, 2, n1 - 1, n2 - 1, 0);
-    Held {
-        nodes: n2,
-        commands: c1,
-    }
+    let target = push_imm16(ws, val, h.nodes, 0);
+    let nodes = push_left(ws, val, target, limit, item);
+    push_set(cw, h.commands, target, nodes)
 }
 
 // What ends H, D, N and S, whose commands begin at k and reach to h: on to end, by EndIf or as the block last pushed.
@@ -112,26 +131,22 @@ pub fn end_slot(
     requires { (with_end endif h.commands ≤ command_limit) × (k.blocks < block_limit) × (end.0 < block_limit) }
     ensures { PushedEnd cw.old bw.old k h end.0 endif cw.new bw.new result }
 {
-    let c0 = k.commands;
+    // Numbers of blocks are below block_limit, here and in the functions below: `try_from` would be a test more.
     let to = end.0 as u16;
-    if endif {
-        let c3 = push_command(cw, h.commands, 4, 0, 0, to);
-        let b1 = push_block(bw, k.blocks, 1, c0, 3, to + 1, 0);
-        return Counts {
-            nodes: h.nodes,
-            commands: c3,
-            blocks: b1,
-        };
-    }
-    let b2 = push_block(bw, k.blocks, 1, c0, 2, to + 1, 0);
+    let (commands, len) = if endif {
+        (push_command(cw, h.commands, END_IF, 0, 0, to), 3)
+    } else {
+        (h.commands, 2)
+    };
     Counts {
         nodes: h.nodes,
-        commands: h.commands,
-        blocks: b2,
+        commands,
+        blocks: push_block(bw, k.blocks, CODE, k.commands, len, to + 1, 0),
     }
 }
 
 // H, D and N: writes two numbers, the item and the count of a slot, then goes to end.
+// push_stock differs in the second Set alone, and stays for the same reason as emit_temp.
 pub fn push_slot(
     ws: &mut NodeWords,
     val: &mut Values,
@@ -148,13 +163,9 @@ pub fn push_slot(
     requires index_lt_slot_count { (index < slot_count) × (end.0 < block_limit) }
     ensures { PutBlocks (memory_of ws.old val.old cw.old bw.old k) (slot_block endif end.0 index (imm item) (imm count) ∷ []) (memory_of ws.new val.new cw.new bw.new result) }
 {
-    let h0 = Held {
-        nodes: k.nodes,
-        commands: k.commands,
-    };
-    let h1 = emit_number(ws, val, cw, h0, ITEM_WORD + index, item);
-    let h2 = emit_number(ws, val, cw, h1, COUNT_WORD + index, count);
-    end_slot(cw, bw, k, h2, end, endif)
+    let named = emit_number(ws, val, cw, held_before(k), ITEM_WORD + index, item);
+    let counted = emit_number(ws, val, cw, named, COUNT_WORD + index, count);
+    end_slot(cw, bw, k, counted, end, endif)
 }
 
 // S: writes the item of a slot and var[0] as its count, then goes to end.
@@ -173,16 +184,13 @@ pub fn push_stock(
     requires index_lt_slot_count { (index < slot_count) × (end.0 < block_limit) }
     ensures { PutBlocks (memory_of ws.old val.old cw.old bw.old k) (slot_block endif end.0 index (imm item) temp_var ∷ []) (memory_of ws.new val.new cw.new bw.new result) }
 {
-    let h0 = Held {
-        nodes: k.nodes,
-        commands: k.commands,
-    };
-    let h1 = emit_number(ws, val, cw, h0, ITEM_WORD + index, item);
-    let h2 = emit_temp(ws, val, cw, h1, COUNT_WORD + index);
-    end_slot(cw, bw, k, h2, end, endif)
+    let named = emit_number(ws, val, cw, held_before(k), ITEM_WORD + index, item);
+    let counted = emit_temp(ws, val, cw, named, COUNT_WORD + index);
+    end_slot(cw, bw, k, counted, end, endif)
 }
 
 // The Return block, which ends every path.
+#[tactic(auto, unfolding(model::specs::Script::block_commands))]
 pub fn push_return(
     ws: &mut NodeWords,
     val: &mut Values,
@@ -193,18 +201,15 @@ pub fn push_return(
     requires { Room (memory_of ws.old val.old cw.old bw.old k) (return_block ∷ []) }
     ensures { PutBlocks (memory_of ws.old val.old cw.old bw.old k) (return_block ∷ []) (memory_of ws.new val.new cw.new bw.new result) }
 {
-    let c0 = k.commands;
-    let b0 = k.blocks;
-    let c1 = push_command(cw, c0, 0, 0, 0, 0);
-    let b1 = push_block(bw, b0, 1, c0, 1, 0, 0);
     Counts {
         nodes: k.nodes,
-        commands: c1,
-        blocks: b1,
+        commands: push_command(cw, k.commands, RETURN, 0, 0, 0),
+        blocks: push_block(bw, k.blocks, CODE, k.commands, 1, 0, 0),
     }
 }
 
 // Z: var[0] = 0, then on to S.
+#[tactic(auto, unfolding(model::specs::Expr::size, model::specs::Script::block_commands, model::specs::Script::block_nodes, model::specs::Script::commands_nodes, model::specs::Script::command_nodes))]
 pub fn push_reset(
     ws: &mut NodeWords,
     val: &mut Values,
@@ -217,23 +222,17 @@ pub fn push_reset(
     requires set_lt_block_limit { set.0 < block_limit }
     ensures { PutBlocks (memory_of ws.old val.old cw.old bw.old k) (reset_block set.0 ∷ []) (memory_of ws.new val.new cw.new bw.new result) }
 {
-    let c0 = k.commands;
-    let b0 = k.blocks;
     let to = set.0 as u16;
-    let h0 = Held {
-        nodes: k.nodes,
-        commands: c0,
-    };
-    let h1 = emit_number(ws, val, cw, h0, 0, 0);
-    let b1 = push_block(bw, b0, 1, c0, 1, to + 1, 0);
+    let cleared = emit_number(ws, val, cw, held_before(k), 0, 0);
     Counts {
-        nodes: h1.nodes,
-        commands: h1.commands,
-        blocks: b1,
+        nodes: cleared.nodes,
+        commands: cleared.commands,
+        blocks: push_block(bw, k.blocks, CODE, k.commands, 1, to + 1, 0),
     }
 }
 
 // M: var[0] = limit - item[item]; below 0 on to Z, else to S.
+#[tactic(auto, unfolding(model::specs::Expr::size, model::specs::Script::block_commands, model::specs::Script::block_nodes, model::specs::Script::commands_nodes, model::specs::Script::command_nodes))]
 pub fn push_remaining(
     ws: &mut NodeWords,
     val: &mut Values,
@@ -248,25 +247,18 @@ pub fn push_remaining(
     requires set_lt_block_limit { set.0 < block_limit }
     ensures { PutBlocks (memory_of ws.old val.old cw.old bw.old k) (remaining_block limit item.0 set.0 ∷ []) (memory_of ws.new val.new cw.new bw.new result) }
 {
-    let c0 = k.commands;
-    let b0 = k.blocks;
     let to = set.0 as u16;
-    let h0 = Held {
-        nodes: k.nodes,
-        commands: c0,
-    };
-    let h1 = emit_left(ws, val, cw, h0, limit, item);
-    let n2 = push_below(ws, val, h1.nodes);
-    let c2 = push_command(cw, h1.commands, 3, n2 - 1, 0, to);
-    let b1 = push_block(bw, b0, 1, c0, 2, to + 2, to + 1);
+    let left = emit_left(ws, val, cw, held_before(k), limit, item);
+    let nodes = push_below(ws, val, left.nodes);
     Counts {
-        nodes: n2,
-        commands: c2,
-        blocks: b1,
+        nodes,
+        commands: push_command(cw, left.commands, IF, nodes - 1, 0, to),
+        blocks: push_block(bw, k.blocks, CODE, k.commands, 2, to + 2, to + 1),
     }
 }
 
 // emit_if_else, in a block of its own: the condition's nodes are there and end at n.
+// The four below push a condition each, and are this for the rest.
 pub fn push_if(
     cw: &mut CommandWords,
     bw: &mut BlockWords,
@@ -278,16 +270,12 @@ pub fn push_if(
     requires { (0 < n) × (k.commands < command_limit) × (k.blocks < block_limit) × (next.0 < block_limit) × (other.0 < block_limit) }
     ensures { PushedIf cw.old bw.old k n next.0 other.0 cw.new bw.new result }
 {
-    let c0 = k.commands;
-    let b0 = k.blocks;
     let to = next.0 as u16;
-    let el = other.0 as u16;
-    let c1 = push_command(cw, c0, 3, n - 1, 0, el);
-    let b1 = push_block(bw, b0, 1, c0, 1, to + 1, el + 1);
+    let or_to = other.0 as u16;
     Counts {
         nodes: n,
-        commands: c1,
-        blocks: b1,
+        commands: push_command(cw, k.commands, IF, n - 1, 0, or_to),
+        blocks: push_block(bw, k.blocks, CODE, k.commands, 1, to + 1, or_to + 1),
     }
 }
 
@@ -306,9 +294,8 @@ pub fn push_if_acquired(
     requires rate_lt_half16 { (a.rate < half16) × (next.0 < block_limit) × (other.0 < block_limit) }
     ensures { PutBlocks (memory_of ws.old val.old cw.old bw.old k) (if_block next.0 (acquired_of a) other.0 ∷ []) (memory_of ws.new val.new cw.new bw.new result) }
 {
-    let n0 = k.nodes;
-    let n1 = push_acquired(ws, val, n0, a);
-    push_if(cw, bw, k, n1, next, other)
+    let n = push_acquired(ws, val, k.nodes, a);
+    push_if(cw, bw, k, n, next, other)
 }
 
 // T: If Timer10 and Timer15 are missing.
@@ -327,9 +314,8 @@ pub fn push_if_no_timer(
     requires next_lt_block_limit { (next.0 < block_limit) × (other.0 < block_limit) }
     ensures { PutBlocks (memory_of ws.old val.old cw.old bw.old k) (if_block next.0 (both_missing ten.0 fifteen.0) other.0 ∷ []) (memory_of ws.new val.new cw.new bw.new result) }
 {
-    let n0 = k.nodes;
-    let n1 = push_no_timer(ws, val, n0, ten, fifteen);
-    push_if(cw, bw, k, n1, next, other)
+    let n = push_no_timer(ws, val, k.nodes, ten, fifteen);
+    push_if(cw, bw, k, n, next, other)
 }
 
 // V: If not acquired, and R where there are requirements.
@@ -349,9 +335,8 @@ pub fn push_if_missing(
     requires rate_lt_half16 { (a.rate < half16) × (len ≤ entry_limit) × (next.0 < block_limit) × (other.0 < block_limit) }
     ensures { PutBlocks (memory_of ws.old val.old cw.old bw.old k) (if_block next.0 (missing_and a codes.now len) other.0 ∷ []) (memory_of ws.new val.new cw.new bw.new result) }
 {
-    let n0 = k.nodes;
-    let n1 = push_missing_and(ws, val, n0, a, codes, len);
-    push_if(cw, bw, k, n1, next, other)
+    let n = push_missing_and(ws, val, k.nodes, a, codes, len);
+    push_if(cw, bw, k, n, next, other)
 }
 
 // If R.
@@ -370,7 +355,6 @@ pub fn push_if_visible(
     requires len_nonzero { (0 < len) × (len ≤ entry_limit) × (next.0 < block_limit) × (other.0 < block_limit) }
     ensures { PutBlocks (memory_of ws.old val.old cw.old bw.old k) (if_block next.0 (join_codes codes.now len) other.0 ∷ []) (memory_of ws.new val.new cw.new bw.new result) }
 {
-    let n0 = k.nodes;
-    let n1 = push_tests(ws, val, n0, codes, len);
-    push_if(cw, bw, k, n1, next, other)
+    let n = push_tests(ws, val, k.nodes, codes, len);
+    push_if(cw, bw, k, n, next, other)
 }

@@ -1,0 +1,6 @@
+-- The variable and var[0], then the Set.
+use Rattle.compile_emit.specs.BlockLaws.{set_put}
+use Rattle.compile_emit.proofs.emit_temp.Goals as goal
+
+pub returns : goal.returns
+returns c = rw c.push_set.ensures.1 (set_put c.push_imm16-target.ensures c.push_temp-nodes.ensures c.push_set.ensures.0)
