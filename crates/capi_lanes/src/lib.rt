@@ -9,10 +9,10 @@ ghost use Rattle.lanes_model.specs.Flat.{walk_in, left_by};
 ghost use Rattle.capi_values.specs.Values.{sheet_by, counts_by};
 ghost use Rattle.capi_lanes.specs.Answers.{left_as};
 
-use capi_values::sheet_by;
+use capi_values::{counts_by, sheet_by};
 use lanes::run_all;
 use lanes_expr::LANES;
-use memory::{BlockWords, CommandWords, Counts, NodeWords, Values};
+use memory::{BlockWords, CommandWords, NodeWords, Values};
 use model::BlockNo;
 
 // The refusal or 0, and how many blocks were read.
@@ -50,11 +50,7 @@ pub fn lk_run_all(
     ensures { left_as result refusals.new entered.new vars.new ≡ left_by (walk_in (sheet_of attached.now (sheet_by atcs timer5 timer10 timer15)) (memory_of ws.now val.now cw.now bw.now (counts_by nodes commands blocks)) setup saves (save_of items.now held.now flags.now times.now vars.old)) refusals.old entered.old vars.old }
 {
     let sheet = sheet_by(atcs, timer5, timer10, timer15);
-    let counts = Counts {
-        nodes: nodes,
-        commands: commands,
-        blocks: blocks,
-    };
+    let counts = counts_by(nodes, commands, blocks);
     let r = run_all(
         attached,
         sheet,
@@ -73,8 +69,14 @@ pub fn lk_run_all(
         refusals,
         entered,
     );
-    Walked {
-        refusal: r.refusal,
-        read: r.read,
+    match r {
+        Ok(read) => Walked {
+            refusal: 0,
+            read: read,
+        },
+        Err(e) => Walked {
+            refusal: e.number(),
+            read: 0,
+        },
     }
 }
