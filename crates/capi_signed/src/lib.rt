@@ -6,10 +6,11 @@ ghost use Rattle.shop.specs.Shapes.{sheet_of, slots_of};
 ghost use Rattle.shop_arrays.specs.Arrays.{arrays_in, shop_from};
 ghost use Rattle.capi_values.specs.Values.{sheet_by};
 ghost use Rattle.signed_model.specs.Findings.{check_call};
-ghost use Rattle.signed_check.specs.Answer.{checked_of};
+ghost use Rattle.signed_check.specs.Answer.{checked_of, finding_is};
+ghost use Rattle.capi_signed.specs.Answers.{finding_as, checked_as};
 
 use capi_values::sheet_by;
-use shop::{Codes, Row, SLOTS};
+use shop::{Codes, ENTRIES, Row, SLOTS};
 use signed_check::check_shop;
 
 // What is told of one slot, as signed_check says it, by numbers.
@@ -34,9 +35,22 @@ pub struct Checked {
     pub slots: [Finding; SLOTS],
 }
 
-fn finding_by(f: &signed_check::Finding) -> Finding
-    ensures { finding_as result ≡ finding_is f.now }
+// What a refusal tells of each slot.
+const NOTHING: Finding = Finding {
+    verdict: 0,
+    entry: 0,
+    limit: 0,
+    doubled: 0,
+    lost: 0,
+    listed: 0,
+    settings: 0,
+    codes: [0; ENTRIES],
+};
+
+fn finding_by(f: signed_check::Finding) -> Finding
+    ensures { finding_as result ≡ finding_is f }
 {
+    let codes = f.codes;
     Finding {
         verdict: f.verdict.number(),
         entry: f.verdict.entry(),
@@ -45,7 +59,7 @@ fn finding_by(f: &signed_check::Finding) -> Finding
         lost: f.lost,
         listed: f.listed.number(),
         settings: f.settings,
-        codes: f.codes,
+        codes: codes,
     }
 }
 
@@ -61,8 +75,20 @@ pub fn lk_check(
     codes: &Codes,
     lens: &[u8; SLOTS],
 ) -> Checked
-    ensures { result ≡ checked_of (check_call (sheet_of attached.now (sheet_by atcs timer5 timer10 timer15)) (slots_of (shop_from (arrays_in items.now limits.now codes.now lens.now)))) }
+    ensures { checked_as result ≡ checked_of (check_call (sheet_of attached.now (sheet_by atcs timer5 timer10 timer15)) (slots_of (shop_from (arrays_in items.now limits.now codes.now lens.now)))) }
 {
     let sheet = sheet_by(atcs, timer5, timer10, timer15);
-    check_shop(attached, sheet, items, limits, codes, lens)
+    match check_shop(attached, sheet, items, limits, codes, lens) {
+        Ok(told) => {
+            let slots = told.map(finding_by);
+            Checked {
+                refusal: 0,
+                slots: slots,
+            }
+        }
+        Err(e) => Checked {
+            refusal: e.number(),
+            slots: [NOTHING; SLOTS],
+        },
+    }
 }
