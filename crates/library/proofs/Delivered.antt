@@ -4,7 +4,6 @@ use Rattle.std.proofs.Common.{sym, ap, ◌∙◌, subst, arith}
 use Rattle.std.proofs.Math.Option.{Option, none, some}
 use Rattle.std.proofs.lemmas.List.{length-map}
 use Rattle.model.specs.Limits.{slot_count}
-use Rattle.model.specs.Refusal.{accepted}
 use Rattle.model.specs.Save.{Save}
 use Rattle.model.specs.Sheet.{Sheet, save_refusal}
 use Rattle.model.specs.Shop.{Slot, with_slots}
@@ -19,7 +18,6 @@ use Rattle.shop_arrays.specs.Arrays.{Arrays, shop_from}
 use Rattle.shop_arrays.specs.Slots.{slots_long}
 use Rattle.compile.specs.Answer.{call_of, CompiledAs}
 use Rattle.parse.specs.Answer.{ParsedAs}
-use Rattle.runner.specs.declared.Ran as code
 use Rattle.preview.specs.Accepted.{with_all}
 use Rattle.reclaim_model.specs.Changes.{given_to}
 use Rattle.reclaim_model.proofs.Laws.Others.{AsWas}
@@ -28,7 +26,7 @@ use Rattle.capi.specs.declared.Ran.{Ran}
 use Rattle.capi.specs.Answers.{loader_by, ran_as, previewed_as}
 use Rattle.engine.specs.Delivered as engine
 use Rattle.engine.proofs.Delivered as engine_laws
-use Rattle.library.specs.Delivered.{AsPromised, Asked, Delivered, Made, as_call, compile, given_by, left_by, made, ran_by, reclaim, shop_of}
+use Rattle.library.specs.Delivered.{AsPromised, Asked, Delivered, Made, as_call, compile, given_by, left_by, made, reclaim, shop_of}
 
 -- ---- as the calls that they make
 
@@ -93,14 +91,14 @@ module _ (h : Sheet) (k : Born) (xs : List Made) (long : LongBorn k) (promised :
 
   pub delivered : Delivered h k xs
   delivered = record {
-    runs = λ b b' ys n e i s f budget r v p. demand.runs b b' ys (now_is b ∙ n) (last_is b ∙ e) i s f budget (ran_by r) v (p ∙ run_at b' s budget);
-    ends = λ b b' ys n e s f budget r v p. demand.ends b b' ys (now_is b ∙ n) (last_is b ∙ e) s f budget (ran_by r) v (p ∙ run_at b' s budget);
+    runs = λ b b' ys n e i s f budget r v p. demand.runs b b' ys (now_is b ∙ n) (last_is b ∙ e) i s f budget (ran_as r v) (p ∙ run_at b' s budget);
+    ends = λ b b' ys n e s f budget r v p. demand.ends b b' ys (now_is b ∙ n) (last_is b ∙ e) s f budget (ran_as r v) (p ∙ run_at b' s budget);
     same = λ b b' ys n e s f budget other r q v w p u o i.
-        demand.same b b' ys (now_is b ∙ n) (last_is b ∙ e) s f budget other (ran_by r) (ran_by q) v w (p ∙ run_at b' s budget) (u ∙ run_at b' s other) o i;
+        demand.same b b' ys (now_is b ∙ n) (last_is b ∙ e) s f budget other (ran_as r v) (ran_as q w) (p ∙ run_at b' s budget) (u ∙ run_at b' s other) o i;
     parses = λ b b' ys n e m t p.
         demand.parses b b' ys (now_is b ∙ n) (last_is b ∙ e) (record { refusal = m; shop = shop_from t })
         (subst (λ (g : Born). ParsedAs (parse_in h g.memory b') (record { refusal = m; shop = shop_from t })) followed.after p.stands);
-    previews = λ b b' ys n e s f budget l r v q p u. demand.previews b b' ys (now_is b ∙ n) (last_is b ∙ e) s f budget l (ran_by r) v (previewed_as q) (p ∙ run_at b' s budget) u;
+    previews = λ b b' ys n e s f budget l r v q p u. demand.previews b b' ys (now_is b ∙ n) (last_is b ∙ e) s f budget l (ran_as r v) (previewed_as q) (p ∙ run_at b' s budget) u;
     others = λ b b' l n e.
         subst (λ (f : ℕ → Option ℕ). AsWas f (block_in k.memory b) (block_in (after_all made k xs).memory b')) (λ i j. now_is j i)
         (subst (λ (t : Born). AsWas (now_at engine.made k calls) (block_in k.memory b) (block_in t.memory b')) (sym followed.after) (demand.others b b' l (now_is b ∙ n) (last_is b ∙ e)));

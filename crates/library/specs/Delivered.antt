@@ -17,7 +17,6 @@ use Rattle.shop.specs.Shapes.{slots_of}
 use Rattle.shop_arrays.specs.Arrays.{Arrays, shop_from}
 use Rattle.compile.specs.Answer.{call_of, CompiledAs}
 use Rattle.parse.specs.Answer.{ParsedInto}
-use Rattle.runner.specs.declared.Ran as code
 use Rattle.preview.specs.Shown.{previewed_of}
 use Rattle.preview.specs.Agree.{AgreesCall}
 use Rattle.reclaim_model.specs.Changes.{names_of}
@@ -81,17 +80,14 @@ AsPromised h k x =
       | reclaim rs mv ↦ ReclaimedAs k rs mv x.answer.refusal (left_by x) x.told
     ]
 
-abbrev pub ran_by : Ran → code.Ran
-ran_by r = record { refusal = r.refusal; entered = r.entered }
-
 -- b is a block of the start, b' its number after the list
 pub record Delivered (h : Sheet) (k : Born) (xs : List Made) : Type 0 where
   -- lk_run from any surviving block where an lk_compile was accepted, the flags of the shop's slots with an item lying in the save (A.10), under any save that fits the sheet and any budget
   pub runs : (b b' : ℕ) (ys : List Slot) → now_at made k xs b ≡ some b' → last_at made k xs b ≡ some ys → shop_inside ys ≡ true → (s : Save) → save_refusal h s ≡ 0
-      → (budget : ℕ) (r : Ran) (v : List ℤ) → ran_as r v ≡ run_in h (after_all made k xs).memory b' s budget → engine.RanWell h s accepted ys budget (ran_by r) v
+      → (budget : ℕ) (r : Ran) (v : List ℤ) → ran_as r v ≡ run_in h (after_all made k xs).memory b' s budget → engine.RanWell h s accepted ys budget (ran_as r v)
   -- of any shop: 23 exactly where one of them lies outside, and then what the slots before the first such slot mean
   pub ends : (b b' : ℕ) (ys : List Slot) → now_at made k xs b ≡ some b' → last_at made k xs b ≡ some ys → (s : Save) → save_refusal h s ≡ 0
-      → (budget : ℕ) (r : Ran) (v : List ℤ) → ran_as r v ≡ run_in h (after_all made k xs).memory b' s budget → engine.RanWell h s (flag_answer ys) (until_outside ys) budget (ran_by r) v
+      → (budget : ℕ) (r : Ran) (v : List ℤ) → ran_as r v ≡ run_in h (after_all made k xs).memory b' s budget → engine.RanWell h s (flag_answer ys) (until_outside ys) budget (ran_as r v)
   -- one that its budget does not stop ends the same with any other such budget
   pub same : (b b' : ℕ) (ys : List Slot) → now_at made k xs b ≡ some b' → last_at made k xs b ≡ some ys → (s : Save) → save_refusal h s ≡ 0
       → (budget other : ℕ) (r q : Ran) (v w : List ℤ) → ran_as r v ≡ run_in h (after_all made k xs).memory b' s budget
