@@ -145,15 +145,6 @@ slot_block_lem {end} false i p q r =
 
 -- ---- blocks of an If
 
-pub record IfRoom (m : Memory) (e : Expr) : Type 0 where
-  pub nodes : m.coded.nodes.count + size e ≤ node_limit
-  pub commands : m.coded.count < command_limit
-  pub blocks : m.count < block_limit
-
-pub if_room : (m : Memory) (next other : ℕ) (e : Expr) → Room m (if_block next e other ∷ []) → IfRoom m e
-unfolding block_nodes block_commands commands_nodes command_nodes
-if_room m next other e r = record { nodes = omega (arith, r.nodes); commands = omega (arith, r.commands); blocks = omega (arith, r.blocks) }
-
 -- the condition's nodes, then the If and its block
 pub if_block_lem : {ws ws1 cw cw1 bw bw1 : List ℕ} {vs vs1 : List ℤ} {n : ℕ} {k m : Counts} {e : Expr} {next other : ℕ}
     → PutExpr (nodes_in ws vs k.nodes) e (nodes_in ws1 vs1 n) → PushedIf cw bw k n next other cw1 bw1 m

@@ -1,5 +1,6 @@
 // Commands and blocks appended to a script in lent arrays, each as the compiler's definitions have them.
-#![tactic(auto)]
+// The sizes that `unfolding` opens are those of the room that a block needs.
+#![tactic(auto, using(crate::specs::BlockLaws::slot_room, expr_build::specs::Laws::size_imm, memory::specs::PutNodes::size_pos, expr_build::specs::AcquiredLaws::size_both), unfolding(model::specs::Expr::size, model::specs::Script::block_commands, model::specs::Script::block_nodes, model::specs::Script::commands_nodes, model::specs::Script::command_nodes))]
 
 ghost use Rattle.std.specs.Prelude.{[], ◌∷◌, ◌+◌, ◌-◌, ◌≤◌, ◌<◌, ◌≡◌};
 ghost use Rattle.model.specs.Limits.{block_limit, command_limit, entry_limit, half16, node_limit, slot_count};
@@ -66,8 +67,7 @@ fn push_set(cw: &mut CommandWords, commands: u16, target: u16, nodes: u16) -> He
 
 // emit_set of a number: -1, 0, 1 or an item's id.
 // emit_temp and emit_left differ in the push of the value alone, and stay: an enum of the values cost a jump by table at
-// every Set.
-#[tactic(auto, unfolding(model::specs::Expr::size))]
+// every Set, and a closure would need clauses over both arrays, longer than the one line that differs.
 pub fn emit_number(
     ws: &mut NodeWords,
     val: &mut Values,
@@ -85,7 +85,6 @@ pub fn emit_number(
 }
 
 // emit_set of var[0].
-#[tactic(auto, unfolding(model::specs::Expr::size))]
 pub fn emit_temp(
     ws: &mut NodeWords,
     val: &mut Values,
@@ -102,7 +101,6 @@ pub fn emit_temp(
 }
 
 // emit_set of what is left of a limit, to var[0].
-#[tactic(auto, unfolding(model::specs::Expr::size))]
 pub fn emit_left(
     ws: &mut NodeWords,
     val: &mut Values,
@@ -190,7 +188,6 @@ pub fn push_stock(
 }
 
 // The Return block, which ends every path.
-#[tactic(auto, unfolding(model::specs::Script::block_commands))]
 pub fn push_return(
     ws: &mut NodeWords,
     val: &mut Values,
@@ -209,7 +206,6 @@ pub fn push_return(
 }
 
 // Z: var[0] = 0, then on to S.
-#[tactic(auto, unfolding(model::specs::Expr::size, model::specs::Script::block_commands, model::specs::Script::block_nodes, model::specs::Script::commands_nodes, model::specs::Script::command_nodes))]
 pub fn push_reset(
     ws: &mut NodeWords,
     val: &mut Values,
@@ -232,7 +228,6 @@ pub fn push_reset(
 }
 
 // M: var[0] = limit - item[item]; below 0 on to Z, else to S.
-#[tactic(auto, unfolding(model::specs::Expr::size, model::specs::Script::block_commands, model::specs::Script::block_nodes, model::specs::Script::commands_nodes, model::specs::Script::command_nodes))]
 pub fn push_remaining(
     ws: &mut NodeWords,
     val: &mut Values,
