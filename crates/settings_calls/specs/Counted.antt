@@ -1,6 +1,6 @@
 -- Settings over the calls of the library (02, A.9): any list of lk_compile and lk_reclaim as they were made and answered, then lk_settings of a slot of the shop that was accepted last at a block, and lk_run from there. Each call comes in by its own promise. Assumes nothing.
 use Rattle.std.specs.Prelude.{◌≡◌, refl, Bool, true, false, not, cond, List, ℕ, ◌+◌, ◌^◌, ◌≤◌, ◌<◌, ℤ, pos, negsuc, get_or, length}
-use Rattle.std.proofs.Common.{sym, ap, ◌∙◌, eq-eqb}
+use Rattle.std.proofs.Common.{sym, ap, ◌∙◌, subst, eq-eqb}
 use Rattle.std.proofs.Math.Option.{none, some}
 use Rattle.model.specs.Limits.{item_first, slot_count}
 use Rattle.model.specs.Signed.{eq_z}
@@ -17,8 +17,9 @@ use Rattle.settings_model.specs.Settings.{combos, count, listed_by, setting_of, 
 use Rattle.settings_model.proofs.Combos.{each_once, same_list}
 use Rattle.settings_model.proofs.Listed.{listed_item, setting_long}
 use Rattle.settings_model.proofs.Call.{Told, told}
-use Rattle.settings.specs.declared.Settings.{Settings}
-use Rattle.settings.specs.Answer.{settings_of}
+use Rattle.settings_model.specs.Settings as model
+use Rattle.capi_settings.specs.declared.Settings.{Settings}
+use Rattle.capi_settings.specs.Answers.{settings_as}
 use Rattle.capi.specs.declared.Ran.{Ran}
 use Rattle.capi.specs.Answers.{ran_as}
 use Rattle.library.specs.Delivered.{AsPromised, Made, made}
@@ -32,12 +33,11 @@ pub record Counted (h : Sheet) (x : Slot) (q : Settings) : Type 0 where
   pub hidden : q.hidden ≡ count (λ c. not (listed_by h x c)) (combos q.subjects)
   pub together : q.listed + q.hidden ≡ 2 ^ q.subjects
 
-pub counted : (h : Sheet) (x : Slot) (q : Settings) → q ≡ settings_of (settings_call h x) → q.refusal ≡ 0 → Counted h x q
-unfolding settings_of
-counted h x q p e = rw p (record { subjects = t.subjects; few = t.few; listed = t.listed; hidden = t.hidden; together = t.together })
+pub counted : (h : Sheet) (x : Slot) (q : Settings) → settings_as q ≡ settings_call h x → q.refusal ≡ 0 → Counted h x q
+counted h x q p e = record { subjects = t.subjects; few = t.few; listed = t.listed; hidden = t.hidden; together = t.together }
   where
-    t : Told h x (settings_call h x)
-    t = told h x (sym (ap (λ (r : Settings). r.refusal) p) ∙ e)
+    t : Told h x (settings_as q)
+    t = subst (Told h x) (sym p) (told h x (sym (ap (λ (r : model.Settings). r.answer) p) ∙ e))
 
 -- the combination of a save is one of these, and it is listed exactly if the run left the slot's item in its item variable, v being the variables after it
 pub record Runs (h : Sheet) (x : Slot) (n : ℕ) (s : Save) (variable : ℤ) : Type 0 where
@@ -65,11 +65,11 @@ runs_so h x s z e = record {
 -- the first call gets the script k, each later one the script as the one before left it; ys is the shop that was accepted last at block b, which is b' after the list
 module _ (h : Sheet) (k : Born) (xs : List Made) (long : LongBorn k) (promised : Along made (AsPromised h) k xs) (b b' : ℕ) (ys : List Slot) (now : now_at made k xs b ≡ some b') (last : last_at made k xs b ≡ some ys) where
   -- lk_settings of its slot i, by any numbers that stand for that slot, answered q; lk_run from there under a save that fits was not refused and left v
-  pub settings_run : (i : ℕ) → i < length ys → (z l : ℤ) (cs : List ℕ) (n : ℕ) → slot_of (slot_in z l cs n) ≡ get_or ys i empty_slot → (q : Settings) → q ≡ settings_of (settings_call h (slot_of (slot_in z l cs n))) → q.refusal ≡ 0
+  pub settings_run : (i : ℕ) → i < length ys → (z l : ℤ) (cs : List ℕ) (n : ℕ) → slot_of (slot_in z l cs n) ≡ get_or ys i empty_slot → (q : Settings) → settings_as q ≡ settings_call h (slot_of (slot_in z l cs n)) → q.refusal ≡ 0
       → (s : Save) → save_refusal h s ≡ 0 → (budget : ℕ) (r : Ran) (v : List ℤ) → ran_as r v ≡ run_in h (after_all made k xs).memory b' s budget → r.refusal ≡ 0
       → Counted h (get_or ys i empty_slot) q × Runs h (get_or ys i empty_slot) q.subjects s (get_or v (item_first + i) (pos 0))
   settings_run i low z l cs n e q p a s f budget r v u o =
       let x = get_or ys i empty_slot in
-      let c = counted h x q (p ∙ ap (λ (y : Slot). settings_of (settings_call h y)) e) a in
+      let c = counted h x q (p ∙ ap (λ (y : Slot). settings_call h y) e) a in
       let m = means_of h k xs long promised b b' ys now last s f budget r v u o in
       (c, rw c.subjects (runs_so h x s (get_or v (item_first + i) (pos 0)) (m.items i low)))
