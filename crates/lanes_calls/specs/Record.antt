@@ -1,5 +1,5 @@
 -- After any list of compiles and reclaims on a script record, a walk at a block with a last accepted shop: 1 to 64 saves that fit are refused by no check, and at most 142 blocks are read. Assumes nothing.
-use Rattle.std.specs.Prelude.{◌≡◌, ◌≢◌, length}
+use Rattle.std.specs.Prelude.{◌≡◌, length}
 use Rattle.std.proofs.Math.Path.{refl, ap, subst}
 use Rattle.std.proofs.Common.{sym, ◌∙◌, arith}
 use Rattle.std.proofs.Math.Bool.{true}
