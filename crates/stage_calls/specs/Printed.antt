@@ -1,5 +1,5 @@
 -- A stage's file read by lk_read_heading and lk_read and parsed by lk_parse answers what the program slots prints for it (01, Image and printer). Each call comes in by its own promise. Assumes nothing.
-use Rattle.std.specs.Prelude.{◌≡◌, refl, Bool, true, false, cond, List, ℕ, zero, suc, leb, length, drop}
+use Rattle.std.specs.Prelude.{◌≡◌, refl, Bool, true, false, cond, List, ℕ, zero, suc, leb, length, drop, Ok}
 use Rattle.std.proofs.Common.{sym, ap, ◌∙◌, arith, leb-true, leb-false}
 use Rattle.model.specs.Limits.{input_limit}
 use Rattle.model.specs.Refusal.{over_limit}
@@ -13,11 +13,11 @@ use Rattle.memory.specs.Sound.{Long}
 use Rattle.shop.specs.Shapes.{slots_of}
 use Rattle.shop_arrays.specs.Arrays.{Arrays, shop_from}
 use Rattle.image_read.specs.Outcome.{outcome, read_into}
-use Rattle.image_read.specs.declared.Image.TheVariants.{Read}
-use Rattle.parse.specs.Answer.{ParsedInto}
+use Rattle.model.specs.Parse.{Parsed}
+use Rattle.parse.specs.Answer.{ParsedInto, answer_of}
 use Rattle.slots_sheet.specs.Outcome.{Head, read_head}
 use Rattle.slots_print.specs.Input.{read_stands, slots_long, slots_head_no, slots_image_no, slots_parsed}
-use Rattle.slots_print.specs.Text.{text_refused, text_lines}
+use Rattle.slots_print.specs.Text.{text_lines}
 use Rattle.capi.specs.declared.Kept.{Kept}
 use Rattle.capi.specs.Answers.{counts_in, outcome_by, read_as}
 use Rattle.capi_stage.specs.declared.Headed.{Headed}
@@ -50,6 +50,14 @@ image_no zero m e x d p = absurd (d refl)
 image_no (suc n) m e (got bs t) d p = let z : ◌≡◌ {A = ℕ} 0 1 = cc in absurd (omega arith)
 image_no (suc n) m e (refused k) d p = let q : suc n ≡ k = cc in ap refused (sym q)
 
+-- ---- a parse that is refused
+
+parse_no : (n : ℕ) (p : Parsed) → suc n ≡ p.answer → refused_text (suc n) ≡ parsed_text p
+unfolding parsed_text
+parse_no n p e = rw (← e)
+
+-- ---- what is printed
+
 -- long: the lengths of the four arrays, which the types of lk_read say
 module _ (s ks : List ℕ) (r : Headed) (ks' : List ℕ) (head : HeadReadBy s ks r ks') (fine : r.refusal ≡ 0) (a : Lent) (long : Long (empty a)) (k : Kept) (b : Lent) (image : ReadBy (drop r.at s) a k b) where
   given : Handed s r ks'
@@ -64,17 +72,18 @@ module _ (s ks : List ℕ) (r : Headed) (ks' : List ℕ) (head : HeadReadBy s ks
 
   module _ (read : k.refusal ≡ 0) where
     -- what the text is, by what was read
-    parsed_by : outcome (Read (counts_in k)) b.ws b.val b.cw b.bw ≡ read_into (empty a) (read_image (drop r.at s)) → slots s ≡ parsed_text (parse_in (head_in r ks').sheet (kept b k) r.setup)
+    parsed_by : outcome (Ok (counts_in k)) b.ws b.val b.cw b.bw ≡ read_into (empty a) (read_image (drop r.at s)) → slots s ≡ parsed_text (parse_in (head_in r ks').sheet (kept b k) r.setup)
     parsed_by as_read =
         let z = read_stands a.ws a.val a.cw a.bw long b.ws b.val b.cw b.bw (drop r.at s) (counts_in k) as_read in
         slots_parsed s given.short (head_in r ks') (drop r.at s) given.read z.blocks z.rest z.read
         ∙ sym (ap parsed_text (z.parses (head_in r ks').sheet r.setup))
 
     text_by : slots s ≡ parsed_text (parse_in (head_in r ks').sheet (kept b k) r.setup) → (n : ℕ) (x : Arrays) → ParsedInto (parse_in (head_in r ks').sheet (kept b k) r.setup) n x → slots s ≡ answer_text n (slots_of (shop_from x))
-    text_by e zero x p = e ∙ sym (text_lines p.stands refl)
-    text_by e (suc n) x p = e ∙ sym (text_refused p.stands (λ e. omega arith))
+    unfolding answer_of
+    text_by e zero x p = e ∙ sym (text_lines (shop_from x) (record { refusal = p.refusal; shop = p.stands }))
+    text_by e (suc n) x p = e ∙ sym (parse_no n (parse_in (head_in r ks').sheet (kept b k) r.setup) p.refusal)
 
-    as_read : outcome (Read (counts_in k)) b.ws b.val b.cw b.bw ≡ read_into (empty a) (read_image (drop r.at s))
+    as_read : outcome (Ok (counts_in k)) b.ws b.val b.cw b.bw ≡ read_into (empty a) (read_image (drop r.at s))
     unfolding read_as outcome
     as_read = rw read at image.0
 
