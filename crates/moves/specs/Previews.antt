@@ -12,8 +12,7 @@ use Rattle.model.specs.Shop.{Slot, empty_slot, shop_refusal, with_slots}
 use Rattle.model.specs.Flags.{flag_answer}
 use Rattle.model.specs.Meaning.{Meaning, hidden, meaning_of, temp_after}
 use Rattle.model.specs.Preview.{preview_call, preview_of}
-use Rattle.preview.specs.declared.Previewed as code
-use Rattle.preview.specs.Shown.{meanings_of, previewed_of}
+use Rattle.preview.specs.Shown.{Answer, meanings_of, previewed_of}
 use Rattle.preview.specs.Accepted.{counts_are, items_are, with_all}
 use Rattle.shop_arrays.specs.Arrays.{Arrays}
 use Rattle.capi.specs.declared.Previewed.{Previewed}
@@ -43,7 +42,7 @@ meanings h a s e = by (first_of (sheet_refusal h ∷ shop_refusal h (shop_of a) 
 module _ (h : Sheet) (a : Arrays) (s : Save) (p : Previewed) (promised : previewed_as p ≡ previewed_of (preview_call h (shop_of a) s)) (fine : p.refusal ≡ 0) where
   is : preview_call h (shop_of a) s ≡ meanings_of h (shop_of a) s
   unfolding previewed_of
-  is = meanings h a s (sym (ap (λ (x : code.Previewed). x.refusal) promised) ∙ fine)
+  is = meanings h a s (sym (ap (λ (x : Answer). x.refusal) promised) ∙ fine)
 
   shown : previewed_as p ≡ previewed_of (meanings_of h (shop_of a) s)
   shown = promised ∙ ap previewed_of is
@@ -58,18 +57,18 @@ module _ (h : Sheet) (a : Arrays) (s : Save) (p : Previewed) (promised : preview
   item_is : (i : ℕ) → get_or p.items i (negsuc 0) ≡ (meaning_of h s (get_or (shop_of a) i empty_slot)).item
   item_is i =
       let m = meanings_of h (shop_of a) s in
-      ap (λ (x : code.Previewed). get_or x.items i (negsuc 0)) shown
+      ap (λ (x : Answer). get_or x.items i (negsuc 0)) shown
       ∙ ap (λ (zs : List ℤ). get_or zs i (negsuc 0)) (items_are m twenty) ∙ get_or-map (λ (x : Meaning). x.item) m.slots i hidden ∙ ap (λ (x : Meaning). x.item) (slots_are i)
 
   count_is : (i : ℕ) → get_or p.counts i (pos 0) ≡ (meaning_of h s (get_or (shop_of a) i empty_slot)).count
   count_is i =
       let m = meanings_of h (shop_of a) s in
-      ap (λ (x : code.Previewed). get_or x.counts i (pos 0)) shown
+      ap (λ (x : Answer). get_or x.counts i (pos 0)) shown
       ∙ ap (λ (zs : List ℤ). get_or zs i (pos 0)) (counts_are m twenty) ∙ get_or-map (λ (x : Meaning). x.count) m.slots i hidden ∙ ap (λ (x : Meaning). x.count) (slots_are i)
 
   temp_is : p.temp ≡ temp_after h s (shop_of a) (get_or s.variables 0 (pos 0))
   unfolding previewed_of
-  temp_is = ap (λ (x : code.Previewed). x.temp) shown
+  temp_is = ap (λ (x : Answer). x.temp) shown
 
 -- neither of the two is refused
 pub previews_differ : (h : Sheet) (a : Arrays) (w n : ℕ) (s t : Save) → OneMore w n s t
