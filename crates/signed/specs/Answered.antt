@@ -33,10 +33,8 @@ use Rattle.signed_model.proofs.Places.{First}
 use Rattle.signed_model.specs.Findings as Told
 use Rattle.signed_model.specs.Findings.{faithful, pair, own, outside, check_call, check_checks, checked_as, finding, settings_for, verdict}
 use Rattle.signed_model.proofs.Told.{Concerned, Right, is_apart, is_outside, shown_by, told_right}
-use Rattle.signed_check.specs.Answer.{checked_of, finding_of, no_finding, verdict_of}
+use Rattle.signed_check.specs.Answer.{Checked, Finding, checked_of, finding_of, no_finding, verdict_of}
 use Rattle.signed_check.specs.Shops.{slot_passed, with_shop}
-use Rattle.signed_check.specs.declared.Finding.{Finding}
-use Rattle.signed_check.specs.declared.Checked.{Checked}
 use Rattle.shop_codes.specs.Subjects.{keep_narrow}
 
 -- the save that the codes are: these are had, and all else is 0

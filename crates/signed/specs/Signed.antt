@@ -21,10 +21,9 @@ use Rattle.shop.specs.Shapes.{no_slot, slot_of, slots_of}
 use Rattle.shop_arrays.specs.Arrays.{Arrays, shop_from, slot_at}
 use Rattle.shop_arrays.specs.Slots.{slot_in_lem}
 use Rattle.parse.specs.Answer.{ParsedInto}
-use Rattle.preview.specs.Shown.{meanings_of, previewed_of}
+use Rattle.preview.specs.Shown.{Answer, meanings_of, previewed_of}
 use Rattle.preview.specs.Accepted.{accepted_preview, items_are, with_all}
 use Rattle.preview.specs.Agree.{AgreesCall}
-use Rattle.preview.specs.declared.Previewed as code
 use Rattle.capi.specs.declared.Previewed.{Previewed}
 use Rattle.capi.specs.declared.Ran.{Ran}
 use Rattle.capi.specs.Answers.{previewed_as, ran_as}
@@ -34,10 +33,8 @@ use Rattle.signed_model.proofs.Witness.{Tells}
 use Rattle.signed_model.specs.Findings.{Verdict, faithful, pair, own, outside, check_call, finding, verdict}
 use Rattle.signed_model.proofs.Told.{told_rule}
 use Rattle.signed_model.proofs.Shops.{preview_same, shop_inside_lem, shop_ok}
-use Rattle.signed_check.specs.Answer.{checked_of, finding_of, no_finding, verdict_of}
+use Rattle.signed_check.specs.Answer.{Checked, Finding, checked_of, finding_of, no_finding, verdict_of}
 use Rattle.signed_check.specs.Shops.{shop_long}
-use Rattle.signed_check.specs.declared.Finding.{Finding}
-use Rattle.signed_check.specs.declared.Checked.{Checked}
 use Rattle.signed.specs.Answered.{answered, both_passed, finding_at, is_faithful_lem, saved_by}
 
 -- what holds at each place holds of all
@@ -83,7 +80,7 @@ module _ (h : Sheet) (a : Arrays) (c : Checked) (p : c ≡ checked_of (check_cal
       by (own j) e = (answered h a c p acc i l).own_tells (sym (told_is i l) ∙ ap (λ v. (verdict_of v).verdict) e)
       by (outside j) e = absurd (no-three (sym (told_is i l) ∙ ap (λ v. (verdict_of v).verdict) e))
 
--- ---- over the calls: a is the last shop accepted at b, c what lk_check told of it, t what lk_parse read there, q the preview of that, and the run answered r and left v
+-- ---- over the calls: a is the last shop accepted at b, c what lk_check told of it (checked_as of capi_signed/specs/Answers), t what lk_parse read there, q the preview of that, and the run answered r and left v
 
 module _ (h : Sheet) (k : Born) (xs : List Made) (d : Delivered h k xs) (b b' : ℕ) (a : Arrays) (now : now_at made k xs b ≡ some b') (last : last_at made k xs b ≡ some (shop_of a))
     (c : Checked) (p : c ≡ checked_of (check_call h (shop_of a))) (acc : c.refusal ≡ 0) (budget : ℕ) (enough : run_blocks ≤ budget) where
@@ -140,7 +137,7 @@ module _ (h : Sheet) (k : Born) (xs : List Made) (d : Delivered h k xs) (b b' : 
 
       lists : get_or q.items i (negsuc 0) ≡ pos w
       lists =
-          ap (λ (x : code.Previewed). get_or x.items i (negsuc 0)) (qe ∙ ap previewed_of shown)
+          ap (λ (x : Answer). get_or x.items i (negsuc 0)) (qe ∙ ap previewed_of shown)
           ∙ ap (λ zs. get_or zs i (negsuc 0)) (items_are (meanings_of h (normal_shop h ys) s) (length-map (normal_shop h ys) (meaning_of h s) ∙ long))
           ∙ any_default (map (λ m. m.item) (map (meaning_of h s) (map (normal h) ys))) i (negsuc 0) (meaning_of h s (normal h empty_slot)).item (omega (arith, length-map (map (meaning_of h s) (map (normal h) ys)) (λ m. m.item), length-map (map (normal h) ys) (meaning_of h s), long))
           ∙ get_or-map (λ m. m.item) (map (meaning_of h s) (map (normal h) ys)) i (meaning_of h s (normal h empty_slot))
