@@ -3,9 +3,9 @@
 
 ghost use Rattle.std.specs.Prelude.{◌<◌};
 
-use bill::{Billed, bill};
+use bill::bill;
 use case_lines::{Answer, WORDS, Words, low8, low16, run_cases, wide8};
-use model::{FLAGS, ItemId, TIMES, VARIABLES, Variables};
+use model::{FLAGS, ItemId, Refusal, TIMES, VARIABLES, Variables, refusal_in};
 use shop::{COUNT_FIRST, ITEM_FIRST, SLOTS, Sheet};
 
 // The slots that a case gives, and the lines that are told of its bill.
@@ -45,7 +45,7 @@ fn put_slot(a: &Words, i: usize, vars: &mut Variables, basket: &mut [i32; SLOTS]
 
 // The arrays hold 9 everywhere before: a refused bill leaves them.
 fn made(kind: u8, a: &Words, vars: &Variables, basket: &[i32; SLOTS], t: &mut Answer) {
-    let n = low8(a[3]) as usize;
+    let n = usize::from(low8(a[3]));
     if 9 < n {
         return;
     }
@@ -63,7 +63,7 @@ fn made(kind: u8, a: &Words, vars: &Variables, basket: &[i32; SLOTS], t: &mut An
         &mut sums,
     );
     if kind == b'L' {
-        line_of(r, low8(a[18]) as usize, &ids, &slots, &sums, t);
+        line_of(r, usize::from(low8(a[18])), &ids, &slots, &sums, t);
         return;
     }
     whole(r, &ids, &slots, &sums, t);
@@ -78,7 +78,7 @@ fn bill_by(
     ids: &mut [i32; SLOTS],
     slots: &mut [u8; SLOTS],
     sums: &mut [u64; SLOTS],
-) -> Billed {
+) -> Result<u64, Refusal> {
     let attached: [u8; 8] = [0; 8];
     let sheet = Sheet {
         atcs: 1,
@@ -109,10 +109,17 @@ fn bill_by(
 
 // ---- what is told
 
-fn whole(r: Billed, ids: &[i32; SLOTS], slots: &[u8; SLOTS], sums: &[u64; SLOTS], t: &mut Answer) {
-    t[0] = r.refusal as u32;
-    t[1] = capped(r.total / BILLION);
-    t[2] = capped(r.total % BILLION);
+fn whole(
+    r: Result<u64, Refusal>,
+    ids: &[i32; SLOTS],
+    slots: &[u8; SLOTS],
+    sums: &[u64; SLOTS],
+    t: &mut Answer,
+) {
+    t[0] = u32::from(refusal_in(r.map(|_| ())));
+    let total = r.unwrap_or(0);
+    t[1] = capped(total / BILLION);
+    t[2] = capped(total % BILLION);
     for i in 0..TOLD {
         t[3 + 3 * i] = ints::to_bits(ids[i]);
         t[4 + 3 * i] = wide8(slots[i]);
@@ -121,7 +128,7 @@ fn whole(r: Billed, ids: &[i32; SLOTS], slots: &[u8; SLOTS], sums: &[u64; SLOTS]
 }
 
 fn line_of(
-    r: Billed,
+    r: Result<u64, Refusal>,
     i: usize,
     ids: &[i32; SLOTS],
     slots: &[u8; SLOTS],
@@ -131,7 +138,7 @@ fn line_of(
     if SLOTS <= i {
         return;
     }
-    t[0] = r.refusal as u32;
+    t[0] = u32::from(refusal_in(r.map(|_| ())));
     t[1] = ints::to_bits(ids[i]);
     t[2] = wide8(slots[i]);
     t[3] = capped(sums[i] / BILLION);

@@ -18,7 +18,7 @@ fn asked(a: &Words, t: &mut Answer) {
     let mut attached: [u8; 8] = [0; 8];
     attached[1] = 1;
     attached[6] = 2;
-    let items = low8(a[1]) as usize;
+    let items = usize::from(low8(a[1]));
     if 8 < items {
         return;
     }
@@ -37,8 +37,8 @@ fn asked(a: &Words, t: &mut Answer) {
         &codes,
         low8(a[5]),
     );
-    t[0] = r.refusal as u32;
-    t[1] = r.subjects as u32;
+    t[0] = u32::from(r.refusal);
+    t[1] = u32::from(r.subjects);
     t[2] = r.listed;
     t[3] = r.hidden;
 }

@@ -2,7 +2,7 @@
 #![tactic(auto)]
 
 use case_lines::{Answer, WORDS, Words, bits16, code, low8, low16, run_cases, signed16, wide8};
-use model::{FLAGS, ItemId, TIMES, VARIABLES, Variables};
+use model::{FLAGS, ItemId, Refusal, TIMES, VARIABLES, Variables, refusal_in};
 use shop::{CODES, ENTRIES, SLOTS, Sheet};
 use shopper::{Shopped, WISHES, shopping};
 
@@ -41,7 +41,7 @@ fn shopped(
     coins: &mut [u32; WISHES],
     t: &mut Answer,
 ) {
-    let n = low16(a[9]) as usize;
+    let n = usize::from(low16(a[9]));
     if LIST < n {
         return;
     }
@@ -49,7 +49,7 @@ fn shopped(
     let mut items: [i16; 8] = [0; 8];
     let mut atcs: [u8; 1] = [0; 1];
     let r = in_shop(a, &all[0..n], &mut items, &mut atcs, answers, coins);
-    put_end(r, &items, &atcs, t);
+    put_end(r, a[8], &items, &atcs, t);
     for i in 0..TOLD {
         t[3 + 2 * i] = wide8(answers[i]);
         t[4 + 2 * i] = coins[i];
@@ -64,7 +64,7 @@ fn in_shop(
     atcs: &mut [u8; 1],
     answers: &mut [u8; WISHES],
     coins: &mut [u32; WISHES],
-) -> Shopped {
+) -> Result<Shopped, Refusal> {
     let mut wares: [i32; SLOTS] = [-1; SLOTS];
     let ware = ints::from_bits(a[2]);
     wares[0] = ware;
@@ -89,7 +89,7 @@ fn with_save(
     atcs: &mut [u8; 1],
     answers: &mut [u8; WISHES],
     coins: &mut [u32; WISHES],
-) -> Shopped {
+) -> Result<Shopped, Refusal> {
     let mut attached: [u8; 8] = [0; 8];
     attached[4] = 1;
     let limits: [i16; SLOTS] = [signed16(a[3]); SLOTS];
@@ -129,10 +129,17 @@ fn sheet_by(a: &Words) -> Sheet {
 
 // ---- what is told
 
-fn put_end(r: Shopped, items: &[i16; 8], atcs: &[u8; 1], t: &mut Answer) {
-    t[0] = r.refusal as u32;
-    t[1] = r.steps as u32;
-    t[2] = r.money;
+// A refused call takes no step, and the money stays.
+fn put_end(
+    r: Result<Shopped, Refusal>,
+    money: u32,
+    items: &[i16; 8],
+    atcs: &[u8; 1],
+    t: &mut Answer,
+) {
+    t[0] = u32::from(refusal_in(r.map(|_| ())));
+    t[1] = r.map_or(0, |end| u32::from(end.steps));
+    t[2] = r.map_or(money, |end| end.money);
     t[11] = bits16(items[3]);
     t[12] = bits16(items[4]);
     t[13] = wide8(atcs[0]);

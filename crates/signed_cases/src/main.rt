@@ -1,12 +1,11 @@
 // What is told of a shop before it is signed, through the exported call: runs the cases of its standard input, one to a line, and says of each whether it answered what the line says.
 #![tactic(auto)]
 
-use capi_signed::lk_check;
+use capi_signed::{Finding, lk_check};
 use case_lines::{
     Answer, WORDS, Words, code, kind_in, low8, low16, number_in, run_cases, signed16,
 };
 use shop::{CODES, ENTRIES, SLOTS};
-use signed_check::Finding;
 
 fn main() {
     let mut input: [u8; 4096] = [0; 4096];
@@ -38,18 +37,18 @@ fn asked(a: &Words, t: &mut Answer) {
     lens[1] = low8(a[4]);
     let ten = low16(a[1]);
     let r = lk_check(&attached, 2, 0, ten, 2, &items, &limits, &codes, &lens);
-    t[0] = r.refusal as u32;
-    found(r.slots[1], t);
+    t[0] = u32::from(r.refusal);
+    found(&r.slots[1], t);
 }
 
-fn found(f: Finding, t: &mut Answer) {
-    t[1] = f.verdict as u32;
-    t[2] = f.entry as u32;
-    t[3] = f.limit as u32;
-    t[4] = f.doubled as u32;
-    t[5] = f.lost as u32;
-    t[6] = f.listed as u32;
-    t[7] = f.settings as u32;
+fn found(f: &Finding, t: &mut Answer) {
+    t[1] = u32::from(f.verdict);
+    t[2] = u32::from(f.entry);
+    t[3] = u32::from(f.limit);
+    t[4] = u32::from(f.doubled);
+    t[5] = u32::from(f.lost);
+    t[6] = u32::from(f.listed);
+    t[7] = u32::from(f.settings);
     t[8] = kind_in(f.codes[0]);
     t[9] = number_in(f.codes[0]);
 }
