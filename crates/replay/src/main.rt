@@ -141,7 +141,7 @@ fn parse_case(s: &[u8], at: usize) -> Option<(Case, usize)>
 fn prints(input: &[u8], text: &[u8]) -> bool {
     let mut out = [0u8; 16384];
     let m = slots_print::slots(input, &mut out);
-    out[..m] == *text
+    &out[..m] == text
 }
 
 // ---- lists of compiles

@@ -1,0 +1,6 @@
+-- So many cases are tallied.
+use Rattle.replay.specs.Tally.{Fair}
+use Rattle.replay.proofs.all_lists.Given as goal
+
+abbrev pub invariant-loop : goal.invariant-loop
+invariant-loop l = Fair l.counter l.t
