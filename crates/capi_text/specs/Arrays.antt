@@ -1,7 +1,7 @@
 -- The arrays of a shop word by word, and what the calls answer by what was read or printed. Assumes nothing.
 use Rattle.std.proofs.Math.Path.{◌≡◌, refl, ap}
-use Rattle.std.proofs.Common.{sym, ◌∙◌, arith, add-one, leb-true, length-set, take_all, take-suc, take-suc-set}
-use Rattle.std.specs.Prelude.{true, false, pos, negsuc, length, take, set}
+use Rattle.std.proofs.Common.{◌∙◌, arith, add-one, leb-true, length-set, take-suc, take-suc-set}
+use Rattle.std.specs.Prelude.{true, false, pos, negsuc, length, take, set, Ok, Err}
 use mathlib.Core.List.{List, ◌∷◌, map}
 use Prim.Native.Nat.{ℕ, zero, suc, ◌+◌, ◌≤◌, ◌<◌}
 use Rattle.std.proofs.Math.IntN.{ℤ}
@@ -20,10 +20,10 @@ use Rattle.shop_arrays.specs.Back.{Full, arrays_back}
 use Rattle.shop_arrays.specs.Slots.{slots_long, slot_in_lem}
 use Rattle.slots_text.specs.Written.{Wrote, text_limit}
 use Rattle.slots_text.specs.Lines.{beyond, FewEach, lines_space}
-use Rattle.text_model.specs.Text.{ReadText, slots, bad, read_text}
-use Rattle.text_model.proofs.Reasons.{bad_told}
-use Rattle.text_read.specs.Shops.{shop_for, text_shop}
-use Rattle.text_read.specs.declared.TextShop.{TextShop}
+use Rattle.text_model.specs.Text.{ReadText, slots, bad}
+use Rattle.text_read.specs.Faults.{fault_number}
+use Rattle.text_read.specs.Shops.{shop_for, text_shop, text_of}
+use Rattle.text_read.specs.declared.BadLine.{BadLine}
 use Rattle.capi_text.specs.Calls.{read_call, few, print_call}
 
 -- ---- items put one by one
@@ -43,11 +43,6 @@ module _ (s : Shop) (is : List ℤ) (i : ℕ) (u : ItemsPut s is i) (size : leng
         long = length-set is i z ∙ u.long;
         same = rw (add-one i, take-suc-set is i z l, take-suc (items_of s) i (f d) m, u.same, get_or-map f s.slots i d, q);
       }
-
-  pub items_all : slot_count ≤ i → is ≡ items_of s
-  items_all h =
-      let f : Slot → ℤ = λ x. item_to x.item in
-      sym (take_all i is (omega (arith, u.long))) ∙ u.same ∙ take_all i (items_of s) (omega (arith, length-map s.slots f))
 
 -- ---- arrays that stand for a shop: all but the items are its words
 
@@ -98,19 +93,16 @@ module _ (is ls : List ℤ) (cs ns : List ℕ) (full : Full (arrays_in is ls cs 
 
 -- ---- reading
 
-pub read_refused : (x : ReadText) (t : TextShop) (a : Arrays) → t ≡ text_shop x → (t.reason ≡ 0 → ⊥) → record { reason = t.reason; line = t.line; arrays = a } ≡ read_call x a
-read_refused (slots xs) t a e h = absurd (h (ap (λ (u : TextShop). u.reason) e))
-read_refused (bad l n) t a e h = rw e
+pub read_refused : (x : ReadText) (b : BadLine) (a : Arrays) → text_of (Err b) ≡ text_shop x → record { reason = fault_number b.reason; line = b.line; arrays = a } ≡ read_call x a
+read_refused (slots xs) b a e = let z : ◌≡◌ {A = ℕ} 0 1 = cc in absurd (omega arith)
+read_refused (bad l n) b a e =
+    let p : b.line ≡ l = cc in
+    let q : fault_number b.reason ≡ n = cc in
+    rw (p, q)
 
--- no reason is 0
-pub read_taken : (s : List ℕ) (t : TextShop) (a b : Arrays) → t ≡ text_shop (read_text s) → t.reason ≡ 0 → b ≡ arrays_of t.shop → record { reason = 0; line = 0; arrays = b } ≡ read_call (read_text s) a
-read_taken s t a b e h q = by (read_text s) refl
-  where
-    by : (x : ReadText) → read_text s ≡ x → record { reason = 0; line = 0; arrays = b } ≡ read_call x a
-    by (slots xs) k = let f : t.shop ≡ shop_for xs = ap (λ (u : TextShop). u.shop) (e ∙ ap text_shop k) in rw (q, f)
-    by (bad l n) k =
-        let f : t.reason ≡ n = ap (λ (u : TextShop). u.reason) (e ∙ ap text_shop k) in
-        absurd (omega (arith, (bad_told s l n k).some))
+pub read_taken : (x : ReadText) (s : Shop) (a b : Arrays) → text_of (Ok s) ≡ text_shop x → b ≡ arrays_of s → record { reason = 0; line = 0; arrays = b } ≡ read_call x a
+read_taken (slots xs) s a b e q = let f : s ≡ shop_for xs = cc in rw (q, f)
+read_taken (bad l n) s a b e q = let z : ◌≡◌ {A = ℕ} 0 1 = cc in absurd (omega arith)
 
 -- ---- printing
 

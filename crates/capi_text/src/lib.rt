@@ -9,7 +9,7 @@ ghost use Rattle.text_model.specs.Text.{read_text};
 ghost use Rattle.capi_text.specs.Calls.{read_call, few, print_call};
 
 use shop::{Codes, ENTRIES, SLOTS, Shop};
-use shop_arrays::{arrays_of, item_to, shop_from, sizes};
+use shop_arrays::{arrays_of, item_to, shop_from};
 use slots_text::{Text, put_slots};
 use text_read::read_text;
 
@@ -25,25 +25,11 @@ pub struct TextRead {
 
 // ---- the arrays of a shop
 
-// The array's length, for the proofs.
-fn known_items(items: &[i32; SLOTS]) -> usize
-    ensures { length items.now ≡ slot_count }
-{
-    let part: &[i32] = items;
-    part.len()
-}
-
 fn put_items(shop: Shop, items: &mut [i32; SLOTS])
     ensures { items.new ≡ items_of shop }
 {
-    known_items(items);
-    let mut i = 0;
-    while i < SLOTS {
-        let slot = shop.slots[i];
-        let item = slot.item;
-        let x = item_to(item);
-        items[i] = x;
-        i += 1;
+    for (i, item) in items.iter_mut().enumerate() {
+        *item = item_to(shop.slots[i].item);
     }
 }
 
@@ -58,7 +44,6 @@ fn put_shop(
     ensures { arrays_in items.new limits.new codes.new lens.new ≡ arrays_of shop }
 {
     arrays_of(shop, items, limits, codes, lens);
-    sizes(items, limits, codes, lens);
     put_items(shop, items);
 }
 
@@ -66,14 +51,7 @@ fn put_shop(
 fn few_each(lens: &[u8]) -> bool
     ensures { result ≡ all few lens.now }
 {
-    let mut i = 0;
-    while i < lens.len() {
-        if MOST_ENTRIES < lens[i] {
-            return false;
-        }
-        i += 1;
-    }
-    true
+    lens.iter().all(|n| *n <= MOST_ENTRIES)
 }
 
 // ---- the calls
@@ -88,16 +66,16 @@ pub fn lk_read_shop(
 ) -> TextRead
     ensures { record { reason = result.reason; line = result.line; arrays = arrays_in items.new limits.new codes.new lens.new } ≡ read_call (read_text text.now) (arrays_in items.old limits.old codes.old lens.old) }
 {
-    let t = read_text(text);
-    if t.reason != 0 {
-        return TextRead {
-            reason: t.reason,
-            line: t.line,
-        };
+    match read_text(text) {
+        Ok(shop) => {
+            put_shop(shop, items, limits, codes, lens);
+            TextRead { reason: 0, line: 0 }
+        }
+        Err(bad) => TextRead {
+            reason: bad.reason.number(),
+            line: bad.line,
+        },
     }
-    let shop = t.shop;
-    put_shop(shop, items, limits, codes, lens);
-    TextRead { reason: 0, line: 0 }
 }
 
 // The text of a shop from the start of the array on, and how long it is: 0, and nothing written, where a slot has more entries than may be given.
@@ -110,9 +88,7 @@ pub fn lk_print_shop(
 ) -> u32
     ensures { record { long = result; out = out.new } ≡ print_call (arrays_in items.now limits.now codes.now lens.now) out.old }
 {
-    sizes(items, limits, codes, lens);
-    let counts: &[u8] = lens;
-    if !few_each(counts) {
+    if !few_each(lens) {
         return 0;
     }
     let shop = shop_from(items, limits, codes, lens);

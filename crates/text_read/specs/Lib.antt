@@ -1,3 +1,4 @@
+pub mod Faults
 pub mod Shops
 pub mod Told
 pub mod Numbers

@@ -1,5 +1,5 @@
 -- The steps of reading a line: the slot's number, its item, its limit, its requirements one by one. Assumes nothing.
-use Rattle.std.specs.Prelude.{◌≡◌, Bool, true, false, cond, List, [], ◌∷◌, ◌++◌, map, ℕ, zero, suc, ◌+◌, ◌-◌, ◌*◌, ◌/◌, ◌%◌, ◌≤◌, ◌<◌, ltb, eqb, ℤ, pos, negsuc, length, drop, set, replicate}
+use Rattle.std.specs.Prelude.{◌≡◌, Bool, true, false, cond, List, [], ◌∷◌, ◌++◌, map, ℕ, zero, suc, ◌+◌, ◌-◌, ◌*◌, ◌/◌, ◌%◌, ◌≤◌, ◌<◌, ltb, eqb, ℤ, pos, negsuc, length, drop, set, replicate, Result, Ok, Err, Some, None}
 use Rattle.std.proofs.Math.Path.{refl}
 use Rattle.std.proofs.Common.{ap, sym, ◌∙◌, append-nil, arith, length-append, SFits}
 use Rattle.std.proofs.Math.Option.{none, some}
@@ -11,20 +11,16 @@ use Rattle.model.specs.Limits.{slot_count, entry_limit, wide, wide16, half16, ha
 use Rattle.model.specs.Reading.{Answer, got, refused, onward}
 use Rattle.model.specs.Requirement.{Requirement, haveItem, missingItem, haveAtc, missingAtc, haveFlag, missingFlag, number}
 use Rattle.std.specs.Int.{w16}
-use Rattle.model.specs.Shop
 use Rattle.shop_codes.specs.Codes.{shift, unshift, code_of, of_kind, requirement_of}
 use Rattle.shop_codes.specs.Laws.{shift_most, unshift_low, unshift_high, unshift_shift}
 use Rattle.image_numbers.specs.Answers.{seen_more, seen_none}
 use Rattle.std.specs.Prelude as prelude
 use Rattle.model.specs.declared.ItemId.{ItemId}
-use Rattle.shop.specs.declared.Slot.{Slot}
 use Rattle.text_model.specs.Text.{read_natural, read_signed, blank_behind, read_number, read_item, read_id, read_flag, read_requirement, read_requirements, read_slot, no_slot, no_item, no_limit, no_requirement, many_requirements, no_end}
-use Rattle.text_read.specs.Shops.{word_item, row_for, slot_for}
-use Rattle.text_read.specs.Told.{ByteAt, here, behind, Is, Other, BlankAt, blank, no_blank, kind_for, Took, Told, took, left, no_read, no_requirements, no_line, Any, IsNumber, IsSigned, IsItem, IsRequirement, AreRequirements}
-use Rattle.text_read.specs.Numbers.{byte_is, byte_other}
-use Rattle.text_read.specs.declared.Read.{Read}
-use Rattle.text_read.specs.declared.Requirements.{Requirements}
-use Rattle.text_read.specs.declared.Line.{Line}
+use Rattle.text_read.specs.declared.Fault.{Fault}
+use Rattle.text_read.specs.Faults.{fault_number}
+use Rattle.text_read.specs.Shops.{row_for}
+use Rattle.text_read.specs.Told.{Is, Other, ByteAt, Blank, NoBlank, BlankAt, kind_for, Took, ToldStart, Any, IsNumber, IsSigned, IsItem, IsRequirement, AreRequirements, IsSlot}
 
 -- ---- a blank
 
@@ -32,16 +28,16 @@ other_blank : {A : Type 0} (e : ℕ) (x : A) (t : List ℕ) → Other (Is 32) t 
 other_blank e x [] h = refl
 other_blank e x (c ∷ t) h = rw h
 
-module _ (s : List ℕ) (at v : ℕ) (r : Read) where
-  pub byte_blank : (c e : ℕ) → c ≡ 32 → ByteAt s at c → r ≡ record { reason = 0; value = v; at = at + 1 } → BlankAt s at v e r
-  byte_blank c e h u q = blank q (byte_is 32 h (omega arith) u).1
+module _ (s : List ℕ) (at : ℕ) (e : Fault) {A : Type 0} {a : Answer A} (x : A) (h : a ≡ got x (drop at s)) where
+  pub blank_took : (P : A → Type 0) → P x → (p : ℕ) → Blank s at p → Took s (blank_behind (fault_number e) a) P p
+  blank_took P i p g = record { value = x; is = i; read = rw (h, g.next) }
 
-  pub byte_no_blank : (c e : ℕ) → (c ≡ 32 → ⊥) → ByteAt s at c → r ≡ no_read e → BlankAt s at v e r
-  byte_no_blank c e h u q = no_blank q (byte_other 32 h u)
+  pub blank_not : (f : Fault) → NoBlank s at e f → blank_behind (fault_number e) a ≡ refused (fault_number f)
+  blank_not f g = rw (h, g.same) (other_blank (fault_number e) x (drop at s) g.other)
 
-  pub blank_on : {A : Type 0} (P : ℕ → A → Type 0) (e : ℕ) (a : Answer A) (x : A) → 0 < e → a ≡ got x (drop at s) → P v x → BlankAt s at v e r → Told s (blank_behind e a) (P r.value) r.reason r.at
-  blank_on P e a x z h i (blank q g) = rw q (took refl (record { value = x; is = i; read = rw (h, g) }))
-  blank_on P e a x z h i (no_blank q o) = rw q (left (λ k. omega arith) (rw h (other_blank e x (drop at s) o)))
+pub blank_start : (s : List ℕ) (at : ℕ) (e : Fault) (a : Answer ℕ) (x : ℕ) → a ≡ got x (drop at s) → (r : Result ℕ Fault) → BlankAt s at e r → ToldStart s (blank_behind (fault_number e) a) r
+blank_start s at e a x h (Ok p) g = blank_took s at e x h Any tt p g
+blank_start s at e a x h (Err f) g = blank_not s at e x h f g
 
 -- ---- the number of a slot
 
@@ -69,37 +65,30 @@ unfolding read_item read_natural
 item_other [] h = refl
 item_other (c ∷ t) h = rw h
 
-module _ (s : List ℕ) (at c : ℕ) (u : ByteAt s at c) where
-  pub item_none : c ≡ 45 → read_item (drop at s) ≡ got none (drop (at + 1) s)
-  item_none h = let q = (byte_is 45 h (omega arith) u).1 in rw q (item_minus (drop (at + 1) s))
+module _ (s : List ℕ) (at : ℕ) where
+  pub item_none : ByteAt s at 45 → read_item (drop at s) ≡ got none (drop (at + 1) s)
+  item_none u = rw u.next (item_minus (drop (at + 1) s))
 
-  pub item_no : (c ≡ 45 → ⊥) → (e : ℕ) → read_natural no_item wide16 (drop at s) ≡ refused e → blank_behind no_item (read_item (drop at s)) ≡ refused e
-  item_no h e q = let g = item_other (drop at s) (byte_other 45 h u) in rw (g, q)
+  module _ (u : Other (Is 45) (drop at s)) where
+    pub item_no : (e : ℕ) → read_natural no_item wide16 (drop at s) ≡ refused e → blank_behind no_item (read_item (drop at s)) ≡ refused e
+    item_no e q = let g = item_other (drop at s) u in rw (g, q)
 
-  pub item_some : (c ≡ 45 → ⊥) → (v p : ℕ) (x : Took s (read_natural no_item wide16 (drop at s)) (IsNumber wide16 v) p) → read_item (drop at s) ≡ got (some x.value) (drop p s)
-  item_some h v p x = let g = item_other (drop at s) (byte_other 45 h u) in rw (g, x.read)
+    pub item_some : (v p : ℕ) (x : Took s (read_natural no_item wide16 (drop at s)) (IsNumber wide16 v) p) → read_item (drop at s) ≡ got (some x.value) (drop p s)
+    item_some v p x = let g = item_other (drop at s) u in rw (g, x.read)
 
-pub word_none : IsItem 0 none
-word_none = record { same = refl; low = omega arith }
-
-pub word_some : (v n : ℕ) → IsNumber wide16 v n → IsItem (v + 1) (some n)
-word_some v n i = let q : v + 1 ≡ suc n = omega (arith, i.same) in record { same = rw q; low = omega (arith, i.low) }
-
-pub word_suc : (w : ℕ) → (w ≡ 0 → ⊥) → word_item (suc (w - 1)) ≡ word_item w
-word_suc zero h = absurd (h refl)
-word_suc (suc w) h = ap (λ k. word_item (suc k)) (omega arith)
+pub item_is : (v n : ℕ) → IsNumber wide16 v n → IsItem (Some (record { 0 = v })) (some n)
+item_is v n i = rw i.same
 
 -- ---- a requirement
 
 -- by its kind
-abbrev by_kind : ℕ → List ℕ → Answer Requirement
-by_kind k t =
-    cond (ltb k 4) (onward (read_natural no_requirement half32 t) (λ n r. got (of_kind k (pos n)) r))
-    (cond (ltb k 6) (onward (read_signed no_requirement half32 t) (λ z r. got (of_kind k z) r)) (refused no_requirement))
+abbrev by_kind : prelude.Option ℕ → List ℕ → Answer Requirement
+by_kind (Some k) t = cond (ltb k 4) (onward (read_natural no_requirement half32 t) (λ n r. got (of_kind k (pos n)) r)) (onward (read_signed no_requirement half32 t) (λ z r. got (of_kind k z) r))
+by_kind None t = refused no_requirement
 
 by_letter : (t : List ℕ) (a b c d e f : Bool)
     → cond a (read_id haveItem t) (cond b (read_id missingItem t) (cond c (read_id haveAtc t) (cond d (read_id missingAtc t) (cond e (read_flag haveFlag t) (cond f (read_flag missingFlag t) (refused no_requirement))))))
-    ≡ by_kind (cond a 0 (cond b 1 (cond c 2 (cond d 3 (cond e 4 (cond f 5 6)))))) t
+    ≡ by_kind (cond a (Some 0) (cond b (Some 1) (cond c (Some 2) (cond d (Some 3) (cond e (Some 4) (cond f (Some 5) None)))))) t
 by_letter t true b c d e f = refl
 by_letter t false true c d e f = refl
 by_letter t false false true d e f = refl
@@ -115,6 +104,19 @@ kinds c t = by_letter t (eqb c 73) (eqb c 105) (eqb c 65) (eqb c 97) (eqb c 70) 
 no_letter : read_requirement [] ≡ refused no_requirement
 unfolding read_requirement
 no_letter = refl
+
+at_most : (a b c d e f : Bool) (k : ℕ) → cond a (Some 0) (cond b (Some 1) (cond c (Some 2) (cond d (Some 3) (cond e (Some 4) (cond f (Some 5) None))))) ≡ Some k → k ≤ 5
+at_most true b c d e f k h = let q : ◌≡◌ {A = ℕ} 0 k = cc in omega arith
+at_most false true c d e f k h = let q : ◌≡◌ {A = ℕ} 1 k = cc in omega arith
+at_most false false true d e f k h = let q : ◌≡◌ {A = ℕ} 2 k = cc in omega arith
+at_most false false false true e f k h = let q : ◌≡◌ {A = ℕ} 3 k = cc in omega arith
+at_most false false false false true f k h = let q : ◌≡◌ {A = ℕ} 4 k = cc in omega arith
+at_most false false false false false true k h = let q : ◌≡◌ {A = ℕ} 5 k = cc in omega arith
+at_most false false false false false false k h = cc
+
+-- there are six
+pub kind_low : (c k : ℕ) → kind_for c ≡ Some k → k ≤ 5
+kind_low c k h = at_most (eqb c 73) (eqb c 105) (eqb c 65) (eqb c 97) (eqb c 70) (eqb c 102) k h
 
 code_id : (k n : ℕ) → k ≤ 3 → code_of (of_kind k (pos n)) ≡ k * wide + (n + half32)
 code_id zero n h = refl
@@ -132,44 +134,45 @@ code_flag (suc (suc (suc (suc zero)))) z h l = refl
 code_flag (suc (suc (suc (suc (suc zero))))) z h l = refl
 code_flag (suc (suc (suc (suc (suc (suc k)))))) z h l = absurd (omega arith)
 
-pub kind_none : (c : ℕ) → (c ≡ 73 → ⊥) → (c ≡ 105 → ⊥) → (c ≡ 65 → ⊥) → (c ≡ 97 → ⊥) → (c ≡ 70 → ⊥) → (c ≡ 102 → ⊥) → kind_for c ≡ 6
+pub kind_none : (c : ℕ) → (c ≡ 73 → ⊥) → (c ≡ 105 → ⊥) → (c ≡ 65 → ⊥) → (c ≡ 97 → ⊥) → (c ≡ 70 → ⊥) → (c ≡ 102 → ⊥) → kind_for c ≡ None
 kind_none c h i j k l m = rw (ne_eqb c 73 h, ne_eqb c 105 i, ne_eqb c 65 j, ne_eqb c 97 k, ne_eqb c 70 l, ne_eqb c 102 m)
 
 pub signed_wide : {v : ℕ} (z : ℤ) → IsSigned half32 v z → v < wide
 signed_wide z i = omega (arith, i.same, shift_most z i.low)
 
-module _ (s : List ℕ) (at c k : ℕ) (u : ByteAt s at c) (same : k ≡ kind_for c) where
-  pub requirement_none : 5 < k → read_requirement (drop at s) ≡ refused no_requirement
-  requirement_none h = by u
-    where
-      by : ByteAt s at c → read_requirement (drop at s) ≡ refused no_requirement
-      by (here i e) = rw e (kinds c (drop (at + 1) s) ∙ rw (← same, le-ltb k 4 (omega arith), le-ltb k 6 (omega arith)))
-      by (behind e q) = rw e no_letter
+pub requirement_end : (s : List ℕ) (at : ℕ) → drop at s ≡ [] → read_requirement (drop at s) ≡ refused no_requirement
+requirement_end s at h = rw h no_letter
 
-  letter_at : k ≤ 5 → ByteAt s at c → (at < length s) × (read_requirement (drop at s) ≡ by_kind k (drop (at + 1) s))
-  letter_at h (here i e) = (i, rw e (kinds c (drop (at + 1) s) ∙ rw (← same)))
-  letter_at h (behind e q) = let g : k ≡ 6 = same ∙ ap kind_for q in absurd (omega arith)
+module _ (s : List ℕ) (at c : ℕ) (u : ByteAt s at c) where
+  for_kind : read_requirement (drop at s) ≡ by_kind (kind_for c) (drop (at + 1) s)
+  for_kind = rw u.next (kinds c (drop (at + 1) s))
 
-  pub letter_in : k ≤ 5 → at < length s
-  letter_in h = (letter_at h u).0
+  pub requirement_none : None ≡ kind_for c → read_requirement (drop at s) ≡ refused no_requirement
+  requirement_none e = for_kind ∙ ap (λ o. by_kind o (drop (at + 1) s)) (sym e)
 
-  for_id : k ≤ 3 → read_requirement (drop at s) ≡ onward (read_natural no_requirement half32 (drop (at + 1) s)) (λ n r. got (of_kind k (pos n)) r)
-  for_id h = (letter_at (omega arith) u).1 ∙ rw (lt-ltb k 4 (omega arith))
+  module _ (k : ℕ) (same : Some k ≡ kind_for c) where
+    this_kind : read_requirement (drop at s) ≡ by_kind (Some k) (drop (at + 1) s)
+    this_kind = for_kind ∙ ap (λ o. by_kind o (drop (at + 1) s)) (sym same)
 
-  for_flag : 3 < k → k ≤ 5 → read_requirement (drop at s) ≡ onward (read_signed no_requirement half32 (drop (at + 1) s)) (λ z r. got (of_kind k z) r)
-  for_flag h l = (letter_at l u).1 ∙ rw (le-ltb k 4 (omega arith), lt-ltb k 6 (omega arith))
+    module _ (low : k ≤ 3) where
+      for_id : read_requirement (drop at s) ≡ onward (read_natural no_requirement half32 (drop (at + 1) s)) (λ n r. got (of_kind k (pos n)) r)
+      for_id = this_kind ∙ rw (lt-ltb k 4 (omega arith))
 
-  pub id_no : k ≤ 3 → (e : ℕ) → read_natural no_requirement half32 (drop (at + 1) s) ≡ refused e → read_requirement (drop at s) ≡ refused e
-  id_no h e q = for_id h ∙ rw q
+      pub id_no : (e : ℕ) → read_natural no_requirement half32 (drop (at + 1) s) ≡ refused e → read_requirement (drop at s) ≡ refused e
+      id_no e q = for_id ∙ rw q
 
-  pub id_took : k ≤ 3 → (v p : ℕ) → Took s (read_natural no_requirement half32 (drop (at + 1) s)) (IsNumber half32 v) p → Told s (read_requirement (drop at s)) (IsRequirement (k * wide + (v + half32))) 0 p
-  id_took h v p x = took refl (record { value = of_kind k (pos x.value); is = record { same = omega (arith, code_id k x.value h, x.is.same) }; read = for_id h ∙ rw x.read })
+      pub id_took : (v p : ℕ) → Took s (read_natural no_requirement half32 (drop (at + 1) s)) (IsNumber half32 v) p → Took s (read_requirement (drop at s)) (IsRequirement (k * wide + (v + half32))) p
+      id_took v p x = record { value = of_kind k (pos x.value); is = record { same = omega (arith, code_id k x.value low, x.is.same) }; read = for_id ∙ rw x.read }
 
-  pub flag_no : 3 < k → k ≤ 5 → (e : ℕ) → read_signed no_requirement half32 (drop (at + 1) s) ≡ refused e → read_requirement (drop at s) ≡ refused e
-  flag_no h l e q = for_flag h l ∙ rw q
+    module _ (high : 3 < k) where
+      for_flag : read_requirement (drop at s) ≡ onward (read_signed no_requirement half32 (drop (at + 1) s)) (λ z r. got (of_kind k z) r)
+      for_flag = this_kind ∙ rw (le-ltb k 4 (omega arith))
 
-  pub flag_took : 3 < k → k ≤ 5 → (v p : ℕ) → Took s (read_signed no_requirement half32 (drop (at + 1) s)) (IsSigned half32 v) p → Told s (read_requirement (drop at s)) (IsRequirement (k * wide + v)) 0 p
-  flag_took h l v p x = took refl (record { value = of_kind k x.value; is = record { same = omega (arith, code_flag k x.value h l, x.is.same) }; read = for_flag h l ∙ rw x.read })
+      pub flag_no : (e : ℕ) → read_signed no_requirement half32 (drop (at + 1) s) ≡ refused e → read_requirement (drop at s) ≡ refused e
+      flag_no e q = for_flag ∙ rw q
+
+      pub flag_took : (v p : ℕ) → Took s (read_signed no_requirement half32 (drop (at + 1) s)) (IsSigned half32 v) p → Took s (read_requirement (drop at s)) (IsRequirement (k * wide + v)) p
+      flag_took v p x = record { value = of_kind k x.value; is = record { same = omega (arith, code_flag k x.value high (kind_low c k (sym same)), x.is.same) }; read = for_flag ∙ rw x.read }
 
 -- ---- requirements
 
@@ -207,41 +210,37 @@ pub record Listed (s : List ℕ) (at n p : ℕ) (row : List ℕ) : Type 0 where
 pub listed_start : (s : List ℕ) (at : ℕ) → Listed s at 0 at (replicate entry_limit 0)
 listed_start s at = record { seen = []; read = seen_none (read_requirements entry_limit (drop at s)); codes = refl; long = refl }
 
-module _ (s : List ℕ) (at n p : ℕ) (row : List ℕ) (u : Listed s at n p row) (c : ℕ) (w : ByteAt s p c) where
-  pub listed_over : c ≡ 32 → entry_limit ≤ n → read_requirements entry_limit (drop at s) ≡ refused many_requirements
-  listed_over h l =
-      let q = (byte_is 32 h (omega arith) w).1 in
+module _ (s : List ℕ) (at n p : ℕ) (row : List ℕ) (u : Listed s at n p row) where
+  pub listed_over : ByteAt s p 32 → entry_limit ≤ n → read_requirements entry_limit (drop at s) ≡ refused many_requirements
+  listed_over w l =
       let z : entry_limit - n ≡ 0 = omega arith in
-      u.read ∙ rw (z, q, one_over (drop (p + 1) s))
+      u.read ∙ rw (z, w.next, one_over (drop (p + 1) s))
 
-  another : c ≡ 32 → n < entry_limit → read_requirements (entry_limit - n) (drop p s) ≡ onward (read_requirement (drop (p + 1) s)) (λ r t. onward (read_requirements (entry_limit - (n + 1)) t) (λ rs v. got (r ∷ rs) v))
-  another h l =
-      let q = (byte_is 32 h (omega arith) w).1 in
+  another : ByteAt s p 32 → n < entry_limit → read_requirements (entry_limit - n) (drop p s) ≡ onward (read_requirement (drop (p + 1) s)) (λ r t. onward (read_requirements (entry_limit - (n + 1)) t) (λ rs v. got (r ∷ rs) v))
+  another w l =
       let z : entry_limit - n ≡ suc (entry_limit - (n + 1)) = omega arith in
-      rw (z, q) (one_more_lem (entry_limit - (n + 1)) (drop (p + 1) s))
+      rw (z, w.next) (one_more_lem (entry_limit - (n + 1)) (drop (p + 1) s))
 
-  pub listed_no : c ≡ 32 → n < entry_limit → (e : ℕ) → read_requirement (drop (p + 1) s) ≡ refused e → read_requirements entry_limit (drop at s) ≡ refused e
-  listed_no h l e q = u.read ∙ rw (another h l, q)
+  pub listed_no : ByteAt s p 32 → n < entry_limit → (e : ℕ) → read_requirement (drop (p + 1) s) ≡ refused e → read_requirements entry_limit (drop at s) ≡ refused e
+  listed_no w l e q = u.read ∙ rw (another w l, q)
 
-  pub listed_next : c ≡ 32 → n < entry_limit → (v r : ℕ) → Took s (read_requirement (drop (p + 1) s)) (IsRequirement v) r → Listed s at (n + 1) r (set row n v)
-  listed_next h l v r x =
+  pub listed_next : ByteAt s p 32 → n < entry_limit → (v r : ℕ) → Took s (read_requirement (drop (p + 1) s)) (IsRequirement v) r → Listed s at (n + 1) r (set row n v)
+  listed_next w l v r x =
       let more : length (u.seen ++ x.value ∷ []) ≡ n + 1 = omega (arith, length-append u.seen (x.value ∷ []), u.long) in
       let z : entry_limit - length u.seen ≡ suc (entry_limit - (n + 1)) = omega (arith, u.long) in
       let old : map code_of u.seen ++ replicate (suc (entry_limit - (n + 1))) 0 ≡ row = rw z at u.codes in
       record {
         seen = u.seen ++ x.value ∷ [];
-        read = u.read ∙ rw (another h l, x.read) (seen_more (read_requirements (entry_limit - (n + 1)) (drop r s)) u.seen x.value);
+        read = u.read ∙ rw (another w l, x.read) (seen_more (read_requirements (entry_limit - (n + 1)) (drop r s)) u.seen x.value);
         codes = rw (more, map-append code_of u.seen (x.value ∷ []), x.is.same, ← old) (sym (row_next 0 (map code_of u.seen) v (entry_limit - (n + 1)) n (length-map u.seen code_of ∙ u.long)));
         long = more;
       }
 
-  pub listed_no_end : (c ≡ 32 → ⊥) → (c ≡ 10 → ⊥) → read_requirements entry_limit (drop at s) ≡ refused no_end
-  listed_no_end h g = u.read ∙ rw (no_end_lem (entry_limit - n) (drop p s) (byte_other 10 g w) (byte_other 32 h w))
+  pub listed_no_end : Other (Is 32) (drop p s) → Other (Is 10) (drop p s) → read_requirements entry_limit (drop at s) ≡ refused no_end
+  listed_no_end h g = u.read ∙ rw (no_end_lem (entry_limit - n) (drop p s) g h)
 
-  pub listed_done : c ≡ 10 → Told s (read_requirements entry_limit (drop at s)) (AreRequirements row n) 0 (p + 1)
-  listed_done h =
-      let q = (byte_is 10 h (omega arith) w).1 in
-      took refl (record { value = u.seen; is = record { codes = u.codes; long = u.long }; read = u.read ∙ rw (q, end_at (entry_limit - n) (drop (p + 1) s), append-nil u.seen) })
+  pub listed_done : ByteAt s p 10 → Took s (read_requirements entry_limit (drop at s)) (AreRequirements row n) (p + 1)
+  listed_done w = record { value = u.seen; is = record { codes = u.codes; long = u.long }; read = u.read ∙ rw (w.next, end_at (entry_limit - n) (drop (p + 1) s), append-nil u.seen) }
 
 -- ---- the line
 
@@ -277,7 +276,7 @@ module _ (s : List ℕ) (at i : ℕ) where
     unfolding read_slot
     line_no_item e h = rw (n.read, h)
 
-    module _ (w q : ℕ) (o : Took s (blank_behind no_item (read_item (drop p s))) (IsItem w) q) where
+    module _ (w : prelude.Option ItemId) (q : ℕ) (o : Took s (blank_behind no_item (read_item (drop p s))) (IsItem w) q) where
       pub line_no_limit : (e : ℕ) → read_signed no_limit half16 (drop q s) ≡ refused e → read_slot i (drop at s) ≡ refused e
       unfolding read_slot
       line_no_limit e h = rw (n.read, o.read, h)
@@ -287,20 +286,11 @@ module _ (s : List ℕ) (at i : ℕ) where
         unfolding read_slot
         line_no_requirements e h = rw (n.read, o.read, z.read, h)
 
-        pub line_took : (row : List ℕ) (k t : ℕ) → Took s (read_requirements entry_limit (drop r s)) (AreRequirements row k) t
-            → (x : prelude.Option ItemId) → x ≡ word_item w → (y : ℤ) → y ≡ unshift l
-            → Told s (read_slot i (drop at s)) (λ m. slot_for m ≡ record { item = x; limit = y; requirements = row; len = k }) 0 t
+        pub line_took : (row : List ℕ) (k t : ℕ) → Took s (read_requirements entry_limit (drop r s)) (AreRequirements row k) t → (y : ℤ) → y ≡ unshift l
+            → Took s (read_slot i (drop at s)) (IsSlot (record { item = w; limit = y; requirements = row; len = k })) t
         unfolding read_slot
-        line_took row k t rs x e y f =
-            took refl (record {
-              value = record { item = o.value; limit = z.value; requirements = rs.value };
-              is = rw (e, f, ← limit_is z.value z.is, o.is.same, rs.is.codes, rs.is.long);
-              read = rw (n.read, o.read, z.read, rs.read);
-            })
-
--- .. and refused
-pub told_no_line : {s : List ℕ} {a : Answer Shop.Slot} {e : ℕ} → (e ≡ 0 → ⊥) → a ≡ refused e → (x : Line) → x ≡ no_line e → Told s a (λ m. slot_for m ≡ x.slot) x.reason x.at
-told_no_line z h x q = rw q (left z h)
-
-pub told_no_requirements : {s : List ℕ} {a : Answer (List Requirement)} {e : ℕ} → (e ≡ 0 → ⊥) → a ≡ refused e → (x : Requirements) → x ≡ no_requirements e → Told s a (AreRequirements x.row x.len) x.reason x.at
-told_no_requirements z h x q = rw q (left z h)
+        line_took row k t rs y f = record {
+          value = record { item = o.value; limit = z.value; requirements = rs.value };
+          is = rw (f, ← limit_is z.value z.is, o.is, rs.is.codes, rs.is.long);
+          read = rw (n.read, o.read, z.read, rs.read);
+        }

@@ -10,10 +10,9 @@ use Rattle.shop.specs.Shapes.{no_slot, no_shop, placed}
 use Rattle.shop.specs.declared.Slot.{Slot}
 use Rattle.shop.specs.declared.Shop.{Shop}
 use Rattle.text_model.specs.Text.{ReadText, slots, bad, before, line_then, read_slot, read_lines, read_text, more_text}
-use Rattle.text_read.specs.Shops.{slot_for, shop_for, text_shop}
-use Rattle.text_read.specs.Told.{Took, no_text}
+use Rattle.text_read.specs.Shops.{slot_for, shop_for, whole, broken, text_shop}
+use Rattle.text_read.specs.Told.{Took, IsSlot}
 use Rattle.text_read.specs.Lines.{row_next}
-use Rattle.text_read.specs.declared.TextShop.{TextShop}
 
 -- slots that were read before the others
 abbrev joined : List Shop.Slot → ReadText → ReadText
@@ -57,10 +56,10 @@ module _ (s : List ℕ) (i p : ℕ) (shop : Shop) (u : Lines s i p shop) where
       let z : slot_count - i ≡ suc (slot_count - (i + 1)) = omega arith in
       rw (z, add-one i) (line_next (slot_count - suc i) i (drop p s))
 
-  pub lines_no : i < slot_count → (e : ℕ) → read_slot i (drop p s) ≡ refused e → (x : TextShop) → x ≡ no_text (i + 1) e → x ≡ text_shop (read_text s)
-  lines_no h e q x k = let g : read_text s ≡ bad (i + 1) e = u.read ∙ rw (another h, q, add-one i) in k ∙ sym (ap text_shop g)
+  pub lines_no : i < slot_count → (e : ℕ) → read_slot i (drop p s) ≡ refused e → broken (i + 1) e ≡ text_shop (read_text s)
+  lines_no h e q = let g : read_text s ≡ bad (i + 1) e = u.read ∙ rw (another h, q, add-one i) in sym (ap text_shop g)
 
-  pub lines_next : i < slot_count → (slot : Slot) (q : ℕ) → Took s (read_slot i (drop p s)) (λ m. slot_for m ≡ slot) q → (next : Shop) → next ≡ placed shop i slot → Lines s (i + 1) q next
+  pub lines_next : i < slot_count → (slot : Slot) (q : ℕ) → Took s (read_slot i (drop p s)) (IsSlot slot) q → (next : Shop) → next ≡ placed shop i slot → Lines s (i + 1) q next
   lines_next h slot q x next k =
       let z : slot_count - i ≡ suc (slot_count - (i + 1)) = omega arith in
       let old : shop ≡ record { slots = map slot_for u.seen ++ replicate (suc (slot_count - (i + 1))) no_slot } = rw z at u.held in
@@ -71,13 +70,13 @@ module _ (s : List ℕ) (i p : ℕ) (shop : Shop) (u : Lines s i p shop) where
         long = omega (arith, length-append u.seen (x.value ∷ []), u.long);
       }
 
-  pub lines_over : slot_count ≤ i → i ≤ slot_count → p < length s → (x : TextShop) → x ≡ no_text (slot_count + 1) more_text → x ≡ text_shop (read_text s)
-  lines_over h l m x k =
+  pub lines_over : slot_count ≤ i → i ≤ slot_count → p < length s → broken (slot_count + 1) more_text ≡ text_shop (read_text s)
+  lines_over h l m =
       let e : i ≡ slot_count = omega arith in
       let g : read_text s ≡ bad (slot_count + 1) more_text = u.read ∙ rw (e, drop-cons s p 0 m, some_left slot_count (get_or s p 0) (drop (suc p) s)) in
-      k ∙ sym (ap text_shop g)
+      sym (ap text_shop g)
 
-  pub lines_done : slot_count ≤ i → i ≤ slot_count → length s ≤ p → record { reason = 0; line = 0; shop = shop } ≡ text_shop (read_text s)
+  pub lines_done : slot_count ≤ i → i ≤ slot_count → length s ≤ p → whole shop ≡ text_shop (read_text s)
   lines_done h l m =
       let e : i ≡ slot_count = omega arith in
       let g : read_text s ≡ slots u.seen = u.read ∙ rw (e, drop_of_length-le s m, none_left slot_count, append-nil u.seen) in
