@@ -6,7 +6,7 @@ ghost use Rattle.tariff.specs.Prices.{tariff_of};
 ghost use Rattle.bill.specs.Billed.{BilledAs};
 ghost use Rattle.capi_values.specs.Values.{sheet_by};
 
-use bill::Billed;
+use capi_bill::Billed;
 use shop::SLOTS;
 
 // The bill of the save that a run left: item, slot and coins of its twenty lines, in the order of the items. Refused, the three arrays stay as they were.

@@ -6,10 +6,11 @@ ghost use Rattle.checks.specs.Calls.{save_of};
 ghost use Rattle.tariff.specs.Prices.{tariff_of};
 ghost use Rattle.shopper_model.specs.Shopper.{left_by, shopping_call};
 ghost use Rattle.capi_values.specs.Values.{sheet_by};
-ghost use Rattle.shopper.specs.Answer.{left_as};
+ghost use Rattle.capi_shopper.specs.Answers.{left_as};
 
+use capi_shopper::Shopped;
 use shop::{Codes, SLOTS};
-use shopper::{Shopped, WISHES};
+use shopper::WISHES;
 
 // A step for each wish, in the shop of the four arrays, from this save and this money: of each step 0 bought, 1 sold out, 2 too dear or 23, and the
 // coins paid. Refused, the save and both arrays stay as they were.
