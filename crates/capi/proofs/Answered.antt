@@ -13,7 +13,7 @@ use Rattle.std.proofs.Common.{ap}
 use Rattle.model.specs.Files.{Wrote}
 use Rattle.model.specs.RecordCalls.{write_in}
 use Rattle.image_write.specs.Call.{wrote, length_of, length_in}
-use Rattle.capi_values.specs.Refuses.{refuses}
+use Rattle.model.specs.Refusals.{refuses}
 use Rattle.capi.specs.Answers.{outcome_by, read_as}
 
 by_refusal : (n : ℕ) (m : Memory) → (n ≡ 0 → ⊥) → outcome_by n m ≡ nothing n m

@@ -14,7 +14,7 @@ use Rattle.model.specs.declared.Refusal.{Refusal}
 use Rattle.slots_sheet.specs.Outcome.{Head, read_head, head_of, held, nothing, into, outcome, read_into, Within}
 use Rattle.model.specs.Files.{Wrote}
 use Rattle.image_write.specs.Call.{wrote, length_of}
-use Rattle.capi_values.specs.Refuses.{refuses}
+use Rattle.model.specs.Refusals.{refuses}
 use Rattle.slots_heading.specs.Bytes.{entry_of, write_head, head_length}
 use Rattle.slots_heading.proofs.RoundTrip.{entry_number}
 use Rattle.capi_stage.specs.declared.Headed.{Headed}

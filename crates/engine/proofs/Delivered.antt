@@ -10,7 +10,7 @@ use Rattle.std.proofs.Math.Dec.{eqb}
 use Rattle.model.specs.Refusal.{accepted}
 use Rattle.model.specs.Refusals.{refusal_in}
 use Rattle.model.specs.declared.Refusal.{Refusal}
-use Rattle.checks.specs.Passed.{refuses}
+use Rattle.model.specs.Refusals.{refuses}
 use Rattle.model.specs.Save.{Save}
 use Rattle.model.specs.Sheet.{Sheet, save_refusal}
 use Rattle.model.specs.Shop.{Slot}

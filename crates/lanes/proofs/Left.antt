@@ -26,7 +26,7 @@ use Rattle.lanes.specs.Calls.{left_of}
 use Rattle.std.specs.Prelude.{Ok, Err}
 use Rattle.model.specs.Refusals.{refusal_number}
 use Rattle.model.specs.declared.Refusal.{Refusal}
-use Rattle.checks.specs.Passed.{refuses}
+use Rattle.model.specs.Refusals.{refuses}
 use Rattle.lanes.specs.Walks.{rans_from, LanesWalked}
 use Rattle.lanes.proofs.Saves.{save_whole}
 

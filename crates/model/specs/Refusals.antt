@@ -1,5 +1,6 @@
--- What the code answers, as the numbers of the definitions: a reason's number, and 0 where a call accepts. Assumes nothing: these are definitions.
-use Rattle.std.specs.Prelude.{ℕ, Result, Ok, Err}
+-- What the code answers, as the numbers of the definitions: a reason's number, and 0 where a call accepts. Assumes nothing.
+use Rattle.std.specs.Prelude.{◌≡◌, ℕ, Result, Ok, Err}
+use Rattle.std.proofs.Common.{arith}
 use Rattle.model.specs.Refusal.{accepted, bad_sheet, bad_image, over_limit, too_deep, no_such_link, not_block, not_code, bad_shop, no_room, parse_not_code, parse_too_many, bad_save, met_other, no_next, budget_spent, slice_short, born_later, bad_roots, demo_full, no_user, no_right, bad_walk, no_flag, bad_tariff, bad_basket, too_many_wishes, no_such_wish, bad_money}
 use Rattle.model.specs.declared.Refusal.{Refusal}
 use Rattle.model.specs.declared.Refusal.TheVariants.{BadSheet, BadImage, OverLimit, TooDeep, NoSuchLink, NotBlock, NotCode, BadShop, NoRoom, ParseNotCode, ParseTooMany, BadSave, MetOther, NoNext, BudgetSpent, SliceShort, BornLater, BadRoots, DemoFull, NoUser, NoRight, BadWalk, NoFlag, BadTariff, BadBasket, TooManyWishes, NoSuchWish, BadMoney}
@@ -39,3 +40,34 @@ refusal_number BadMoney = bad_money
 abbrev pub refusal_in : {A : Type 0} → Result A Refusal → ℕ
 refusal_in (Ok x) = accepted
 refusal_in (Err e) = refusal_number e
+
+-- no reason has the number of acceptance
+pub refuses : (e : Refusal) → refusal_number e ≡ accepted → ⊥
+refuses BadSheet h = absurd (omega arith)
+refuses BadImage h = absurd (omega arith)
+refuses OverLimit h = absurd (omega arith)
+refuses TooDeep h = absurd (omega arith)
+refuses NoSuchLink h = absurd (omega arith)
+refuses NotBlock h = absurd (omega arith)
+refuses NotCode h = absurd (omega arith)
+refuses BadShop h = absurd (omega arith)
+refuses NoRoom h = absurd (omega arith)
+refuses ParseNotCode h = absurd (omega arith)
+refuses ParseTooMany h = absurd (omega arith)
+refuses BadSave h = absurd (omega arith)
+refuses MetOther h = absurd (omega arith)
+refuses NoNext h = absurd (omega arith)
+refuses BudgetSpent h = absurd (omega arith)
+refuses SliceShort h = absurd (omega arith)
+refuses BornLater h = absurd (omega arith)
+refuses BadRoots h = absurd (omega arith)
+refuses DemoFull h = absurd (omega arith)
+refuses NoUser h = absurd (omega arith)
+refuses NoRight h = absurd (omega arith)
+refuses BadWalk h = absurd (omega arith)
+refuses NoFlag h = absurd (omega arith)
+refuses BadTariff h = absurd (omega arith)
+refuses BadBasket h = absurd (omega arith)
+refuses TooManyWishes h = absurd (omega arith)
+refuses NoSuchWish h = absurd (omega arith)
+refuses BadMoney h = absurd (omega arith)

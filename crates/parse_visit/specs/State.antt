@@ -10,10 +10,9 @@ use Rattle.model.specs.Reading.{got}
 use Rattle.model.specs.Memory.{Memory, commands_in, block_word, script_of}
 use Rattle.model.specs.Record.{judged_record}
 use Rattle.model.specs.Parse.{State, Scan, scanned, visited}
+use Rattle.model.specs.Refusals.{refuses}
 use Rattle.model.specs.Refusals.{refusal_number, refusal_in}
 use Rattle.model.specs.declared.Refusal.{Refusal}
-use Rattle.model.specs.declared.Refusal.TheVariants as why
-use Rattle.model.specs.declared.Refusal.TheVariants.{BadSheet, BadImage, OverLimit, TooDeep, NoSuchLink, NotBlock, NotCode, BadShop, ParseNotCode, ParseTooMany, BadSave, MetOther, NoNext, BudgetSpent, SliceShort, BornLater, BadRoots, DemoFull, NoUser, NoRight, BadWalk, NoFlag, BadTariff, BadBasket, TooManyWishes, NoSuchWish, BadMoney}
 use Rattle.expr.specs.Requirement.{Has}
 use Rattle.shop.specs.Shapes.{slots_of}
 use Rattle.shop.specs.declared.Shop.{Shop}
@@ -49,37 +48,6 @@ stop_number NoRoom = no_room
 abbrev pub answer_in : {A : Type 0} → Result A Stop → ℕ
 answer_in (Ok x) = 0
 answer_in (Err s) = stop_number s
-
--- a walk that stops has another answer
-refuses : (e : Refusal) → refusal_number e ≡ 0 → ⊥
-refuses BadSheet h = absurd (omega arith)
-refuses BadImage h = absurd (omega arith)
-refuses OverLimit h = absurd (omega arith)
-refuses TooDeep h = absurd (omega arith)
-refuses NoSuchLink h = absurd (omega arith)
-refuses NotBlock h = absurd (omega arith)
-refuses NotCode h = absurd (omega arith)
-refuses BadShop h = absurd (omega arith)
-refuses why.NoRoom h = absurd (omega arith)
-refuses ParseNotCode h = absurd (omega arith)
-refuses ParseTooMany h = absurd (omega arith)
-refuses BadSave h = absurd (omega arith)
-refuses MetOther h = absurd (omega arith)
-refuses NoNext h = absurd (omega arith)
-refuses BudgetSpent h = absurd (omega arith)
-refuses SliceShort h = absurd (omega arith)
-refuses BornLater h = absurd (omega arith)
-refuses BadRoots h = absurd (omega arith)
-refuses DemoFull h = absurd (omega arith)
-refuses NoUser h = absurd (omega arith)
-refuses NoRight h = absurd (omega arith)
-refuses BadWalk h = absurd (omega arith)
-refuses NoFlag h = absurd (omega arith)
-refuses BadTariff h = absurd (omega arith)
-refuses BadBasket h = absurd (omega arith)
-refuses TooManyWishes h = absurd (omega arith)
-refuses NoSuchWish h = absurd (omega arith)
-refuses BadMoney h = absurd (omega arith)
 
 pub stops : (s : Stop) → stop_number s ≡ 0 → ⊥
 stops (Refused e) h = refuses e h

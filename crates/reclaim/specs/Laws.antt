@@ -24,7 +24,7 @@ use Rattle.memory.specs.declared.Counts.{Counts}
 use Rattle.memory.specs.RecordLaws.{judged_sound, proper_record}
 use Rattle.memory.specs.Transfer.{accepted_script, judged_kept}
 use Rattle.image_read.specs.Outcome.{outcome, read_into}
-use Rattle.checks.specs.Passed.{refuses}
+use Rattle.model.specs.Refusals.{refuses}
 use Rattle.image_write.specs.Call.{wrote, length_of, length_in}
 use Rattle.image_write.specs.Lengths.{most_bytes, record_short}
 use Rattle.reclaim_model.specs.Reclaim.{kept_blocks, moved_words, rank, roots_ok, survivors}

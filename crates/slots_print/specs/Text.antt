@@ -13,7 +13,7 @@ use Rattle.slots_text.specs.Lines.{FewEach, refused_space, lines_space}
 use Rattle.model.specs.Refusals.{refusal_number}
 use Rattle.model.specs.declared.Refusal.{Refusal}
 use Rattle.parse.specs.Answer.{HandedOut}
-use Rattle.slots_print.specs.Refuses.{refuses}
+use Rattle.model.specs.Refusals.{refuses}
 
 -- the text b stands at the start of the array, whose bytes take all of it
 pub record Printed (xs b ys : List ℕ) (r : ℕ) : Type 0 where

@@ -4,7 +4,8 @@ use Rattle.std.proofs.lemmas.Result.{err_from_is_err_and}
 use Rattle.model.specs.Refusals.{refusal_in}
 use Rattle.memory.specs.View.{memory_of, coded_of}
 use Rattle.shop.specs.Shapes.{sheet_of}
-use Rattle.checks.specs.Passed.{refuses, record_kept}
+use Rattle.model.specs.Refusals.{refuses}
+use Rattle.checks.specs.Passed.{record_kept}
 use Rattle.checks.proofs.Checks.{call_sheet, call_setup, call_refused}
 use Rattle.checks.proofs.check_call.Goals as goal
 

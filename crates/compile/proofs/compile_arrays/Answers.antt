@@ -5,7 +5,7 @@ use Rattle.memory.specs.View.{born_of}
 use Rattle.shop.specs.Shapes.{sheet_of}
 use Rattle.shop_arrays.specs.Arrays.{arrays_in, shop_from}
 use Rattle.shop_arrays.specs.Slots.{slots_long}
-use Rattle.checks.specs.Passed.{refuses}
+use Rattle.model.specs.Refusals.{refuses}
 use Rattle.compile.specs.Checked.{refused_call, refused_born, refused_shop, refused_room, exact_slots, granted, compiled_accepted}
 use Rattle.compile.proofs.compile_arrays.Goals as goal
 

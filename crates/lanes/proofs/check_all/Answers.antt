@@ -4,7 +4,8 @@ use Rattle.std.proofs.lemmas.Result.{err_from_is_err_and}
 use Rattle.memory.specs.View.{memory_of}
 use Rattle.checks.specs.Calls.{save_of}
 use Rattle.shop.specs.Shapes.{sheet_of}
-use Rattle.checks.specs.Passed.{items_low, refuses}
+use Rattle.model.specs.Refusals.{refuses}
+use Rattle.checks.specs.Passed.{items_low}
 use Rattle.lanes.proofs.Saves.{check_refused, check_saves, call_safe, check_walk, check_passed}
 use Rattle.lanes.proofs.check_all.Goals as goal
 

@@ -6,7 +6,8 @@ use Rattle.memory.specs.View.{memory_of}
 use Rattle.shop.specs.Shapes.{sheet_of}
 use Rattle.shop_arrays.specs.Arrays.{arrays_in, shop_from}
 use Rattle.shop_arrays.specs.Slots.{shop_none}
-use Rattle.checks.specs.Passed.{refuses, call_passed, items_low}
+use Rattle.model.specs.Refusals.{refuses}
+use Rattle.checks.specs.Passed.{call_passed, items_low}
 use Rattle.parse.specs.Checked.{parse_refused, parse_stopped, parse_read, items_counted, atcs_counted}
 use Rattle.parse.proofs.parse_arrays.Goals as goal
 

@@ -2,7 +2,7 @@
 use Rattle.std.proofs.Common.{sym, ◌∙◌}
 use Rattle.std.proofs.lemmas.Result.{err_from_is_err_and}
 use Rattle.memory.specs.View.{memory_of}
-use Rattle.checks.specs.Passed.{refuses}
+use Rattle.model.specs.Refusals.{refuses}
 use Rattle.reclaim.specs.Laws.{answer_roots, answer_judged, answer_kept, kept_born}
 use Rattle.reclaim.proofs.reclaim.Goals as goal
 

@@ -2,7 +2,7 @@ use Rattle.std.proofs.Common.{refl, sym}
 use Rattle.memory.specs.View.{memory_of}
 use Rattle.shop.specs.Shapes.{sheet_of}
 use Rattle.checks.specs.Calls.{save_of}
-use Rattle.checks.specs.Passed.{refuses}
+use Rattle.model.specs.Refusals.{refuses}
 use Rattle.runner.proofs.Checks.{call_ready, save_room, run_refused, run_bad_save, run_checked_lem}
 use Rattle.runner.proofs.run.Goals as goal
 
