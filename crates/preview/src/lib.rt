@@ -23,10 +23,9 @@ ghost use Rattle.preview.specs.Shown.{accepted_as, answer_in, meaning_is, meanin
 use checks::check_save;
 use model::{ItemId, Refusal};
 use shop::{
-    CODES, Codes, ENTRIES, SLOTS, Sheet, Shop, Timer, atc_for, check_sheet, limit_of, rate_of,
-    timer_of,
+    CODES, Codes, SLOTS, Sheet, Shop, Timer, atc_for, check_sheet, limit_of, rate_of, timer_of,
 };
-use shop_arrays::{arrays_of, check_arrays, item_at};
+use shop_arrays::{arrays_of, check_arrays, item_at, row_in};
 use shop_codes::{Subject, is_missing, subject_of};
 use shop_flags::{entry_at, flags_inside};
 
@@ -267,8 +266,7 @@ fn meaning_at(
     let Some(item) = head.item else {
         return hidden();
     };
-    let start = ENTRIES * i;
-    let r = all_hold(&codes[start..start + ENTRIES], head.len, items, atcs, flags);
+    let r = all_hold(row_in(codes, i), head.len, items, atcs, flags);
     let most = limit_of(attached, sheet, item, head.limit);
     if most <= 1 {
         unique_meaning(attached, sheet, item, r, items, atcs, times)
