@@ -11,7 +11,7 @@ use Rattle.model.specs.Run.{Outcome, next, halt, follow, store, or_halt, execute
 use Rattle.model.specs.Memory.{coded_in, command_in, commands_in, link_in}
 use Rattle.lanes_model.specs.Flat.{part}
 use Rattle.lanes_model.specs.Lanes.{moved}
-use Rattle.lanes_expr.specs.Lanes.{lane_value, first_stop, Valued, Stand}
+use Rattle.lanes_expr.specs.Lanes.{lane_value, first_stop, Valued}
 use Rattle.memory.specs.RecordLaws.{next_command}
 use Rattle.std.specs.Prelude as code
 use Rattle.std.specs.Prelude.{Some, None}
@@ -115,13 +115,6 @@ pub if_does : (n : ℕ) {save : ℕ → Save} {ls : List ℕ} {s : ℕ} {vs : Li
 if_does n {save} {ls} {s} {vs} {rs} {rs'} {c} {k} {xs} p = record {
   kept = parts_same ls s vs;
   each = λ j h. if_flows (save (get_or ls j 0)) (part variable_count (get_or ls j 0) vs) c n k (get_or rs j 0) (get_or rs' j 0) (get_or xs j (pos 0)) (p.is j h);
-}
-
--- the lanes still lie in variables that are as long
-pub stand_still : {n m : ℕ} {f : Save} {vs vs' : List ℤ} {ls : List ℕ} {s : ℕ} → Stand n m f vs ls s → KeptParts ls s vs vs' → Stand n m f vs' ls s
-stand_still p k = record {
-  few = p.few;
-  lie = λ j h. let q = p.lie j h in record { items = q.items; atcs = q.atcs; flags = q.flags; times = q.times; variables = let a = q.variables in let b = k.long in omega arith };
 }
 
 -- ---- the commands of a block

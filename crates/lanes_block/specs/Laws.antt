@@ -1,16 +1,14 @@
 -- Writes for the lanes of a list, one after another: into variables one behind another, and into arrays by lane. Assumes nothing.
-use Rattle.std.specs.Prelude.{◌≡◌, refl, Bool, true, false, cond, List, ℕ, zero, suc, ◌+◌, ◌-◌, ◌*◌, ◌≤◌, ◌<◌, T, ltb, get_or, set, length, take, drop, ℤ, pos, negsuc, nat_abs}
-use Rattle.std.proofs.Common.{sym, ap, ◌∙◌, subst, arith, not-suc-le-zero, length-set, length-take, get_or-set_same, get_or-set_other, drop-set-lt, ltb-true, lt-ltb, le-ltb}
+use Rattle.std.specs.Prelude.{◌≡◌, refl, Bool, true, false, cond, List, ℕ, zero, suc, ◌+◌, ◌-◌, ◌*◌, ◌≤◌, ◌<◌, ltb, get_or, set, length, take, drop, ℤ, pos, negsuc}
+use Rattle.std.proofs.Common.{sym, ap, ◌∙◌, arith, length-set, length-take, get_or-set_same, get_or-set_other, drop-set-lt, lt-ltb, le-ltb}
 use Rattle.std.proofs.Math.Decide.{dec_le}
 use Rattle.std.proofs.Math.Seq.{set_out, take-set-lt}
 use Rattle.std.proofs.lemmas.List.{take-set-le, drop-set-add}
-use Rattle.std.specs.Int.Signed.{lt_z}
 use Rattle.model.specs.Limits.{variable_count, most_saves}
 use Rattle.lanes_model.specs.Flat.{part}
-use Rattle.model.specs.Signed.{is_zero}
 use Rattle.lanes_block.specs.declared.Way.{Way}
 use Rattle.lanes_block.specs.declared.Exit.{Exit}
-use Rattle.lanes_block.specs.Ways.{Rising, Absent, KeptParts, stored_part, stored_in, StoredAll, followed, chosen, Countable, Written, Settled}
+use Rattle.lanes_block.specs.Ways.{Rising, Absent, KeptParts, stored_part, stored_in, StoredAll, chosen, Written, Settled}
 
 -- ---- the variables of one lane
 
@@ -122,16 +120,10 @@ module _ (ls : List ℕ) (f : ℕ → ℕ) (xs : List ℕ) where
       by i g (no q) = get_or-set_other xs' (get_or ls j 0) (get_or ls i 0) x 0 (before_absent r j h i (omega arith)) ∙ p.each i (omega arith)
 
 module _ (ls : List ℕ) (e : Exit) (xs : List ℤ) (rs ps qs es : List ℕ) where
-  pub settled_none : Settled ls e xs rs 0 ps qs es ps qs es
-  settled_none = record { blocks = written_none ls _ ps; answers = written_none ls _ qs; counts = written_none ls _ es }
-
   module _ (s j : ℕ) (ps' qs' es' : List ℕ) (r : Rising ls s) (h : j < s) (p : Settled ls e xs rs j ps qs es ps' qs' es') where
     -- lane j's count is still as it was
     count_before : get_or es' (get_or ls j 0) 0 ≡ get_or es (get_or ls j 0) 0
     count_before = p.counts.kept.others (get_or ls j 0) (before_absent r j h)
-
-    pub count_room : Countable ls s es → (l : ℕ) → l ≡ get_or ls j 0 → get_or es' l 0 < 4294967295
-    count_room c l q = rw (q, count_before) (c j h)
 
     pub settled_more : length ps ≡ most_saves → length qs ≡ most_saves → length es ≡ most_saves → (l : ℕ) → l ≡ get_or ls j 0 → (w : Way) → w ≡ chosen e (get_or xs j (pos 0)) (get_or rs j 0)
         → Settled ls e xs rs (j + 1) ps qs es (set ps' l w.word) (set qs' l w.answer) (set es' l (get_or es' l 0 + 1))
@@ -140,43 +132,3 @@ module _ (ls : List ℕ) (e : Exit) (xs : List ℤ) (rs ps qs es : List ℕ) whe
       answers = written_more ls _ qs s j qs' w.answer r b h p.answers (ap (λ (u : Way). u.answer) z);
       counts = written_more ls _ es s j es' (get_or es' (get_or ls j 0) 0 + 1) r c h p.counts (ap (λ n. n + 1) count_before);
     })
-
-  pub settled_all : (s j : ℕ) (ps' qs' es' : List ℕ) → Settled ls e xs rs j ps qs es ps' qs' es' → j ≤ s → s ≤ j → Settled ls e xs rs s ps qs es ps' qs' es'
-  settled_all s j ps' qs' es' p a b = let w : s ≡ j = omega arith in rw w p
-
--- ---- the code's tests
-
-module _ (e : Exit) (z : ℤ) where
-  pub chosen_stop : (r : ℕ) → (r ≡ 0 → ⊥) → ◌≡◌ {A = Way} (record { word = 0; answer = r }) (chosen e z r)
-  chosen_stop zero n = absurd (n refl)
-  chosen_stop (suc r) n = refl
-
-  pub chosen_zero : (r : ℕ) → r ≡ 0 → is_zero z ≡ true → e.otherwise ≡ chosen e z r
-  chosen_zero r p q = rw (p, q)
-
-  pub chosen_other : (r : ℕ) → r ≡ 0 → is_zero z ≡ false → e.then ≡ chosen e z r
-  chosen_other r p q = rw (p, q)
-
-pub followed_none : (n : ℕ) → n ≡ 0 → ◌≡◌ {A = Way} (record { word = 0; answer = 14 }) (followed n)
-followed_none n e = rw e
-
-pub followed_some : (n : ℕ) → (n ≡ 0 → ⊥) → ◌≡◌ {A = Way} (record { word = n; answer = 0 }) (followed n)
-followed_some zero e = absurd (e refl)
-followed_some (suc n) e = refl
-
-module _ (vs : List ℤ) (l : ℕ) (x : ℤ) where
-  pub stored_stop : (r : ℕ) (k : ℤ) → (r ≡ 0 → ⊥) → vs ≡ stored_in r vs l k x
-  stored_stop zero k n = absurd (n refl)
-  stored_stop (suc r) k n = refl
-
-  pub stored_negative : (r : ℕ) (k : ℤ) → r ≡ 0 → lt_z k (pos 0) ≡ true → vs ≡ stored_in r vs l k x
-  stored_negative r (pos k) e t = absurd (not-suc-le-zero (ltb-true k 0 t))
-  stored_negative r (negsuc k) e t = rw e
-
-  pub stored_in_lem : (r : ℕ) (k : ℤ) → r ≡ 0 → lt_z k (pos 0) ≡ false → nat_abs k < variable_count → set vs (l * variable_count + nat_abs k) x ≡ stored_in r vs l k x
-  stored_in_lem r (pos k) e t h = rw (e, lt-ltb k variable_count h)
-  stored_in_lem r (negsuc k) e t h = absurd (subst T t tt)
-
-  pub stored_out : (r : ℕ) (k : ℤ) → r ≡ 0 → lt_z k (pos 0) ≡ false → variable_count ≤ nat_abs k → vs ≡ stored_in r vs l k x
-  stored_out r (pos k) e t h = rw (e, le-ltb k variable_count h)
-  stored_out r (negsuc k) e t h = absurd (subst T t tt)

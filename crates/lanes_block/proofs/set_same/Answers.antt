@@ -1,5 +1,4 @@
 use Rattle.std.proofs.Common.{◌≡◌, refl, rules, get_or, pos, to_z, of_z, w32}
-use Rattle.std.proofs.Math.Facts.{to_z-of_z}
 use Rattle.model.specs.Memory.{nodes_in, tree}
 use Rattle.expr.specs.Tree.{below_root}
 use Rattle.lanes_expr.proofs.Values.{imm_found}
