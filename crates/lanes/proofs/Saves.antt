@@ -2,7 +2,7 @@
 use mathlib.Core.Path.{◌≡◌, refl, sym, ap, ◌∙◌}
 use mathlib.Core.Bool.{Bool, true, false, ◌&&◌, and-false, and_assoc}
 use mathlib.Core.List.{List, [], ◌∷◌, ◌++◌}
-use Prim.Native.Nat.{ℕ, zero, suc, ◌+◌, ◌-◌, ◌*◌, ◌≤◌, ◌<◌}
+use Prim.Native.Nat.{ℕ, zero, suc, ◌+◌, ◌*◌, ◌≤◌, ◌<◌}
 use native.Mathlib.Nat.{add-zero, zero-mul, suc-mul, add-mul, mul-le-mul_right}
 use native.Mathlib.Omega.{arith}
 use lib.Dec.{eqb}
@@ -11,7 +11,7 @@ use lib.Seq.{drop-drop, length-take-le, take_all}
 use lib.IntN.{ℤ}
 use mir.Syntax.{w16, w32}
 use borrow.Author.Tests.{eqb-true, eq-eqb, le-leb, lt-leb}
-use Rattle.model.specs.Limits.{flag_count, time_count, variable_count, most_saves, wide, wide16}
+use Rattle.model.specs.Limits.{flag_count, time_count, variable_count, most_saves}
 use Rattle.model.specs.Refusal.{first_of, check}
 use Rattle.model.specs.Signed.{in_range}
 use Rattle.model.specs.Save.{Save}
@@ -28,7 +28,6 @@ use Rattle.checks.proofs.Checks.{save_is}
 use Rattle.expr.specs.Value.{reads}
 use Rattle.reclaim_reach.specs.Words.{Safe}
 use Rattle.reclaim_reach.specs.Judged.{safe}
-use Rattle.lanes_model.specs.Falls.{falls}
 use Rattle.lanes_model.specs.Walk.{walk_ok, walk_checks}
 use Rattle.lanes_model.specs.Flat.{part, save_in, saves_from, lengths_ok, saves_ok, walk_refusal_in}
 use Rattle.lanes.specs.Calls.{lengths_are, values_ok}
@@ -147,14 +146,8 @@ saves_bad ks h f k e = sym (rw (length-map, e))
 
 -- ---- the checks
 
-pub walk_none : (bs : List Block) (b k : ℕ) → k < 1 → false ≡ walk_ok bs b k
-walk_none bs b k h = rw (lt-leb 1 k h)
-
 pub walk_many : (bs : List Block) (b k : ℕ) → 64 < k → false ≡ walk_ok bs b k
 walk_many bs b k h = rw (le-leb 1 k (omega arith), lt-leb k 64 h)
-
-pub walk_falls : (bs : List Block) (b k : ℕ) (r : Bool) → 1 ≤ k → k ≤ 64 → r ≡ falls bs b → r ≡ walk_ok bs b k
-walk_falls bs b k r h g e = rw (le-leb 1 k h, le-leb k 64 g) e
 
 module _ (h : Sheet) (m : Memory) (b k : ℕ) (f : Save) where
   pub check_refused : (n : ℕ) → n ≡ call_in h m b → (n ≡ 0 → ⊥) → n ≡ walk_refusal_in h m b k f
@@ -179,9 +172,6 @@ module _ (h : Sheet) (m : Memory) (b k : ℕ) (f : Save) where
 
   pub call_safe : call_in h m b ≡ 0 → Safe m.coded.words m.words m.count × (b < m.count)
   call_safe e = let p = call_passed h m b e in (safe m p.blocks p.rest p.judged, p.inside)
-
-pub product_low : (k n : ℕ) → k < wide → n < wide16 → k * n < wide * wide16
-product_low k n h g = let q : k ≤ 4294967295 = omega arith in let a = mul-le-mul_right n q in omega arith
 
 pub saves_long : (ks : List ℕ) (h : code.Sheet) (f : Save) (k : ℕ) → lengths_ok (sheet_of ks h) k f ≡ true → length f.variables ≡ k * variable_count
 unfolding sheet_of

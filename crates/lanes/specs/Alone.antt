@@ -23,15 +23,6 @@ pub record Alone (x : Ran) (qs es : List ℕ) (vs : List ℤ) (r : ℕ) (qs' es'
   pub read : r ≡ x.entered
   pub long : length vs' ≡ length vs
 
-pub alone_ran : (x : Ran) (qs es : List ℕ) (vs : List ℤ) (a n : ℕ) (vs' : List ℤ) → ◌≡◌ {A = Ran} (record { answer = a; variables = vs'; entered = n }) x → length vs' ≡ length vs → Alone x qs es vs n (set qs 0 a) (set es 0 n) vs'
-alone_ran x qs es vs a n vs' e l = record {
-  answers = ap (λ (y : Ran). set qs 0 y.answer) e;
-  counts = ap (λ (y : Ran). set es 0 y.entered) e;
-  variables = ap (λ (y : Ran). y.variables) e;
-  read = ap (λ (y : Ran). y.entered) e;
-  long = l;
-}
-
 -- ---- one lane
 
 -- how many blocks a lane has entered

@@ -1,5 +1,5 @@
 -- The loop over the blocks where lanes stand is the walk of the definition. Assumes nothing.
-use Rattle.std.specs.Prelude.{◌≡◌, refl, ◌⊎◌, Bool, true, false, cond, ◌||◌, List, [], ◌∷◌, map, ℕ, zero, suc, ◌+◌, ◌-◌, ◌≤◌, ◌<◌, get_or, length, ℤ}
+use Rattle.std.specs.Prelude.{◌≡◌, refl, Bool, true, false, cond, ◌||◌, List, [], ◌∷◌, map, ℕ, zero, suc, ◌+◌, ◌-◌, ◌≤◌, ◌<◌, get_or, length, ℤ}
 use Rattle.std.proofs.Math.Path.{sym, ap}
 use Rattle.std.proofs.Common.{◌∙◌, ⊎_elim, arith, add-one, zero-add, eq-eqb, ne_eqb}
 use Rattle.std.proofs.Math.Nat.{add-zero}
@@ -13,9 +13,9 @@ use Rattle.model.specs.Memory.{Memory, script_of}
 use Rattle.memory.specs.RecordLaws.{length_blocks_in}
 use Rattle.lanes_model.specs.Flat.{part, save_in, saves_from}
 use Rattle.lanes_model.specs.Lanes.{State, at, Lane, moved, is_at, step_state, step_lane, any_at, Walk, one_read, walk, start_lane, walk_all, ran_of}
-use Rattle.lanes_expr.specs.Lanes.{Lies, Stand}
+use Rattle.lanes_expr.specs.Lanes.{Lies}
 use Rattle.lanes_expr.specs.Each.{Each}
-use Rattle.lanes_block.specs.Ways.{Absent, Countable, Visited, state_of, state_in}
+use Rattle.lanes_block.specs.Ways.{Absent, Visited, state_of, state_in}
 use Rattle.lanes.specs.Standing.{Gathered, Highest}
 
 pub script_length : (m : Memory) → m.count ≡ length (script_of m).blocks
@@ -36,12 +36,6 @@ pub record Lying (n m : ℕ) (f : Save) (vs : List ℤ) (k : ℕ) : Type 0 where
 -- the first k counts are at most c
 abbrev pub CountsTo : ℕ → ℕ → List ℕ → Type 0
 CountsTo k c es = (l : ℕ) → l < k → get_or es l 0 ≤ c
-
-pub lying_stand : {n m : ℕ} {f : Save} {vs : List ℤ} {k : ℕ} {ps : List ℕ} {word : ℕ} {ls : List ℕ} {s : ℕ} → Lying n m f vs k → Gathered ps k word ls s → Stand n m f vs ls s
-lying_stand {ls = ls} p g = record { few = let a = p.few in let b = g.few in omega arith; lie = λ j h. p.lie (get_or ls j 0) (g.low j h) }
-
-pub countable : (es : List ℕ) {ps : List ℕ} {k word : ℕ} {ls : List ℕ} {s : ℕ} → Gathered ps k word ls s → CountsTo k 4294967294 es → Countable ls s es
-countable es {ls = ls} g c j h = let a = c (get_or ls j 0) (g.low j h) in omega arith
 
 pub lying_still : {n m : ℕ} {f : Save} {vs vs' : List ℤ} {k : ℕ} → Lying n m f vs k → length vs' ≡ length vs → Lying n m f vs' k
 lying_still p e = record { few = p.few; lie = λ l h. let q = p.lie l h in record { items = q.items; atcs = q.atcs; flags = q.flags; times = q.times; variables = let a = q.variables in omega arith } }
@@ -152,19 +146,6 @@ pub record Walking (save : ℕ → Save) (bs : List Block) (n k : ℕ) (ps₀ qs
   pub long : length vs ≡ length vs₀
 
 module _ (save : ℕ → Save) (bs : List Block) (n k : ℕ) (ps₀ qs₀ es₀ : List ℕ) (vs₀ : List ℤ) where
-  pub walking_none : Walking save bs n k ps₀ qs₀ es₀ vs₀ n 0 ps₀ qs₀ es₀ vs₀
-  walking_none = record {
-    low = omega arith;
-    lanes = refl;
-    reads = sym (zero-add _);
-    counts = λ l h. omega arith;
-    rest_answers = λ l h. refl;
-    rest_counts = λ l h. refl;
-    long_answers = refl;
-    long_counts = refl;
-    long = refl;
-  }
-
   module _ {top read : ℕ} {ps qs es : List ℕ} {vs : List ℤ} (p : Walking save bs n k ps₀ qs₀ es₀ vs₀ top read ps qs es vs) where
     module _ (word : ℕ) (h : Highest ps top k word) where
       none_between : (b : ℕ) → word ≤ b → b < top → any_at b (lanes_from save (state_in ps qs es vs) 0 k) ≡ false
@@ -248,16 +229,6 @@ pub record Begun (k word : ℕ) (ps es ps' es' : List ℕ) : Type 0 where
 abbrev pub last_answer : ℕ → ℕ → ℕ
 last_answer zero a = a
 last_answer (suc p) a = budget_spent
-
-pub last_ended : (p a : ℕ) → p ≡ 0 → a ≡ last_answer p a
-last_ended p a e = rw e
-
-pub last_standing : (p a : ℕ) → (p ≡ 0 → ⊥) → 15 ≡ last_answer p a
-last_standing zero a n = absurd (n refl)
-last_standing (suc p) a n = refl
-
-pub begun_counts : (c : ℕ) (ps es ps' es' : List ℕ) {k word : ℕ} → Begun k word ps es ps' es' → CountsTo k c es'
-begun_counts c ps es ps' es' g l h = let a = g.counts.done l h in omega arith
 
 pub stepped_counts : {ps es ps' es' : List ℕ} {k word : ℕ} → Begun k word ps es ps' es' → {save : ℕ → Save} {bs : List Block} {b : ℕ} {qs : List ℕ} {vs : List ℤ} {ps'' qs'' es'' : List ℕ} {vs'' : List ℤ}
     → Stepped save bs b k ps' qs es' vs ps'' qs'' es'' vs'' → CountsTo k 1 es''
