@@ -15,11 +15,16 @@ const BILLION: u64 = 1000000000;
 
 fn main() {
     let mut input: [u8; 8192] = [0; 8192];
-    run_cases(&mut input, b"BL", |_| WORDS, |op, a, t| {
-        if op == b'B' || op == b'L' {
-            asked(op, a, t);
-        }
-    });
+    run_cases(
+        &mut input,
+        b"BL",
+        |_| WORDS,
+        |op, a, t| {
+            if op == b'B' || op == b'L' {
+                asked(op, a, t);
+            }
+        },
+    );
 }
 
 // Every other slot has item 7, of which none is taken.

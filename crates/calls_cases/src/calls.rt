@@ -6,7 +6,9 @@ use image_read::read_script;
 use image_write::write_script;
 use judge_record::judge_record;
 use memory::{Births, BlockWords, CommandWords, Counts, NodeWords, Values};
-use model::{BlockNo, FLAGS, ItemId, Loader, Refusal, TIMES, VARIABLES, Variables, WIDE, refusal_in};
+use model::{
+    BlockNo, FLAGS, ItemId, Loader, Refusal, TIMES, VARIABLES, Variables, WIDE, refusal_in,
+};
 use parse::parse;
 use preview::{Previewed, preview};
 use runner::{Ran, run};

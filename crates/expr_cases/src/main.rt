@@ -23,12 +23,17 @@ fn main() {
 
 // Large arrays are not read where they are made: the proof would go through their elements. The nodes go from line to line.
 fn start(input: &mut [u8; 4096], ws: &mut NodeWords, val: &mut Values) {
-    run_cases(input, b"EN", |_| WORDS, |op, a, t| match op {
-        b'n' => nodes(a, ws, val),
-        b'E' => evaluated(a, ws, val, t),
-        b'N' => negated(a, ws, val, t),
-        _ => (),
-    });
+    run_cases(
+        input,
+        b"EN",
+        |_| WORDS,
+        |op, a, t| match op {
+            b'n' => nodes(a, ws, val),
+            b'E' => evaluated(a, ws, val, t),
+            b'N' => negated(a, ws, val, t),
+            _ => (),
+        },
+    );
 }
 
 // ---- a row of nodes
@@ -184,14 +189,7 @@ fn over_one(ws: &mut NodeWords, val: &mut Values, o: Op1, n: u16, x: Turn) -> Tu
 }
 
 // Node n - 1, which has this code and number and no operands, as all of the nodes from c on.
-fn leaf(
-    ws: &mut NodeWords,
-    val: &mut Values,
-    c: u16,
-    n: u16,
-    code: u16,
-    z: i32,
-) -> Option<Turn>
+fn leaf(ws: &mut NodeWords, val: &mut Values, c: u16, n: u16, code: u16, z: i32) -> Option<Turn>
     requires { (c < n) × (n ≤ node_limit) }
     ensures { IfSome result (Leaf (nodes_in ws.old val.old c) (nodes_in ws.new val.new n) code z) }
 {

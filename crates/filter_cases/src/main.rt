@@ -27,13 +27,18 @@ pub struct Others {
 
 fn main() {
     let mut input: [u8; 4096] = [0; 4096];
-    run_cases(&mut input, b"AF", |_| WORDS, |op, a, t| {
-        match op {
-            b'F' => told(kept(a), t),
-            b'A' => t[0] = u32::from(first_wrong()),
-            _ => (),
-        }
-    });
+    run_cases(
+        &mut input,
+        b"AF",
+        |_| WORDS,
+        |op, a, t| {
+            match op {
+                b'F' => told(kept(a), t),
+                b'A' => t[0] = u32::from(first_wrong()),
+                _ => (),
+            }
+        },
+    );
 }
 
 // What the filter keeps of the words of a line, reduced to what it asks for.

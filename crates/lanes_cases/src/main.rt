@@ -7,8 +7,7 @@ use capi_lanes::{Walked, lk_run_all};
 use case_lines::{Answer, WORDS, Words, low16, run_cases, signed16, wide8};
 use lanes_expr::LANES;
 use memory::{
-    BLOCK_WORDS, BlockWords, COMMAND_WORDS, CommandWords, NODE_WORDS, NODES,
-    NodeWords, Values,
+    BLOCK_WORDS, BlockWords, COMMAND_WORDS, CommandWords, NODE_WORDS, NODES, NodeWords, Values,
 };
 use model::{FLAGS, VARIABLES};
 
@@ -29,13 +28,18 @@ fn start(
     cw: &mut CommandWords,
     bw: &mut BlockWords,
 ) {
-    run_cases(input, b"W", |_| WORDS, |op, a, t| match op {
-        b'n' => node(a, ws, val),
-        b'c' => words(cw, 4, a),
-        b'b' => words(bw, 5, a),
-        b'W' => walked(a, ws, val, cw, bw, t),
-        _ => (),
-    });
+    run_cases(
+        input,
+        b"W",
+        |_| WORDS,
+        |op, a, t| match op {
+            b'n' => node(a, ws, val),
+            b'c' => words(cw, 4, a),
+            b'b' => words(bw, 5, a),
+            b'W' => walked(a, ws, val, cw, bw, t),
+            _ => (),
+        },
+    );
 }
 
 // ---- the script

@@ -1,5 +1,6 @@
 -- What the values of the code stand for: the meaning of a slot, and a preview with its twenty pairs. Assumes nothing: these are definitions.
-use Rattle.std.specs.Prelude.{cond, List, map, ℕ, get_or, set, replicate, ℤ, pos, Result, Ok, Err}
+use Rattle.std.specs.Prelude.{Option, Some, None, List, map, ℕ, get_or, set, replicate, ℤ, pos, Result, Ok, Err}
+use Rattle.std.proofs.Math.Option as Math
 use Rattle.std.proofs.Math.Option.{none, some}
 use Rattle.std.proofs.lemmas.List.Edits.{sets}
 use Rattle.model.specs.Limits.{slot_count}
@@ -15,8 +16,13 @@ use Rattle.model.specs.Preview.{Preview}
 use Rattle.preview.specs.declared.Meaning.{Meaning}
 use Rattle.preview.specs.declared.Previewed.{Previewed}
 
+-- what a slot leaves in variable 0
+abbrev pub temp_is : Option ℤ → Math.Option ℤ
+temp_is (Some z) = some z
+temp_is None = none
+
 abbrev pub meaning_is : Meaning → Model.Meaning
-meaning_is m = record { item = m.item; count = m.count; temp = cond m.kept (some m.count) none }
+meaning_is m = record { item = m.item; count = m.count; temp = temp_is m.temp }
 
 -- what a call answers, in numbers: the refusal or 0, twenty items, twenty counts, and variable 0
 pub record Answer : Type 0 where

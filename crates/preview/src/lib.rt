@@ -37,12 +37,12 @@ pub struct Previewed {
     pub temp: i32,
 }
 
-// The pair of a slot; one above limit 1 that is shown leaves its count in variable 0.
+// The pair of a slot, and what it leaves in variable 0: one above limit 1 that is shown its count.
 #[derive(Clone, Copy)]
 struct Meaning {
     item: i32,
     count: i32,
-    kept: bool,
+    temp: Option<i32>,
 }
 
 // A slot but for its codes, which are read where they stand.
@@ -164,7 +164,7 @@ fn hidden() -> Meaning
     Meaning {
         item: -1,
         count: 0,
-        kept: false,
+        temp: None,
     }
 }
 
@@ -174,7 +174,7 @@ fn listed(item: ItemId, count: u8) -> Meaning
     Meaning {
         item: i32::from(item.0),
         count: i32::from(count),
-        kept: false,
+        temp: None,
     }
 }
 
@@ -230,10 +230,11 @@ fn limit_meaning(item: ItemId, limit: u8, r: bool, items: &[i16]) -> Meaning
     if !r {
         return hidden();
     }
+    let left = remaining(limit, short_at(items, usize::from(item.0)));
     Meaning {
         item: i32::from(item.0),
-        count: remaining(limit, short_at(items, usize::from(item.0))),
-        kept: true,
+        count: left,
+        temp: Some(left),
     }
 }
 
@@ -292,7 +293,7 @@ fn blank(vars: &[i32]) -> Previewed
 fn temp_after(m: Meaning, temp: i32) -> i32
     ensures { result ≡ or_old (meaning_is m).temp temp }
 {
-    if m.kept { m.count } else { temp }
+    m.temp.unwrap_or(temp)
 }
 
 // The pairs of a shop and a save that pass 1, 8, 12 and 23. The answer is written where it stands: handed on at each slot, its 41 numbers would be copied each time.

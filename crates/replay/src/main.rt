@@ -199,7 +199,19 @@ fn compile_list(
         same: read.is_ok(),
     };
     let items = attached.get(..before.items)?;
-    let (listed, at) = compiles(s, at, n, items, before.sheet, start, ws, val, cw, bw, births)?;
+    let (listed, at) = compiles(
+        s,
+        at,
+        n,
+        items,
+        before.sheet,
+        start,
+        ws,
+        val,
+        cw,
+        bw,
+        births,
+    )?;
     let (after, at) = run_at(s, at)?;
     let case = Case {
         same: listed.same && writes(after, ws, val, cw, bw, listed.counts),

@@ -37,9 +37,14 @@ fn start(
     codes: &mut Codes,
     lens: &mut [u8; SLOTS],
 ) {
-    run_cases(input, b"ESVW", |_| WORDS, |op, a, t| {
-        step(op, a, rights, items, limits, codes, lens, t);
-    });
+    run_cases(
+        input,
+        b"ESVW",
+        |_| WORDS,
+        |op, a, t| {
+            step(op, a, rights, items, limits, codes, lens, t);
+        },
+    );
 }
 
 // ---- lines

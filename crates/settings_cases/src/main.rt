@@ -6,11 +6,16 @@ use case_lines::{Answer, WORDS, Words, low8, low16, row, run_cases, signed16};
 
 fn main() {
     let mut input: [u8; 4096] = [0; 4096];
-    run_cases(&mut input, b"S", |_| WORDS, |op, a, t| {
-        if op == b'S' {
-            asked(a, t);
-        }
-    });
+    run_cases(
+        &mut input,
+        b"S",
+        |_| WORDS,
+        |op, a, t| {
+            if op == b'S' {
+                asked(a, t);
+            }
+        },
+    );
 }
 
 // The first items of eight, of which item 1 has atc 0 and item 6 atc 1.

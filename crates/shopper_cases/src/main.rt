@@ -14,11 +14,16 @@ const TOLD: usize = 4;
 
 fn main() {
     let mut input: [u8; 8192] = [0; 8192];
-    run_cases(&mut input, b"S", |_| WORDS, |op, a, t| {
-        if op == b'S' {
-            asked(a, t);
-        }
-    });
+    run_cases(
+        &mut input,
+        b"S",
+        |_| WORDS,
+        |op, a, t| {
+            if op == b'S' {
+                asked(a, t);
+            }
+        },
+    );
 }
 
 // ---- a shopper

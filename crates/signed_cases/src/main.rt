@@ -9,11 +9,16 @@ use shop::{CODES, ENTRIES, SLOTS};
 
 fn main() {
     let mut input: [u8; 4096] = [0; 4096];
-    run_cases(&mut input, b"S", |_| WORDS, |op, a, t| {
-        if op == b'S' {
-            asked(a, t);
-        }
-    });
+    run_cases(
+        &mut input,
+        b"S",
+        |_| WORDS,
+        |op, a, t| {
+            if op == b'S' {
+                asked(a, t);
+            }
+        },
+    );
 }
 
 // Eight items, of which item 6 has atc 1. Slot 0 has item 7, limit 3 and F2, slot 1 what the line says; the others are empty. A requirement that the line does not give is I0.
