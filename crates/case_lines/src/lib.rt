@@ -191,6 +191,7 @@ pub fn run_cases<const N: usize, H: Fn(u8) -> usize, F: FnMut(u8, &mut Words, &m
     let n = io::read_full(STDIN, input);
     let mut tally = none();
     let mut rest = &input[..n];
+    // No split at newlines: the last byte of the text ends a line, a newline or not.
     while !rest.is_empty() {
         let (line, newline) = rest.split_at(line_end(rest, 0));
         let mut a: Words = [0; WORDS];

@@ -144,6 +144,7 @@ fn walk_down(
     let mut read: u32 = 0;
     let mut top = u32::from(counts.blocks);
     let mut word = highest(at, w.lanes, top);
+    // No range: the next block is the highest where a lane stands then.
     while word != 0 {
         visit_standing(
             ws, val, cw, bw, counts, word, w, items, atcs, flags, times, vars, at, answers, entered,

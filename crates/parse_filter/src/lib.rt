@@ -75,6 +75,7 @@ fn stands_on(cells: &[u16], first: usize, below: usize) -> bool
     ensures { result ≡ eqb (reached cells.now below first) below }
 {
     let mut c = first;
+    // No range: the chain goes from cell to cell.
     while below < c {
         c = usize::from(cells[3 * ((c - 1) / 2)]);
     }
@@ -97,6 +98,7 @@ fn mark_chain(
     let below = usize::from(k.first);
     let mut a = usize::from(k.alive);
     let mut c = first;
+    // No range: the chain goes from cell to cell.
     while below < c {
         let j = (c - 1) / 2;
         let neg = (c - 1) % 2 == 1;
@@ -139,6 +141,7 @@ fn clear(cells: &[u16], list: &[u16], companions: &[u16], seen: &mut [bool], fir
     ensures { Unmarks seen.old (entries_in companions.now cells.now list.now first) seen.new }
 {
     let mut c = first;
+    // No range: the chain goes from cell to cell.
     while 0 < c {
         let j = (c - 1) / 2;
         clear_part(

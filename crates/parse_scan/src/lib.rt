@@ -427,6 +427,7 @@ pub fn update_slots(
 {
     let touched = s.item_mask | s.count_mask;
     let mut at = 0;
+    // From bit to bit (01), and not over all slots.
     while at < SLOTS {
         let i = next_touched(touched, at);
         if SLOTS <= i {

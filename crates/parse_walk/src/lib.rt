@@ -63,6 +63,7 @@ fn walk_all(
     let mut counts = [0i16; SLOTS];
     let mut w = start();
     let mut depth = 1;
+    // No range: a visit puts the blocks that are due next on the stack.
     while 0 < depth {
         let top = top_unmarked(marks, stack, g.counts.blocks, depth);
         if top == 0 {

@@ -47,7 +47,7 @@ pub enum Field {
 
 // ---- rights
 
-// The right to change a field.
+// The right to change a field: a weight of the numbers of rights, which C hands over.
 fn right_for(field: Field) -> u8
     ensures { result ≡ weight_of (field_is field) }
 {

@@ -105,6 +105,7 @@ fn read_natural(s: &[u8], at: usize, bound: u64, e: Fault) -> Result<(u64, usize
     }
     let mut n = first;
     let mut p = at + 1;
+    // No range: it ends where no digit stands.
     while let Some(d) = digit_at(s, p) {
         n = 10 * n + d;
         if bound <= n {
