@@ -110,12 +110,12 @@ fn value(b: u8) -> Option<u8> {
 // The number with one more digit, by its 32 bits.
 fn longer(x: u32, hex: bool, minus: bool, v: u8) -> u32 {
     if hex {
-        return ((x as u64 * 16 + v as u64) % WIDE) as u32;
+        return ((u64::from(x) * 16 + u64::from(v)) % WIDE) as u32;
     }
     if minus {
-        return ((x as u64 * 10 + (WIDE - v as u64)) % WIDE) as u32;
+        return ((u64::from(x) * 10 + (WIDE - u64::from(v))) % WIDE) as u32;
     }
-    ((x as u64 * 10 + v as u64) % WIDE) as u32
+    ((u64::from(x) * 10 + u64::from(v)) % WIDE) as u32
 }
 
 // The letter of a line; an empty line has none.
@@ -130,7 +130,7 @@ pub fn low8(x: u32) -> u8 {
 }
 
 pub fn low16(x: u32) -> u16 {
-    (x as u64 % WIDE16) as u16
+    (u64::from(x) % WIDE16) as u16
 }
 
 pub fn signed16(x: u32) -> i16 {
@@ -139,7 +139,7 @@ pub fn signed16(x: u32) -> i16 {
 
 // A requirement's code: its kind times 2^32, plus 2^31, plus its number, which can be below 0.
 pub fn code(kind: u32, number: u32) -> u64 {
-    kind as u64 * KIND + (ZERO + number as u64) % KIND
+    u64::from(kind) * KIND + (ZERO + u64::from(number)) % KIND
 }
 
 // The requirements of a slot by kind and number of the first two; each further one has the next number.
@@ -257,7 +257,7 @@ pub fn total(tally: Tally) {
 }
 
 fn decimal(x: u32) {
-    io::print_decimal(STDOUT, x as u64);
+    io::print_decimal(STDOUT, u64::from(x));
 }
 
 fn put(s: &[u8]) {
