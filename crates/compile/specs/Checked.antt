@@ -59,29 +59,29 @@ module _ (h : Model.Sheet) (k : Born) (o : Loader) (b : ℕ) (s : Shop) (twenty 
       ∙ ap (λ (n : ℕ). first_of (call_in h m b ∷ behind (slots_of s) n)) (blocks_counted m)
 
   -- refused, all is as it was
-  refused : (n : ℕ) → n ≡ compile_refusal_in h k (call_of o b s) → (n ≡ 0 → ⊥) → CompiledAs h k (call_of o b s) n k
+  pub compiled_refused : (n : ℕ) → n ≡ compile_refusal_in h k (call_of o b s) → (n ≡ 0 → ⊥) → CompiledAs h k (call_of o b s) n k
   unfolding compiled_in
-  refused n e d = record { answer = e; is = rw (ne_eqb (compile_refusal_in h k (call_of o b s)) 0 (λ z. d (e ∙ z))) }
+  compiled_refused n e d = record { answer = e; is = rw (ne_eqb (compile_refusal_in h k (call_of o b s)) 0 (λ z. d (e ∙ z))) }
 
   pub refused_call : (n : ℕ) → n ≡ call_in h m b → (n ≡ 0 → ⊥) → CompiledAs h k (call_of o b s) n k
-  refused_call n e d = refused n (go n d ∙ sym (in_order ∙ ap (λ j. first_of (j ∷ own)) (sym e))) d
+  refused_call n e d = compiled_refused n (go n d ∙ sym (in_order ∙ ap (λ j. first_of (j ∷ own)) (sym e))) d
     where
       go : (n : ℕ) → (n ≡ 0 → ⊥) → n ≡ first_of (n ∷ own)
       go zero d = absurd (d refl)
       go (suc n) d = refl
 
   pub refused_born : call_in h m b ≡ 0 → (born_at k b ≡ 0 → ⊥) → CompiledAs h k (call_of o b s) born_later k
-  refused_born e d = refused born_later (sym (in_order ∙ rw (e, ne_eqb (born_at k b) 0 d))) (λ z. omega arith)
+  refused_born e d = compiled_refused born_later (sym (in_order ∙ rw (e, ne_eqb (born_at k b) 0 d))) (λ z. omega arith)
 
   pub refused_shop : call_in h m b ≡ 0 → born_at k b ≡ 0 → all (slot_ok h) (slots_of s) ≡ false → CompiledAs h k (call_of o b s) bad_shop k
-  refused_shop e g f = refused bad_shop (sym (in_order ∙ rw (e, eq-eqb (born_at k b) 0 g, f))) (λ z. omega arith)
+  refused_shop e g f = compiled_refused bad_shop (sym (in_order ∙ rw (e, eq-eqb (born_at k b) 0 g, f))) (λ z. omega arith)
 
   -- n is what 9 and 19 answer of any script with the record's counts
   abbrev pub RoomSays : ℕ → Type 0
   RoomSays n = (sc : Script) → length sc.blocks ≡ m.count → sc.commands ≡ m.coded.count → sc.nodes ≡ m.coded.nodes.count → n ≡ room_refusal o sc fresh
 
   -- where all before it pass, 9 and 19 answer
-  room_decides : call_in h m b ≡ 0 → born_at k b ≡ 0 → all (slot_ok h) (slots_of s) ≡ true → (n : ℕ) → RoomSays n → n ≡ compile_refusal_in h k (call_of o b s)
+  pub room_decides : call_in h m b ≡ 0 → born_at k b ≡ 0 → all (slot_ok h) (slots_of s) ≡ true → (n : ℕ) → RoomSays n → n ≡ compile_refusal_in h k (call_of o b s)
   room_decides e g f n r = r (script_of m) (blocks_counted m) (commands_kept_lem m) (nodes_kept m) ∙ sym (in_order ∙ rw (e, eq-eqb (born_at k b) 0 g, f) (last (room_refusal o (script_of m) fresh)))
     where
       last : (n : ℕ) → first_of (n ∷ []) ≡ n
@@ -89,7 +89,7 @@ module _ (h : Model.Sheet) (k : Born) (o : Loader) (b : ℕ) (s : Shop) (twenty 
       last (suc n) = refl
 
   pub refused_room : call_in h m b ≡ 0 → born_at k b ≡ 0 → all (slot_ok h) (slots_of s) ≡ true → (n : ℕ) → RoomSays n → (n ≡ 0 → ⊥) → CompiledAs h k (call_of o b s) n k
-  refused_room e g f n r d = refused n (room_decides e g f n r) d
+  refused_room e g f n r d = compiled_refused n (room_decides e g f n r) d
 
   pub exact_slots : call_in h m b ≡ 0 → all (slot_ok h) (slots_of s) ≡ true → AllExact s
   exact_slots e f = shop_exact h (call_passed h m b e).sheet s f
@@ -106,8 +106,8 @@ module _ (h : Model.Sheet) (k : Born) (o : Loader) (b : ℕ) (s : Shop) (twenty 
       let z = room_low disc_limits (script_of m) fresh r in
       record { blocks = omega (arith, z.blocks, blocks_counted m); commands = z.commands; nodes = z.nodes }
 
-  allowed : compile_refusal_in h k (call_of o b s) ≡ 0 → Granted
-  allowed e =
+  pub granted : compile_refusal_in h k (call_of o b s) ≡ 0 → Granted
+  granted e =
       let space : ℕ = room_refusal o (script_of m) fresh in
       let p = first_passed (call_in h m b) own (sym in_order ∙ e) in
       let born = first_passed (check (eqb (born_at k b) 0) born_later) (check (all (slot_ok h) (slots_of s)) 8 ∷ space ∷ []) p.1 in
@@ -118,8 +118,9 @@ module _ (h : Model.Sheet) (k : Born) (o : Loader) (b : ℕ) (s : Shop) (twenty 
         room = room_by (room_passed o (script_of m) fresh (first_passed space [] q.1).0).0;
       }
 
-  pub granted : call_in h m b ≡ 0 → born_at k b ≡ 0 → all (slot_ok h) (slots_of s) ≡ true → RoomSays 0 → Granted
-  granted e g f r = allowed (sym (room_decides e g f 0 r))
+  -- from what each check found
+  pub granted_room : call_in h m b ≡ 0 → born_at k b ≡ 0 → all (slot_ok h) (slots_of s) ≡ true → RoomSays 0 → Granted
+  granted_room e g f r = granted (sym (room_decides e g f 0 r))
 
   -- t has the blocks, and the setup block is linked to the last of them
   linked : (t : Memory) → PutBlocks m fresh t → record { coded = t.coded; words = block_words t.words b 1 0 0 t.count 0; count = t.count } ≡ appended_in h m (call_of o b s)
@@ -138,7 +139,7 @@ module _ (h : Model.Sheet) (k : Born) (o : Loader) (b : ℕ) (s : Shop) (twenty 
       ap (λ (n : ℕ). births_after k n) (l ∙ f)
 
   -- accepted, the setup block and the marks are so
-  pub compiled_accepted : call_in h m b ≡ 0 → born_at k b ≡ 0 → all (slot_ok h) (slots_of s) ≡ true → RoomSays 0 → (t : Memory) → PutBlocks m fresh t
+  pub compiled_accepted : (n : ℕ) → n ≡ compile_refusal_in h k (call_of o b s) → n ≡ 0 → (t : Memory) → PutBlocks m fresh t
       → CompiledAs h k (call_of o b s) 0
       (record {
         memory = record { coded = t.coded; words = block_words t.words b 1 0 0 t.count 0; count = t.count };
@@ -146,9 +147,16 @@ module _ (h : Model.Sheet) (k : Born) (o : Loader) (b : ℕ) (s : Shop) (twenty 
         compiles = one_compile k.compiles;
       })
   unfolding compiled_in
-  compiled_accepted e g f r t p =
-      let z : 0 ≡ compile_refusal_in h k (call_of o b s) = room_decides e g f 0 r in
-      record {
-        answer = z;
-        is = rw (eq-eqb (compile_refusal_in h k (call_of o b s)) 0 (sym z)) (λ i. record { memory = linked t p i; births = marked t p i; compiles = one_compile k.compiles });
-      }
+  compiled_accepted n e z t p = record {
+    answer = sym z ∙ e;
+    is = rw (eq-eqb (compile_refusal_in h k (call_of o b s)) 0 (sym e ∙ z)) (λ i. record { memory = linked t p i; births = marked t p i; compiles = one_compile k.compiles });
+  }
+
+  pub accepted_room : call_in h m b ≡ 0 → born_at k b ≡ 0 → all (slot_ok h) (slots_of s) ≡ true → RoomSays 0 → (t : Memory) → PutBlocks m fresh t
+      → CompiledAs h k (call_of o b s) 0
+      (record {
+        memory = record { coded = t.coded; words = block_words t.words b 1 0 0 t.count 0; count = t.count };
+        births = sets k.births m.count (replicate (t.count - m.count) (one_compile k.compiles));
+        compiles = one_compile k.compiles;
+      })
+  accepted_room e g f r = compiled_accepted 0 (room_decides e g f 0 r) refl

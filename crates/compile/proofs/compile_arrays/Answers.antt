@@ -6,7 +6,7 @@ use Rattle.shop.specs.Shapes.{sheet_of}
 use Rattle.shop_arrays.specs.Arrays.{arrays_in, shop_from}
 use Rattle.shop_arrays.specs.Slots.{slots_long}
 use Rattle.model.specs.Refusals.{refuses}
-use Rattle.compile.specs.Checked.{refused_call, refused_born, refused_shop, refused_room, exact_slots, granted, compiled_accepted}
+use Rattle.compile.specs.Checked.{refused_call, refused_born, refused_shop, refused_room, exact_slots, granted_room, accepted_room}
 use Rattle.compile.proofs.compile_arrays.Goals as goal
 
 pub returns-in_err-check_call : goal.returns-in_err-check_call
@@ -37,35 +37,35 @@ returns-in_err-check_room c =
 
 pub compile_shop-after-requires-clause-room : goal.compile_shop-after-requires-clause-room
 compile_shop-after-requires-clause-room c =
-    let g = granted (sheet_of c.args.attached.now c.args.sheet) (born_of c.args.ws.now c.args.val.now c.args.cw.now c.args.bw.now c.args.counts c.args.births.now c.args.compiles)
+    let g = granted_room (sheet_of c.args.attached.now c.args.sheet) (born_of c.args.ws.now c.args.val.now c.args.cw.now c.args.bw.now c.args.counts c.args.births.now c.args.compiles)
     c.args.loader c.args.setup.0 (shop_from (arrays_in c.args.items.now c.args.limits.now c.args.codes.now c.args.lens.now)) (slots_long _)
     (sym c.in_ok-check_call.ensures) (sym c.birth_of.ensures ∙ c.if-birth_of-ne0.false) (sym (c.check_arrays.ensures c.args.limits.now) ∙ c.if-not-check_arrays.false) c.in_ok-check_room.ensures in
     g.room
 
 pub compile_shop-after-requires-clause-all_exact : goal.compile_shop-after-requires-clause-all_exact
 compile_shop-after-requires-clause-all_exact c =
-    let g = granted (sheet_of c.args.attached.now c.args.sheet) (born_of c.args.ws.now c.args.val.now c.args.cw.now c.args.bw.now c.args.counts c.args.births.now c.args.compiles)
+    let g = granted_room (sheet_of c.args.attached.now c.args.sheet) (born_of c.args.ws.now c.args.val.now c.args.cw.now c.args.bw.now c.args.counts c.args.births.now c.args.compiles)
     c.args.loader c.args.setup.0 (shop_from (arrays_in c.args.items.now c.args.limits.now c.args.codes.now c.args.lens.now)) (slots_long _)
     (sym c.in_ok-check_call.ensures) (sym c.birth_of.ensures ∙ c.if-birth_of-ne0.false) (sym (c.check_arrays.ensures c.args.limits.now) ∙ c.if-not-check_arrays.false) c.in_ok-check_room.ensures in
     g.exact
 
 pub overflow_cast-setup : goal.overflow_cast-setup
 overflow_cast-setup c =
-    let g = granted (sheet_of c.args.attached.now c.args.sheet) (born_of c.args.ws.now c.args.val.now c.args.cw.now c.args.bw.now c.args.counts c.args.births.now c.args.compiles)
+    let g = granted_room (sheet_of c.args.attached.now c.args.sheet) (born_of c.args.ws.now c.args.val.now c.args.cw.now c.args.bw.now c.args.counts c.args.births.now c.args.compiles)
     c.args.loader c.args.setup.0 (shop_from (arrays_in c.args.items.now c.args.limits.now c.args.codes.now c.args.lens.now)) (slots_long _)
     (sym c.in_ok-check_call.ensures) (sym c.birth_of.ensures ∙ c.if-birth_of-ne0.false) (sym (c.check_arrays.ensures c.args.limits.now) ∙ c.if-not-check_arrays.false) c.in_ok-check_room.ensures in
     omega (arith, g.inside, g.room.blocks)
 
 pub set_block-requires : goal.set_block-requires
 set_block-requires c =
-    let g = granted (sheet_of c.args.attached.now c.args.sheet) (born_of c.args.ws.now c.args.val.now c.args.cw.now c.args.bw.now c.args.counts c.args.births.now c.args.compiles)
+    let g = granted_room (sheet_of c.args.attached.now c.args.sheet) (born_of c.args.ws.now c.args.val.now c.args.cw.now c.args.bw.now c.args.counts c.args.births.now c.args.compiles)
     c.args.loader c.args.setup.0 (shop_from (arrays_in c.args.items.now c.args.limits.now c.args.codes.now c.args.lens.now)) (slots_long _)
     (sym c.in_ok-check_call.ensures) (sym c.birth_of.ensures ∙ c.if-birth_of-ne0.false) (sym (c.check_arrays.ensures c.args.limits.now) ∙ c.if-not-check_arrays.false) c.in_ok-check_room.ensures in
     omega (arith, g.inside, g.room.blocks)
 
 pub mark_births-requires : goal.mark_births-requires
 mark_births-requires c =
-    let g = granted (sheet_of c.args.attached.now c.args.sheet) (born_of c.args.ws.now c.args.val.now c.args.cw.now c.args.bw.now c.args.counts c.args.births.now c.args.compiles)
+    let g = granted_room (sheet_of c.args.attached.now c.args.sheet) (born_of c.args.ws.now c.args.val.now c.args.cw.now c.args.bw.now c.args.counts c.args.births.now c.args.compiles)
     c.args.loader c.args.setup.0 (shop_from (arrays_in c.args.items.now c.args.limits.now c.args.codes.now c.args.lens.now)) (slots_long _)
     (sym c.in_ok-check_call.ensures) (sym c.birth_of.ensures ∙ c.if-birth_of-ne0.false) (sym (c.check_arrays.ensures c.args.limits.now) ∙ c.if-not-check_arrays.false) c.in_ok-check_room.ensures in
     (omega (arith, c.compile_shop-after.ensures.counted), omega (arith, g.room.blocks, c.compile_shop-after.ensures.counted))
@@ -73,5 +73,5 @@ mark_births-requires c =
 pub returns : goal.returns
 returns c =
     rw (c.mark_births.ensures, c.one_compile-mark.ensures, c.set_block.ensures)
-    (compiled_accepted _ _ _ _ _ (slots_long _) (sym c.in_ok-check_call.ensures) (sym c.birth_of.ensures ∙ c.if-birth_of-ne0.false)
+    (accepted_room _ _ _ _ _ (slots_long _) (sym c.in_ok-check_call.ensures) (sym c.birth_of.ensures ∙ c.if-birth_of-ne0.false)
     (sym (c.check_arrays.ensures c.args.limits.now) ∙ c.if-not-check_arrays.false) c.in_ok-check_room.ensures _ c.compile_shop-after.ensures)
