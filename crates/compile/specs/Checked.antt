@@ -81,15 +81,18 @@ module _ (h : Model.Sheet) (k : Born) (o : Loader) (b : ℕ) (s : Shop) (twenty 
   RoomSays n = (sc : Script) → length sc.blocks ≡ m.count → sc.commands ≡ m.coded.count → sc.nodes ≡ m.coded.nodes.count → n ≡ room_refusal o sc fresh
 
   -- where all before it pass, 9 and 19 answer
-  pub room_decides : call_in h m b ≡ 0 → born_at k b ≡ 0 → all (slot_ok h) (slots_of s) ≡ true → (n : ℕ) → RoomSays n → n ≡ compile_refusal_in h k (call_of o b s)
-  room_decides e g f n r = r (script_of m) (blocks_counted m) (commands_kept_lem m) (nodes_kept m) ∙ sym (in_order ∙ rw (e, eq-eqb (born_at k b) 0 g, f) (last (room_refusal o (script_of m) fresh)))
+  pub room_decides : call_in h m b ≡ 0 → born_at k b ≡ 0 → all (slot_ok h) (slots_of s) ≡ true → (n : ℕ) → n ≡ room_refusal o (script_of m) fresh → n ≡ compile_refusal_in h k (call_of o b s)
+  room_decides e g f n r = r ∙ sym (in_order ∙ rw (e, eq-eqb (born_at k b) 0 g, f) (last (room_refusal o (script_of m) fresh)))
     where
       last : (n : ℕ) → first_of (n ∷ []) ≡ n
       last zero = refl
       last (suc n) = refl
 
+  pub room_said : (n : ℕ) → RoomSays n → n ≡ room_refusal o (script_of m) fresh
+  room_said n r = r (script_of m) (blocks_counted m) (commands_kept_lem m) (nodes_kept m)
+
   pub refused_room : call_in h m b ≡ 0 → born_at k b ≡ 0 → all (slot_ok h) (slots_of s) ≡ true → (n : ℕ) → RoomSays n → (n ≡ 0 → ⊥) → CompiledAs h k (call_of o b s) n k
-  refused_room e g f n r d = compiled_refused n (room_decides e g f n r) d
+  refused_room e g f n r d = compiled_refused n (room_decides e g f n (room_said n r)) d
 
   pub exact_slots : call_in h m b ≡ 0 → all (slot_ok h) (slots_of s) ≡ true → AllExact s
   exact_slots e f = shop_exact h (call_passed h m b e).sheet s f
@@ -120,7 +123,7 @@ module _ (h : Model.Sheet) (k : Born) (o : Loader) (b : ℕ) (s : Shop) (twenty 
 
   -- from what each check found
   pub granted_room : call_in h m b ≡ 0 → born_at k b ≡ 0 → all (slot_ok h) (slots_of s) ≡ true → RoomSays 0 → Granted
-  granted_room e g f r = granted (sym (room_decides e g f 0 r))
+  granted_room e g f r = granted (sym (room_decides e g f 0 (room_said 0 r)))
 
   -- t has the blocks, and the setup block is linked to the last of them
   linked : (t : Memory) → PutBlocks m fresh t → record { coded = t.coded; words = block_words t.words b 1 0 0 t.count 0; count = t.count } ≡ appended_in h m (call_of o b s)
@@ -159,4 +162,4 @@ module _ (h : Model.Sheet) (k : Born) (o : Loader) (b : ℕ) (s : Shop) (twenty 
         births = sets k.births m.count (replicate (t.count - m.count) (one_compile k.compiles));
         compiles = one_compile k.compiles;
       })
-  accepted_room e g f r = compiled_accepted 0 (room_decides e g f 0 r) refl
+  accepted_room e g f r = compiled_accepted 0 (room_decides e g f 0 (room_said 0 r)) refl

@@ -15,7 +15,7 @@ use Rattle.model.specs.Image.{Limits, read_expr, read_block_no, read_term, set_o
 use Rattle.model.specs.Memory.{Nodes, nodes_in, put_expr, coded_in, push_command, put_command}
 use Rattle.memory.specs.Pushed.{PushedCommand}
 use Rattle.image_read.specs.Told.{ToldNumber, read_at, ToldExpr, limits_of, ToldNo, ToldJump, ToldCommand, ToldSet}
-use Rattle.image_read.specs.ExprLaws.{done}
+use Rattle.image_read.specs.ExprLaws.{done, grown}
 use Rattle.model.specs.Refusals.{refusal_number}
 use Rattle.model.specs.declared.Refusal.{Refusal}
 use Rattle.model.specs.declared.Refusal.TheVariants.{NoSuchLink}
@@ -56,21 +56,24 @@ pub record Term (s : List ℕ) (w : List ℕ) (v : List ℤ) (p n : ℕ) (w₁ :
   pub after : nodes_in w₁ v₁ n₁ ≡ put_expr (nodes_in w v n) tree
   pub counted : n₁ ≡ n + size tree
   pub low : n₁ ≤ node_limit
+  pub some : n < n₁
 
 module _ (s : List ℕ) (w : List ℕ) (v : List ℤ) (p n : ℕ) (w₁ : List ℕ) (v₁ : List ℤ) where
   same : read_expr node_limit depth_limit n (drop p s) ≡ read_at s p n 0
   same = rw add-zero
 
-  pub is_term : (n₁ p₁ : ℕ) → ToldExpr s (nodes_in w v n) (read_at s p n 0) (Ok (n₁, p₁)) w₁ v₁ → n₁ + 0 ≤ node_limit → Term s w v p n w₁ v₁ n₁ p₁
-  is_term n₁ p₁ t low =
+  pub is_term : (n₁ p₁ : ℕ) → ToldExpr s (nodes_in w v n) (read_at s p n 0) (Ok (n₁, p₁)) w₁ v₁ → Term s w v p n w₁ v₁ n₁ p₁
+  is_term n₁ p₁ t =
       let d = done s w v p n 0 w₁ v₁ n₁ p₁ t in
+      let g = grown s w v p n 0 w₁ v₁ n₁ p₁ t in
       record {
         tree = d.tree;
         read = same ∙ d.read;
         place = d.place;
         after = d.after;
         counted = ap (λ (x : Nodes). x.count) d.after ∙ count_put (nodes_in w v n) d.tree;
-        low = omega arith;
+        low = omega (arith, g.room);
+        some = g.more;
       }
 
   pub no_term : (e : Refusal) → ToldExpr s (nodes_in w v n) (read_at s p n 0) (Err e) w₁ v₁ → read_expr node_limit depth_limit n (drop p s) ≡ refused (refusal_number e)

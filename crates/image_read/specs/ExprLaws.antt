@@ -12,7 +12,7 @@ use Rattle.model.specs.Expr.{two, one, imm16, imm32, other, size}
 use Rattle.model.specs.Image.{kind_of, code_of, code2, code1, read_kind, read_operands, read_expr}
 use Rattle.model.specs.Memory.{Nodes, nodes_in, push_node, put_expr}
 use Rattle.model.proofs.Laws.Reading.{number_low}
-use Rattle.model.proofs.Laws.ImageExpr.{code_kind}
+use Rattle.model.proofs.Laws.ImageExpr.{was_expr, code_kind}
 use Rattle.model.specs.declared.Op2.{Op2}
 use Rattle.model.specs.declared.Op1.{Op1}
 use Rattle.model.specs.declared.Kind.{Kind}
@@ -22,7 +22,7 @@ use Rattle.image_numbers.specs.Told.{Told}
 use Rattle.image_read.specs.Told.{ToldNumber, ToldImm, read_at, Head, ToldHead, ToldExpr, PutTerm}
 use Rattle.model.specs.declared.Refusal.{Refusal}
 use Rattle.model.specs.declared.Refusal.TheVariants.{BadImage, OverLimit, TooDeep}
-use Rattle.memory.specs.PutNodes.{count_put}
+use Rattle.memory.specs.PutNodes.{count_put, size_pos}
 
 -- ---- a number
 
@@ -47,10 +47,24 @@ module _ (s : List ℕ) (a : Answer ℕ) (ns : Nodes) (o : ℕ) (w : List ℕ) (
   unfolding ToldNumber ToldImm
   imm_bad e q = q
 
+-- ---- counts
+
+-- what an expression that was read leaves of the counts
+pub record Grown (n o m : ℕ) : Type 0 where
+  pub more : n < m
+  pub room : m + o ≤ node_limit
+
 module _ (s : List ℕ) (w : List ℕ) (vs : List ℤ) (p n o : ℕ) (w' : List ℕ) (vs' : List ℤ) where
   pub done : (m p' : ℕ) → ToldExpr s (nodes_in w vs n) (read_at s p n o) (Ok (m, p')) w' vs' → PutTerm s (nodes_in w vs n) (read_at s p n o) p' (nodes_in w' vs' m)
   unfolding ToldExpr
   done m p' t = t
+
+  pub grown : (m p' : ℕ) → ToldExpr s (nodes_in w vs n) (read_at s p n o) (Ok (m, p')) w' vs' → Grown n o m
+  grown m p' t =
+      let d = done m p' t in
+      let e : m ≡ n + size d.tree = ap (λ (x : Nodes). x.count) d.after ∙ count_put (nodes_in w vs n) d.tree in
+      let h = (was_expr node_limit (depth_limit - o) (n + o) (drop p s) d.tree (drop p' s) d.read).holds.room in
+      record { more = omega (arith, size_pos d.tree, e); room = omega (arith, e) }
 
 -- ---- the code is read first
 
@@ -92,9 +106,12 @@ module _ (s : List ℕ) (at n o : ℕ) where
         let z : depth_limit - o ≡ 0 = omega arith in
         rw (z, kind_read, lt-ltb (n + o) node_limit h)
 
-    pub head_done : c < 19 → n + o < node_limit → o < depth_limit → ToldHead s at n o (Ok (c, p))
+    pub head_low : c < 19
+    head_low = number_low 19 (drop at s) c (drop p s) read
+
+    pub head_done : n + o < node_limit → o < depth_limit → ToldHead s at n o (Ok (c, p))
     unfolding ToldHead
-    head_done l h g = record { read = read; place = place; low = l; room = h; level = g }
+    head_done h g = record { read = read; place = place; low = head_low; room = h; level = g }
 
   pub headed : (c p : ℕ) → ToldHead s at n o (Ok (c, p)) → Head s at n o c p
   unfolding ToldHead

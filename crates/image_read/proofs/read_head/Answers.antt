@@ -15,4 +15,4 @@ pub returns-then-depth-ge64-clause-told : goal.returns-then-depth-ge64-clause-to
 returns-then-depth-ge64-clause-told c = head_deep _ _ _ _ _ _ c.in_ok-c.ensures.told c.if-n-depth-ge-NODE_LIMIT.false c.if-depth-ge64.true
 
 pub returns-clause-told : goal.returns-clause-told
-returns-clause-told c = head_done _ _ _ _ _ _ c.in_ok-c.ensures.told c.in_ok-c.ensures.low c.if-n-depth-ge-NODE_LIMIT.false c.if-depth-ge64.false
+returns-clause-told c = head_done _ _ _ _ _ _ c.in_ok-c.ensures.told c.if-n-depth-ge-NODE_LIMIT.false c.if-depth-ge64.false

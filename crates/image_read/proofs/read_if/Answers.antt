@@ -11,7 +11,7 @@ returns-in_err-a c =
 pub returns-in_err-k : goal.returns-in_err-k
 returns-in_err-k c =
     let p = err_from_is_err_and c.from_residual-in_err-k.result c.from_residual-in_err-k.ensures.1 in
-    rw (p.1, p.2) (if_no_2 _ _ _ _ _ _ _ _ _ _ _ _ (is_term _ _ _ _ _ _ _ _ _ c.in_ok-a.ensures.told c.in_ok-a.ensures.grown.1) _ _ _ _ c.in_err-k.ensures)
+    rw (p.1, p.2) (if_no_2 _ _ _ _ _ _ _ _ _ _ _ _ (is_term _ _ _ _ _ _ _ _ _ c.in_ok-a.ensures.told) _ _ _ _ c.in_err-k.ensures)
 
 pub returns : goal.returns
-returns c = if_done _ _ _ _ _ _ _ _ _ _ _ _ (is_term _ _ _ _ _ _ _ _ _ c.in_ok-a.ensures.told c.in_ok-a.ensures.grown.1) _ _ _ _ c.in_ok-k.ensures c.push_command.ensures
+returns c = if_done _ _ _ _ _ _ _ _ _ _ _ _ (is_term _ _ _ _ _ _ _ _ _ c.in_ok-a.ensures.told) _ _ _ _ c.in_ok-k.ensures c.push_command.ensures
