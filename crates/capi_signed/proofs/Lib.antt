@@ -1,2 +1,2 @@
 -- What the proofs use.
-mod Mapped
+mod Told

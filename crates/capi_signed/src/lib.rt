@@ -47,8 +47,8 @@ const NOTHING: Finding = Finding {
     codes: [0; ENTRIES],
 };
 
-fn finding_by(f: signed_check::Finding) -> Finding
-    ensures { finding_as result ≡ finding_is f }
+fn finding_by(f: &signed_check::Finding) -> Finding
+    ensures { finding_as result ≡ finding_is f.now }
 {
     let codes = f.codes;
     Finding {
@@ -78,17 +78,17 @@ pub fn lk_check(
     ensures { checked_as result ≡ checked_of (check_call (sheet_of attached.now (sheet_by atcs timer5 timer10 timer15)) (slots_of (shop_from (arrays_in items.now limits.now codes.now lens.now)))) }
 {
     let sheet = sheet_by(atcs, timer5, timer10, timer15);
+    let mut out = Checked {
+        refusal: 0,
+        slots: [NOTHING; SLOTS],
+    };
     match check_shop(attached, sheet, items, limits, codes, lens) {
         Ok(told) => {
-            let slots = told.map(finding_by);
-            Checked {
-                refusal: 0,
-                slots: slots,
+            for i in 0..SLOTS {
+                out.slots[i] = finding_by(&told[i]);
             }
         }
-        Err(e) => Checked {
-            refusal: e.number(),
-            slots: [NOTHING; SLOTS],
-        },
+        Err(e) => out.refusal = e.number(),
     }
+    out
 }

@@ -1,11 +1,13 @@
 -- Arrays that hold the first elements of slices, and the four of a shop. Assumes nothing.
 use mathlib.Core.Path.{◌≡◌, refl, sym, ap, ◌∙◌}
-use mathlib.Core.List.{List, [], ◌∷◌}
-use Rattle.std.proofs.Common.{ext_get_or}
-use Prim.Native.Nat.{ℕ, zero, suc, ◌*◌, ◌≤◌, ◌<◌, min}
+use mathlib.Core.List.{List, [], ◌∷◌, ◌++◌}
+use Rattle.std.proofs.Common.{ext_get_or, get_or-take}
+use Prim.Native.Nat.{ℕ, zero, suc, ◌+◌, ◌-◌, ◌*◌, ◌≤◌, ◌<◌, min}
 use native.Mathlib.Decide.{dec_le}
 use native.Mathlib.Omega.{arith}
-use lib.ListN.{length, get_or, take}
+use lib.ListN.{length, get_or, take, drop, length-take, get_or-eq_default, get_or-append}
+use lib.Seq.{get_or-append_right}
+use Rattle.std.proofs.lemmas.List.{get_or-drop, length-drop, length-append}
 use lib.IntN.{ℤ, pos, negsuc}
 use lib.Seq.{take_all}
 use Rattle.model.specs.Limits.{entry_limit, slot_count}
@@ -22,6 +24,27 @@ filled_long z (suc n) (x ∷ xs) = ap suc (filled_long z n xs)
 -- an array that holds at each place what is given for it, or z
 pub all_put : {A : Type 0} (z : A) (xs ys : List A) → ((k : ℕ) → k < length ys → get_or ys k z ≡ get_or xs k z) → ys ≡ filled z (length ys) xs
 all_put z xs ys h = ext_get_or z ys (filled z (length ys) xs) (sym (filled_long z (length ys) xs)) (λ k l. h k l ∙ sym (get_d_filled z (length ys) k xs z l))
+
+-- the first of what is given over an array that is z at each place
+pub copied_put : {A : Type 0} (z : A) (n m : ℕ) (xs ws ys : List A) → ((k : ℕ) → k < length ws → get_or ws k z ≡ z) → m ≡ min (min n (length xs)) (length ws) → ys ≡ take m xs
+    → ys ++ drop m ws ≡ filled z (length ws) (take n xs)
+copied_put z n m xs ws ys none is copied = all_put z (take n xs) (ys ++ drop m ws) each ∙ ap (λ c. filled z c (take n xs)) whole
+  where
+    given : length ys ≡ m
+    given = ap length copied ∙ omega (arith, length-take m xs)
+
+    whole : length (ys ++ drop m ws) ≡ length ws
+    whole = omega (arith, length-append ys (drop m ws), length-drop m ws, given)
+
+    each : (k : ℕ) → k < length (ys ++ drop m ws) → get_or (ys ++ drop m ws) k z ≡ get_or (take n xs) k z
+    each k h = by (dec_le m k)
+      where
+        by : Dec (m ≤ k) → get_or (ys ++ drop m ws) k z ≡ get_or (take n xs) k z
+        by (yes g) =
+            get_or-append_right ys (drop m ws) k z (omega (arith, given)) ∙ get_or-drop m ws (k - length ys) z ∙ none (m + (k - length ys)) (omega (arith, given, whole))
+            ∙ sym (get_or-eq_default (take n xs) z {n = k} (omega (arith, length-take n xs, whole)))
+        by (no g) =
+            get_or-append ys (drop m ws) z k (omega (arith, given)) ∙ ap (λ l. get_or l k z) copied ∙ get_or-take m xs k z (omega arith) ∙ sym (get_or-take n xs k z (omega arith))
 
 -- ---- the four arrays
 

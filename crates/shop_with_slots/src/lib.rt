@@ -11,10 +11,11 @@ use shop::{Codes, ENTRIES, SLOTS};
 fn put<T: Copy>(from: &[T], n: usize, none: T, to: &mut [T])
     ensures { to.new ≡ filled none (length to.old) (take n from.now) }
 {
-    let given = &from[..n.min(from.len())];
-    for (i, place) in to.iter_mut().enumerate() {
-        *place = given.get(i).copied().unwrap_or(none);
+    for i in 0..to.len() {
+        to[i] = none;
     }
+    let given = n.min(from.len()).min(to.len());
+    to[..given].copy_from_slice(&from[..given]);
 }
 
 // As many slots are given as there are items; what another slice lacks of them is 0. Slots past the twentieth are dropped unchecked,
