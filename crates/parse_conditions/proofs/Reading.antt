@@ -24,7 +24,7 @@ use Rattle.parse_keys.specs.Growth.{grown_same, grown_on}
 use Rattle.parse_keys.specs.declared.Known.{Known}
 use Rattle.parse_keys.specs.declared.Word.{Word}
 use Rattle.parse_conditions.specs.Gathered.{joins, toggles, single, alone, gathered}
-use Rattle.parse_conditions.specs.Listing.{Listing, keys_of, used_of, Place, Finds, Added, NoRoom, ReadCondition}
+use Rattle.parse_conditions.specs.Listing.{Listing, keys_of, used_of, Place, Finds, Added, NoRoom, ReadCondition, Under}
 use Rattle.parse_conditions.specs.ListingLaws.{listing_length, listing_append, listing_stays}
 use Rattle.parse_conditions.proofs.Nodes.{gathered_out, gathered_join, gathered_not, gathered_leaf}
 
@@ -37,6 +37,19 @@ carried : (ws : List ℕ) (vs : List ℤ) (k : Known) (b i b' i' : ℕ) (g g' : 
     → ReadCondition ws vs k b i g r ks ls ks' kd' cs' ls' s → ReadCondition ws vs k b' i' g' r ks ls ks' kd' cs' ls' s
 carried ws vs k b i b' i' g g' r ks ls ks' kd' cs' ls' (Some s) f a = record { place = a.place; grown = a.grown; long = a.long; up = a.up; few = a.few; same = a.same; entries = λ h n q. rw (f h n) (a.entries h n q) }
 carried ws vs k b i b' i' g g' r ks ls ks' kd' cs' ls' None f x = λ h n q. rw (f h n) (x h n q)
+
+-- under the Nots of a node
+module _ (ws : List ℕ) (vs : List ℤ) (b i : ℕ) (neg : Bool) where
+  pub under_self : Under ws vs b i neg b i neg
+  under_self = record { low = omega arith; found = λ h n. refl }
+
+  module _ (b' i' : ℕ) (neg' : Bool) (u : Under ws vs b i neg b' i' neg') where
+    pub under_not : i' < b' → (d : Kind) → d ≡ kind_of (code_at (nodes_in ws vs 0) i') → toggles d ≡ true → (l : ℕ) → l ≡ get_or ws (3 * i' + 1) 0 → Under ws vs b i neg i' l (not neg')
+    under_not lt d e j l el = record { low = omega (arith, u.low); found = λ h n. u.found h n ∙ rw el (gathered_not h neg' (nodes_in ws vs n) b' i' lt d e j) }
+
+    pub through : (k : Known) (r : ℕ) (ks ls ks' kd' cs' ls' : List ℕ) (s : Code.Option ℕ)
+        → ReadCondition ws vs k b' i' (all neg') r ks ls ks' kd' cs' ls' s → ReadCondition ws vs k b i (λ h e. gathered h e neg) r ks ls ks' kd' cs' ls' s
+    through k r ks ls ks' kd' cs' ls' s x = carried ws vs k b' i' b i (all neg') (all neg) r ks ls ks' kd' cs' ls' s (λ h n. u.found h n) x
 
 nothing_added : (ws : List ℕ) (vs : List ℤ) (k : Known) (b i : ℕ) (g : Finds) (r : ℕ) (ks ls ks' kd' cs' : List ℕ) → Place ks' kd' cs' ls r → Grown ks (keys_of r) ks' (keys_of r)
     → OfNode ws vs k b i (λ h e. g h e ≡ []) → Added ws vs k b i g r ks ls ks' kd' cs' ls r

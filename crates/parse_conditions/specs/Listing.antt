@@ -1,9 +1,13 @@
 -- Lists of entries in one array, one list after the other: what reading a condition adds (01, Parser). Assumes nothing: these are definitions.
-use Rattle.std.specs.Prelude.{Option, Some, None, ◌≡◌, List, [], ◌∷◌, ℕ, suc, ◌+◌, ◌/◌, ◌%◌, ◌≤◌, ◌<◌, get_or, length, ℤ}
+use Rattle.std.specs.Prelude.{Option, Some, None, ◌≡◌, Bool, not, List, [], ◌∷◌, ℕ, suc, ◌+◌, ◌/◌, ◌%◌, ◌≤◌, ◌<◌, get_or, length, ℤ}
 use Rattle.model.specs.Limits.{wide16}
 use Rattle.model.specs.Requirement.{Requirement}
 use Rattle.model.specs.Sheet.{Sheet}
 use Rattle.model.specs.Expr.{Expr}
+use Rattle.model.specs.Image.{kind_of}
+use Rattle.model.specs.Memory.{nodes_in, code_at}
+use Rattle.expr.specs.Tree.{tree_below}
+use Rattle.parse_conditions.specs.Gathered.{gathered, toggles}
 use Rattle.parse_keys.specs.Entries.{Stand}
 use Rattle.parse_keys.specs.Tables.{Tables, Grown, OfNode}
 use Rattle.parse_keys.specs.declared.Known.{Known}
@@ -39,6 +43,15 @@ pub record Added (ws : List ℕ) (vs : List ℤ) (k : Known) (b i : ℕ) (g : Fi
   pub few : keys_of s + used_of r ≤ keys_of r + used_of s
   pub same : (j : ℕ) → j < used_of r → get_or ls' j 0 ≡ get_or ls j 0
   pub entries : OfNode ws vs k b i (λ h e. Listing ks' (keys_of s) ls' (used_of r) (g h e) (used_of s))
+
+-- what is found in node i, below b, is what is found in node i', below b', with that sign
+pub record Under (ws : List ℕ) (vs : List ℤ) (b i : ℕ) (neg : Bool) (b' i' : ℕ) (neg' : Bool) : Type 0 where
+  pub low : b' ≤ b
+  pub found : (h : Sheet) (n : ℕ) → gathered h (tree_below (nodes_in ws vs n) b i) neg ≡ gathered h (tree_below (nodes_in ws vs n) b' i') neg'
+
+-- node i is no Not
+abbrev pub bare : List ℕ → ℕ → Bool
+bare ws i = not (toggles (kind_of (code_at (nodes_in ws [] 0) i)))
 
 -- there is no such room: the list has a place for each entry, and the table one for a key of each and for key 0
 abbrev pub NoRoom : List ℕ → List ℤ → Known → ℕ → ℕ → Finds → ℕ → List ℕ → List ℕ → Type 0

@@ -1,10 +1,10 @@
 // The requirements of a condition, read when a block with an If is reached: a list of entries for each If, one after the other.
 #![tactic(auto)]
 
-ghost use Rattle.std.specs.Prelude.{◌≡◌, ◌≤◌, ◌<◌};
+ghost use Rattle.std.specs.Prelude.{◌≡◌, true, List, ℤ, ◌≤◌, ◌<◌};
 ghost use Rattle.model.specs.Limits.{node_limit};
 ghost use Rattle.parse_conditions.specs.Gathered.{joins, toggles, alone, gathered};
-ghost use Rattle.parse_conditions.specs.Listing.{Place, ReadCondition};
+ghost use Rattle.parse_conditions.specs.Listing.{Place, ReadCondition, Under, bare};
 
 use memory::{NodeWords, Values, kind_of};
 use model::{Kind, Op1, WIDE16};
@@ -61,6 +61,32 @@ fn read_leaf(
     Some(u32::from(w.count) * PLACES + (at as u32) + 1)
 }
 
+// Node i as an operand of node b, taken with a sign.
+#[derive(Clone, Copy)]
+struct Operand {
+    b: usize,
+    i: usize,
+    neg: bool,
+}
+
+// What stands under the Nots of node i, below b, with the sign that they leave it. A loop: a chain of them takes no calls.
+fn under_nots(ws: &NodeWords, b: usize, i: usize, neg: bool) -> Operand
+    requires { b ≤ node_limit }
+    ensures low { result.b ≤ b }
+    ensures same { (vs : List ℤ) → Under ws.now vs b i neg result.b result.i result.neg }
+    ensures stripped { result.i < result.b → bare ws.now result.i ≡ true }
+{
+    let mut o = Operand { b, i, neg };
+    while o.i < o.b && is_not(kind_of(ws[3 * o.i])) {
+        o = Operand {
+            b: o.i,
+            i: usize::from(ws[3 * o.i + 1]),
+            neg: !o.neg,
+        };
+    }
+    o
+}
+
 // The entries of node i, below b, joined to the list: And and Or both join, Not toggles. None where there is no room.
 pub fn read_condition(
     ws: &NodeWords,
@@ -78,19 +104,21 @@ pub fn read_condition(
     requires { (b ≤ node_limit) × Place keys.old kids.old companions.old list.old r }
     ensures { ReadCondition ws.now val.now known b i (λ h e. gathered h e neg) r keys.old list.old keys.new kids.new companions.new list.new result }
 {
-    if b <= i {
+    let o = under_nots(ws, b, i, neg);
+    if o.b <= o.i {
         return Some(r);
     }
-    let k = kind_of(ws[3 * i]);
-    if is_join(k) {
-        let l = usize::from(ws[3 * i + 1]);
-        let mid = read_condition(ws, val, keys, kids, companions, list, known, i, l, neg, r)?;
-        let q = usize::from(ws[3 * i + 2]);
-        return read_condition(ws, val, keys, kids, companions, list, known, i, q, neg, mid);
+    if is_join(kind_of(ws[3 * o.i])) {
+        let l = usize::from(ws[3 * o.i + 1]);
+        let mid = read_condition(
+            ws, val, keys, kids, companions, list, known, o.i, l, o.neg, r,
+        )?;
+        let q = usize::from(ws[3 * o.i + 2]);
+        return read_condition(
+            ws, val, keys, kids, companions, list, known, o.i, q, o.neg, mid,
+        );
     }
-    if is_not(k) {
-        let l = usize::from(ws[3 * i + 1]);
-        return read_condition(ws, val, keys, kids, companions, list, known, i, l, !neg, r);
-    }
-    read_leaf(ws, val, keys, kids, companions, list, known, b, i, neg, r)
+    read_leaf(
+        ws, val, keys, kids, companions, list, known, o.b, o.i, o.neg, r,
+    )
 }
