@@ -163,7 +163,7 @@ fn show(
 
 // ---- the calls on a shop as a value
 
-// V: as E, on the shop that the arrays stand for; they become those of the shop that is answered. Refused, they stay.
+// V: as E, on the shop that the arrays stand for; they become those of the shop that is answered. Refused, it is the shop that was lent.
 fn edit_value(
     a: &Words,
     rights: &[u8; RIGHTS],
@@ -180,9 +180,7 @@ fn edit_value(
     let shop = shop_from(items, limits, codes, lens);
     let field = field_of(a[4]);
     let r = rights::edit(&attached, sheet, rights, shop, a[2], a[3], field, content);
-    if let Ok(after) = r {
-        arrays_of(after, items, limits, codes, lens);
-    }
+    arrays_of(r.unwrap_or(shop), items, limits, codes, lens);
     let refusal = refusal_in(r.map(|_| ()));
     slots(refusal, items, limits, codes, lens, t);
 }
