@@ -1,13 +1,14 @@
 -- Arrays that hold the first elements of slices, and the four of a shop. Assumes nothing.
 use mathlib.Core.Path.{◌≡◌, refl, sym, ap, ◌∙◌}
-use mathlib.Core.List.{List, [], ◌∷◌, ◌++◌}
+use mathlib.Core.List.{List, [], ◌∷◌}
 use Rattle.std.proofs.Common.{ext_get_or, get_or-take}
-use Prim.Native.Nat.{ℕ, zero, suc, ◌+◌, ◌-◌, ◌*◌, ◌≤◌, ◌<◌, min}
+use Prim.Native.Nat.{ℕ, zero, suc, ◌+◌, ◌*◌, ◌≤◌, ◌<◌, min}
 use native.Mathlib.Decide.{dec_le}
 use native.Mathlib.Omega.{arith}
-use lib.ListN.{length, get_or, take, drop, length-take, get_or-eq_default, get_or-append}
-use lib.Seq.{get_or-append_right}
-use Rattle.std.proofs.lemmas.List.{get_or-drop, length-drop, length-append}
+use lib.ListN.{length, get_or, set, take, length-take, get_or-eq_default}
+use Rattle.std.proofs.lemmas.List.{length-set, get_or-set_same, get_or-set_other}
+use Rattle.std.proofs.Math.Decide.{ℕ_discrete}
+use Rattle.model.proofs.Laws.Places.{any_default}
 use lib.IntN.{ℤ, pos, negsuc}
 use lib.Seq.{take_all}
 use Rattle.model.specs.Limits.{entry_limit, slot_count}
@@ -25,26 +26,34 @@ filled_long z (suc n) (x ∷ xs) = ap suc (filled_long z n xs)
 pub all_put : {A : Type 0} (z : A) (xs ys : List A) → ((k : ℕ) → k < length ys → get_or ys k z ≡ get_or xs k z) → ys ≡ filled z (length ys) xs
 all_put z xs ys h = ext_get_or z ys (filled z (length ys) xs) (sym (filled_long z (length ys) xs)) (λ k l. h k l ∙ sym (get_d_filled z (length ys) k xs z l))
 
--- the first of what is given over an array that is z at each place
-pub copied_put : {A : Type 0} (z : A) (n m : ℕ) (xs ws ys : List A) → ((k : ℕ) → k < length ws → get_or ws k z ≡ z) → m ≡ min (min n (length xs)) (length ws) → ys ≡ take m xs
-    → ys ++ drop m ws ≡ filled z (length ws) (take n xs)
-copied_put z n m xs ws ys none is copied = all_put z (take n xs) (ys ++ drop m ws) each ∙ ap (λ c. filled z c (take n xs)) whole
-  where
-    given : length ys ≡ m
-    given = ap length copied ∙ omega (arith, length-take m xs)
+-- the first i of xs lie over an array that was z at each place
+module _ {A : Type 0} (z : A) (xs : List A) where
+  abbrev pub Laid : ℕ → List A → Type 0
+  Laid i ys = (k : ℕ) → k < length ys → get_or ys k z ≡ get_or (take i xs) k z
 
-    whole : length (ys ++ drop m ws) ≡ length ws
-    whole = omega (arith, length-append ys (drop m ws), length-drop m ws, given)
+  pub laid_one : (i : ℕ) (ys : List A) (y d : A) → y ≡ get_or xs i d → i < length xs → i < length ys → Laid i ys → Laid (i + 1) (set ys i y)
+  laid_one i ys y d e l m h k n = by (ℕ_discrete k i)
+    where
+      w : k < length ys
+      w = omega (arith, length-set ys i y)
 
-    each : (k : ℕ) → k < length (ys ++ drop m ws) → get_or (ys ++ drop m ws) k z ≡ get_or (take n xs) k z
-    each k h = by (dec_le m k)
-      where
-        by : Dec (m ≤ k) → get_or (ys ++ drop m ws) k z ≡ get_or (take n xs) k z
-        by (yes g) =
-            get_or-append_right ys (drop m ws) k z (omega (arith, given)) ∙ get_or-drop m ws (k - length ys) z ∙ none (m + (k - length ys)) (omega (arith, given, whole))
-            ∙ sym (get_or-eq_default (take n xs) z {n = k} (omega (arith, length-take n xs, whole)))
-        by (no g) =
-            get_or-append ys (drop m ws) z k (omega (arith, given)) ∙ ap (λ l. get_or l k z) copied ∙ get_or-take m xs k z (omega arith) ∙ sym (get_or-take n xs k z (omega arith))
+      by : Dec (k ≡ i) → get_or (set ys i y) k z ≡ get_or (take (i + 1) xs) k z
+      by (yes q) = rw q (get_or-set_same ys i y z m ∙ e ∙ any_default xs i d z l ∙ sym (get_or-take (i + 1) xs i z (omega arith)))
+      by (no q) = get_or-set_other ys i k y z q ∙ h k w ∙ cut (dec_le i k)
+        where
+          cut : Dec (i ≤ k) → get_or (take i xs) k z ≡ get_or (take (i + 1) xs) k z
+          cut (yes g) = get_or-eq_default (take i xs) z {n = k} (omega (arith, length-take i xs)) ∙ sym (get_or-eq_default (take (i + 1) xs) z {n = k} (omega (arith, length-take (i + 1) xs, q)))
+          cut (no g) = get_or-take i xs k z (omega arith) ∙ sym (get_or-take (i + 1) xs k z (omega arith))
+
+  pub laid_all : (n m : ℕ) (ys : List A) → m ≡ min (min n (length xs)) (length ys) → Laid m ys → ys ≡ filled z (length ys) (take n xs)
+  laid_all n m ys e h = all_put z (take n xs) ys each
+    where
+      each : (k : ℕ) → k < length ys → get_or ys k z ≡ get_or (take n xs) k z
+      each k l = h k l ∙ by (dec_le m k)
+        where
+          by : Dec (m ≤ k) → get_or (take m xs) k z ≡ get_or (take n xs) k z
+          by (yes g) = get_or-eq_default (take m xs) z {n = k} (omega (arith, length-take m xs)) ∙ sym (get_or-eq_default (take n xs) z {n = k} (omega (arith, length-take n xs)))
+          by (no g) = get_or-take m xs k z (omega arith) ∙ sym (get_or-take n xs k z (omega arith))
 
 -- ---- the four arrays
 
