@@ -1,6 +1,6 @@
 -- What lk_check answers, in the fields of the struct that C gets: the theorems of Answered and Signed over that struct. Assumes nothing.
 use Rattle.std.specs.Prelude.{◌≡◌, map, ◌≢◌, ℕ, ◌+◌, ◌≤◌, ◌<◌, ℤ, pos, negsuc, get_or}
-use Rattle.std.proofs.Common.{sym, ◌∙◌}
+use Rattle.std.proofs.Common.{sym, ◌∙◌, arith}
 use Rattle.std.proofs.Math.Path.{ap}
 use Rattle.std.proofs.Math.Option.{some}
 use mathlib.Core.List.{List}
@@ -26,8 +26,10 @@ use Rattle.signed_check.specs.Answer.{checked_of, no_finding}
 use Rattle.capi_signed.specs.declared.Checked.{Checked}
 use Rattle.capi_signed.specs.declared.Finding.{Finding}
 use Rattle.capi_signed.specs.Answers.{checked_as, finding_as}
-use Rattle.signed.specs.Answered.{Answered, answered, saved_by}
-use Rattle.signed.specs.Signed.{runs_told, apart_runs}
+use Rattle.signed.specs.Answered.{Answered, answered, both_passed, saved_by}
+use Rattle.signed_model.proofs.Shops.{preview_same}
+use Rattle.signed_check.specs.Shops.{shop_long}
+use Rattle.signed.specs.Signed.{inside_all, rule_all, apart_runs}
 
 -- what stands at a place past the twenty slots
 abbrev pub nothing : Finding
@@ -62,7 +64,12 @@ module _ (h : Sheet) (k : Born) (xs : List Made) (d : Delivered h k xs) (b b' : 
       → (n : ℕ) (t : Arrays) → ParsedInto (parse_in h (after_all made k xs).memory b') n t
       → (r : Ran) (v : List ℤ) → ran_as r v ≡ run_in h (after_all made k xs).memory b' s budget
       → (q : Previewed) → previewed_as q ≡ previewed_of (preview_call h (shop_of t) s) → (r.refusal ≡ 0) × AgreesCall (previewed_as q) r.refusal v
-  check_runs f = runs_told h k xs d b b' a now last (checked_as c) p acc budget enough (λ i l. ap (λ (x : Told.Finding). x.verdict) (told_is c i) ∙ f i l)
+  check_runs f s fits n t pe r v re q qe =
+      let g : (i : ℕ) → i < slot_count → (get_or (checked_as c).slots i no_finding).verdict ≡ 0 = λ i l. ap (λ (x : Told.Finding). x.verdict) (told_is c i) ∙ f i l in
+      let ins = inside_all h a (checked_as c) p acc (λ i l e. let z = g i l in omega arith) in
+      let read = (d.parses b b' (shop_of a) now last n t pe).1 in
+      let same : preview_call h (shop_of t) s ≡ preview_call h (shop_of a) s = ap (λ zs. preview_call h zs s) read ∙ preview_same h (shop_of a) (shop_long a) (both_passed h a (checked_as c) p acc).1 ins (rule_all h a (checked_as c) p acc g) s in
+      ((d.runs b b' (shop_of a) now last ins s fits budget r v re).answered enough, d.previews b b' (shop_of a) now last s fits budget enough r v q re (qe ∙ ap previewed_of same))
 
   -- no flag outside told, and slot i not told as faithful: under the save told the run hides it, and the preview of the reading lists its item
   pub check_apart : ((i : ℕ) → i < slot_count → (told_at c i).verdict ≢ 3) → (i : ℕ) → i < slot_count → (told_at c i).verdict ≢ 0

@@ -54,7 +54,7 @@ module _ (h : Sheet) (a : Arrays) (c : Checked) (p : c ≡ checked_of (check_cal
   told i = (get_or c.slots i no_finding).verdict
 
   -- 3 nowhere: no slot with an item has a flag outside
-  inside_all : ((i : ℕ) → i < slot_count → told i ≢ 3) → shop_inside (shop_of a) ≡ true
+  pub inside_all : ((i : ℕ) → i < slot_count → told i ≢ 3) → shop_inside (shop_of a) ≡ true
   inside_all f = all_at slot_inside (shop_of a) empty_slot (λ i l. let m : i < slot_count = omega (arith, shop_long a) in ap slot_inside (slot_is a i empty_slot m) ∙ by i m (slot_inside (slot_of (slot_at a i))) refl)
     where
       by : (i : ℕ) → i < slot_count → (b : Bool) → slot_inside (slot_of (slot_at a i)) ≡ b → b ≡ true
@@ -66,7 +66,7 @@ module _ (h : Sheet) (a : Arrays) (c : Checked) (p : c ≡ checked_of (check_cal
   told_is i l = ap (λ (x : Finding). x.verdict) (sym (finding_at h a c p acc i l))
 
   -- 0 everywhere
-  rule_all : ((i : ℕ) → i < slot_count → told i ≡ 0) → all (is_faithful h) (shop_of a) ≡ true
+  pub rule_all : ((i : ℕ) → i < slot_count → told i ≡ 0) → all (is_faithful h) (shop_of a) ≡ true
   rule_all f = all_at (is_faithful h) (shop_of a) empty_slot
       (λ i l. let m : i < slot_count = omega (arith, shop_long a) in ap (is_faithful h) (slot_is a i empty_slot m) ∙ (told_rule h (slot_of (slot_at a i)) (is_faithful_lem (verdict h (slot_of (slot_at a i))) (told_is i m ∙ f i m))).1)
 
@@ -85,21 +85,15 @@ module _ (h : Sheet) (a : Arrays) (c : Checked) (p : c ≡ checked_of (check_cal
 module _ (h : Sheet) (k : Born) (xs : List Made) (d : Delivered h k xs) (b b' : ℕ) (a : Arrays) (now : now_at made k xs b ≡ some b') (last : last_at made k xs b ≡ some (shop_of a))
     (c : Checked) (p : c ≡ checked_of (check_call h (shop_of a))) (acc : c.refusal ≡ 0) (budget : ℕ) (enough : run_blocks ≤ budget) where
   -- every slot faithful: under any save that fits the run is answered 0 and leaves what the preview of the reading answers
-  pub runs_told : ((i : ℕ) → i < slot_count → (get_or c.slots i no_finding).verdict ≡ 0) → (s : Save) → save_refusal h s ≡ 0
-      → (n : ℕ) (t : Arrays) → ParsedInto (parse_in h (after_all made k xs).memory b') n t
-      → (r : Ran) (v : List ℤ) → ran_as r v ≡ run_in h (after_all made k xs).memory b' s budget
-      → (q : Previewed) → previewed_as q ≡ previewed_of (preview_call h (shop_of t) s) → (r.refusal ≡ 0) × AgreesCall (previewed_as q) r.refusal v
-  runs_told f s fits n t pe r v re q qe =
-      let ins = inside_all h a c p acc (λ i l e. let z = f i l in omega arith) in
-      let read = (d.parses b b' (shop_of a) now last n t pe).1 in
-      let same : preview_call h (shop_of t) s ≡ preview_call h (shop_of a) s = ap (λ zs. preview_call h zs s) read ∙ preview_same h (shop_of a) (shop_long a) (both_passed h a c p acc).1 ins (rule_all h a c p acc f) s in
-      ((d.runs b b' (shop_of a) now last ins s fits budget r v re).answered enough, d.previews b b' (shop_of a) now last s fits budget enough r v q re (qe ∙ ap previewed_of same))
-
   pub signed_runs : ((i : ℕ) → i < slot_count → (get_or c.slots i no_finding).verdict ≡ 0) → (s : Save) → save_refusal h s ≡ 0
       → (n : ℕ) (t : Arrays) → ParsedInto (parse_in h (after_all made k xs).memory b') n t
       → (r : Ran) (v : List ℤ) → ran_as r v ≡ run_in h (after_all made k xs).memory b' s budget
       → (q : Previewed) → previewed_as q ≡ previewed_of (preview_call h (shop_of t) s) → (r.refusal ≡ 0) × AgreesCall (previewed_as q) r.refusal v
-  signed_runs = runs_told
+  signed_runs f s fits n t pe r v re q qe =
+      let ins = inside_all h a c p acc (λ i l e. let z = f i l in omega arith) in
+      let read = (d.parses b b' (shop_of a) now last n t pe).1 in
+      let same : preview_call h (shop_of t) s ≡ preview_call h (shop_of a) s = ap (λ zs. preview_call h zs s) read ∙ preview_same h (shop_of a) (shop_long a) (both_passed h a c p acc).1 ins (rule_all h a c p acc f) s in
+      ((d.runs b b' (shop_of a) now last ins s fits budget r v re).answered enough, d.previews b b' (shop_of a) now last s fits budget enough r v q re (qe ∙ ap previewed_of same))
 
   -- no flag outside, and slot i not faithful: under the save told the run hides it, and the preview of the reading lists its item
   pub apart_runs : ((i : ℕ) → i < slot_count → (get_or c.slots i no_finding).verdict ≢ 3) → (i : ℕ) → i < slot_count → (get_or c.slots i no_finding).verdict ≢ 0
