@@ -16,29 +16,30 @@ use memory::{Counts, NodeWords, Values, kind_of};
 use model::{Kind, Refusal, WIDE, WIDE16};
 
 // The number of an immediate, which has to be below the limit.
-fn judge_imm(z: i32, limit: u64, n: u16, at: usize) -> Result<(u16, usize), Refusal>
+fn judge_imm(z: i32, limit: u64, n: u16, at: u32) -> Result<(u16, u32), Refusal>
     requires { at ≤ 1000000 }
     ensures { result ≡ imm_judged (zig z) limit n at }
 {
     let v = folded(z);
     if v < limit {
-        Ok((n, at + word_length(v)))
+        Ok((n, at + word_length(v) as u32))
     } else {
         Err(Refusal::BadImage)
     }
 }
 
 // Node i, which has to be below b. Each node visited raises the count, so that the walk ends at the limit however nodes are shared.
+// The place has 32 bits: each node's answer goes through memory, and is half as long so.
 fn judge_expr(
     ws: &NodeWords,
     val: &Values,
     b: u16,
     i: u16,
     n: u16,
-    at: usize,
+    at: u32,
     limit: u16,
     depth: u16,
-) -> Result<(u16, usize), Refusal>
+) -> Result<(u16, u32), Refusal>
     requires { Walking b limit depth n at }
     ensures { Told (read_expr limit (64 - depth) n) size (node_image (nodes_in ws.now val.now limit) b i) limit 0 n at result }
 {
@@ -81,5 +82,6 @@ pub fn judge_term(
     requires { ReadyBy counts n at 200000 }
     ensures { Told (read_term (limits_by counts) n) size (root_image (nodes_of ws.now val.now counts) i) counts.nodes 0 n at result }
 {
-    judge_expr(ws, val, counts.nodes, i, n, at, counts.nodes, 0)
+    let (m, p) = judge_expr(ws, val, counts.nodes, i, n, at as u32, counts.nodes, 0)?;
+    Ok((m, p as usize))
 }

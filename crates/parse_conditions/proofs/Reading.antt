@@ -40,9 +40,6 @@ carried ws vs k b i b' i' g g' r ks ls ks' kd' cs' ls' None f x = λ h n q. rw (
 
 -- under the Nots of a node
 module _ (ws : List ℕ) (vs : List ℤ) (b i : ℕ) (neg : Bool) where
-  pub under_self : Under ws vs b i neg b i neg
-  under_self = record { low = omega arith; found = λ h n. refl }
-
   module _ (b' i' : ℕ) (neg' : Bool) (u : Under ws vs b i neg b' i' neg') where
     pub under_not : i' < b' → (d : Kind) → d ≡ kind_of (code_at (nodes_in ws vs 0) i') → toggles d ≡ true → (l : ℕ) → l ≡ get_or ws (3 * i' + 1) 0 → Under ws vs b i neg i' l (not neg')
     under_not lt d e j l el = record { low = omega (arith, u.low); found = λ h n. u.found h n ∙ rw el (gathered_not h neg' (nodes_in ws vs n) b' i' lt d e j) }
@@ -97,11 +94,6 @@ module _ (ws : List ℕ) (vs : List ℤ) (k : Known) (b i : ℕ) (neg : Bool) (r
             let c = counted h n in
             let m = listing_length ks1 (keys_of mid) ls1 (used_of r) (gathered h (tree_below (nodes_in ws vs n) i l) neg) (used_of mid) (first.entries h n t) in
             y h n t (omega (arith, first.long)) (omega (arith, first.few, first.grown.long))
-
-    pub read_not : toggles d ≡ true → (l : ℕ) (ks' kd' cs' ls' : List ℕ) (s : Code.Option ℕ) → l ≡ get_or ws (3 * i + 1) 0
-        → ReadCondition ws vs k i l (all (not neg)) r ks ls ks' kd' cs' ls' s → ReadCondition ws vs k b i (λ h e. gathered h e neg) r ks ls ks' kd' cs' ls' s
-    read_not j l ks' kd' cs' ls' s el x =
-        carried ws vs k i l b i (all (not neg)) (all neg) r ks ls ks' kd' cs' ls' s (λ h n. rw el (gathered_not h neg (nodes_in ws vs n) b i lt d e j)) x
 
     pub read_single : joins d ≡ false → toggles d ≡ false → (ks' kd' cs' ls' : List ℕ) (s : Code.Option ℕ)
         → ReadCondition ws vs k b i (λ h e. alone h e neg) r ks ls ks' kd' cs' ls' s → ReadCondition ws vs k b i (λ h e. gathered h e neg) r ks ls ks' kd' cs' ls' s

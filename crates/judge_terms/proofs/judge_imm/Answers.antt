@@ -17,3 +17,6 @@ returns-then-v-limit c = imm_fine _ _ _ _ _ _ (rw (to_z-of_z c.ranges.z) at c.fo
 
 pub returns-else-v-limit : goal.returns-else-v-limit
 returns-else-v-limit c = imm_no _ _ _ _ _ (rw (to_z-of_z c.ranges.z) at c.folded-v.ensures) c.if-v-limit.false
+
+pub overflow_cast-result : goal.overflow_cast-result
+overflow_cast-result c = record { fits = omega (arith, word_short c.folded-v.result) }
