@@ -7,7 +7,7 @@ ghost use Rattle.shop_with_slots.specs.Twenty.{filled, twenty};
 
 use shop::{Codes, ENTRIES, SLOTS};
 
-// The first n of from, as many as there are; what is missing is none. Two plain loops: a test at each place took two to seven times as long.
+// The first n of from, as many as there are; what is missing is none. Two plain loops: a test at each place took up to seven times as long.
 fn put<T: Copy>(from: &[T], n: usize, none: T, to: &mut [T])
     ensures { to.new ≡ filled none (length to.old) (take n from.now) }
 {
